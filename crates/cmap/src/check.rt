@@ -298,13 +298,13 @@ fn push_accepted(
     if json {
         return push_accepted_json(alloc, lines, path);
     }
-    push_path(lines, path)?;
+    escape::push_text(lines, path)?;
     lines.push_str(": ok\n")
 }
 
 fn push_accepted_json(alloc: Global, line: &mut String, path: &str) -> Result<(), AllocError> {
     let mut object = Object::new(alloc);
-    object.set_path("file", path);
+    object.set_text("file", path);
     object.set("ok", Value::from(true));
     json::push_line(alloc, line, &object.finish()?)
 }

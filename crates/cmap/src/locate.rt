@@ -4,9 +4,9 @@ use crate::command_line::files_of;
 use crate::command_line::flags::JSON;
 use crate::options::Sources;
 use clap::ArgMatches;
+use cmap_escape::escape::push_text;
 use cmap_escape::json;
 use cmap_escape::object::Object;
-use cmap_escape::path::push_path;
 use cmap_sources::bases::Bases;
 use cmap_sources::failure::{Failure, report};
 use cmap_sources::folders::is_file;
@@ -70,7 +70,7 @@ fn print_path(rt: &HostRuntime, argument: &str, path: &str, json: bool) -> Resul
     if json {
         push_json(rt.alloc(), &mut line, argument, path)?;
     } else {
-        push_path(&mut line, path)?;
+        push_text(&mut line, path)?;
     }
     rt.println(line.as_str())?;
     Ok(())
@@ -83,7 +83,7 @@ fn push_json(
     path: &str,
 ) -> Result<(), AllocError> {
     let mut object = Object::new(alloc);
-    object.set_path("file", argument);
-    object.set_path("path", path);
+    object.set_text("file", argument);
+    object.set_text("path", path);
     json::push_value(alloc, line, &object.finish()?)
 }

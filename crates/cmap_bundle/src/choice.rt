@@ -3,8 +3,7 @@
 use crate::candidates::{Candidate, is_known};
 use cmap_binary::is_marked_binary;
 use cmap_escape::count::Count;
-use cmap_escape::escape::push_name;
-use cmap_escape::path::push_path;
+use cmap_escape::escape::{push_name, push_text};
 use cmap_sources::failure::Failure;
 use cmap_sources::fault_line::LineCounter;
 use cmap_sources::refused::stop_line;
@@ -121,7 +120,7 @@ impl<'c> Choice<'c> {
         reason: &str,
     ) -> Result<(), Failure> {
         let mut line = String::new(rt.alloc());
-        push_path(&mut line, candidate.path.as_str())?;
+        push_text(&mut line, candidate.path.as_str())?;
         eprintln!(rt; "cmap: {line}: left out: {reason}")?;
         self.left_out.add_one();
         Ok(())
@@ -158,5 +157,5 @@ fn push_already(reason: &mut String, name: &[u8], path: &str) -> Result<(), Allo
     reason.push_str("the bundle has ")?;
     push_name(reason, name)?;
     reason.push_str(" already, of ")?;
-    push_path(reason, path)
+    push_text(reason, path)
 }

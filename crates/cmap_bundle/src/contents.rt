@@ -122,7 +122,7 @@ fn push_json(
 ) -> Result<(), AllocError> {
     let mut object = Object::new(alloc);
     object.set("absent", Value::from(absent_of(files)));
-    object.set_path("file", path);
+    object.set_text("file", path);
     object.set_list("files", held_objects(alloc, files));
     push_line(alloc, out, &object.finish()?)
 }

@@ -2,7 +2,7 @@
 
 use crate::choice::Chosen;
 use crate::obstacle::push_obstacle;
-use cmap_escape::path::push_path;
+use cmap_escape::escape::push_text;
 use cmap_maker::{Source, Unwritable, make_named_bundle};
 use cmap_sources::failure::Failure;
 use cmap_values::fault::Fault;
@@ -45,7 +45,7 @@ fn line_of(
     if let Some(index) = unwritable.index
         && let Some(chosen) = files.get(index)
     {
-        push_path(&mut line, chosen.candidate.path.as_str())?;
+        push_text(&mut line, chosen.candidate.path.as_str())?;
         line.push_str(": ")?;
     }
     push_obstacle(&mut line, unwritable.obstacle)?;

@@ -1,8 +1,7 @@
 //! The last line of `cmap bundle`.
 
 use crate::contents::{Held, absent_of, contents_of};
-use cmap_escape::escape::push_name;
-use cmap_escape::path::push_path;
+use cmap_escape::escape::{push_name, push_text};
 use hayro_cmap::Bundle;
 use std::alloc::{AllocError, Global};
 
@@ -15,7 +14,7 @@ pub fn push_summary(
     bytes: &[u8],
     passed_over: usize,
 ) -> Result<(), AllocError> {
-    push_path(out, path)?;
+    push_text(out, path)?;
     match Bundle::parse(alloc, bytes)? {
         Some(bundle) => push_numbers(alloc, out, &bundle, bytes.len(), passed_over),
         None => out.push_str(": invalid bundle"),

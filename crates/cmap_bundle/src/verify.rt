@@ -2,7 +2,7 @@
 
 use crate::choice::Chosen;
 use crate::difference::{Difference, push_difference};
-use cmap_escape::path::push_path;
+use cmap_escape::escape::push_text;
 use cmap_queries::code_lengths::{LENGTHS, last_code};
 use cmap_unicode::declared_cid;
 use hayro_cmap::runs::{HasRange, Looks, Range, Table};
@@ -52,7 +52,7 @@ fn line_of(
     difference: Difference,
 ) -> Result<String, AllocError> {
     let mut line = String::new(alloc);
-    push_path(&mut line, chosen.candidate.path.as_str())?;
+    push_text(&mut line, chosen.candidate.path.as_str())?;
     line.push_str(": ")?;
     push_difference(&mut line, difference)?;
     Ok(line)

@@ -1,4 +1,3 @@
 pub mod Escapes
 pub mod Json
-pub mod Paths
 pub mod Shown

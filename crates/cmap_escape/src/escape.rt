@@ -91,7 +91,7 @@ pub fn push_quoted(out: &mut String, text: &str) -> Result<(), AllocError>
 }
 
 /// Adds a character of a text.
-pub(crate) fn push_character(out: &mut String, character: char) -> Result<(), AllocError>
+fn push_character(out: &mut String, character: char) -> Result<(), AllocError>
     ensures shown { OnOk result (string_bytes out.new
         ≡ string_bytes out.old ++ character_shown character) }
     ensures harmless { AddsShown (string_bytes out.old) (string_bytes out.new) }

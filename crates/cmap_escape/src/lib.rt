@@ -6,4 +6,3 @@ pub mod digits;
 pub mod escape;
 pub mod json;
 pub mod object;
-pub mod path;

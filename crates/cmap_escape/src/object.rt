@@ -1,7 +1,5 @@
 //! Objects of JSON, made member by member.
 
-use crate::digits::byte_digits;
-use crate::path::{bytes_of_path, escaped_path, is_plain};
 use serde_json::{Map, Value, put};
 use std::alloc::{AllocError, Global};
 
@@ -51,19 +49,6 @@ impl Object {
         }
     }
 
-    /// Sets a member to a path. One that isn't plain is escaped, and has its bytes in a second member.
-    pub fn set_path(&mut self, key: &str, path: &str) {
-        if is_plain(path) {
-            return self.set_text(key, path);
-        }
-        self.set_string(key, escaped_path(self.alloc, path));
-        let digits = digits_of_path(self.alloc, path);
-        match format!(in self.alloc; "{key}_bytes") {
-            Ok(key) => self.set_string(key.as_str(), digits),
-            Err(AllocError) => self.is_whole = false,
-        }
-    }
-
     /// Sets a member to a list, for which memory may have run out.
     pub fn set_list(&mut self, key: &str, list: Result<Vec<Value>, AllocError>) {
         match list {
@@ -80,9 +65,4 @@ impl Object {
             Err(AllocError)
         }
     }
-}
-
-/// The bytes of a path in hexadecimal digits.
-fn digits_of_path(alloc: Global, path: &str) -> Result<String, AllocError> {
-    byte_digits(alloc, &bytes_of_path(alloc, path)?)
 }

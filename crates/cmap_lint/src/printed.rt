@@ -7,7 +7,6 @@ use crate::finding::{Finding, Place};
 use crate::warning::Warning;
 use cmap_escape::digits::{byte_digits, code_digits, push_code};
 use cmap_escape::object::Object;
-use cmap_escape::path::push_path;
 use cmap_escape::{escape, json};
 use cmap_queries::code_lengths::printed_len;
 use hayro_cmap::runs::Range;
@@ -16,7 +15,7 @@ use std::alloc::{AllocError, Global};
 
 /// Adds a warning about a file, as `FILE: warning: overlap: 25 codes, first <8140>`, and ends the line.
 pub fn push_finding(out: &mut String, file: &str, finding: &Finding<'_>) -> Result<(), AllocError> {
-    push_path(out, file)?;
+    escape::push_text(out, file)?;
     write!(out, ": warning: {}: ", finding.warning.name())?;
     push_detail(out, finding)?;
     out.push('\n')
@@ -107,7 +106,7 @@ pub fn push_json(
 
 fn finding_object(alloc: Global, file: &str, finding: &Finding<'_>) -> Result<Value, AllocError> {
     let mut object = Object::new(alloc);
-    object.set_path("file", file);
+    object.set_text("file", file);
     object.set_text("warning", finding.warning.name());
     object.set("count", Value::from(finding.count));
     set_place(alloc, &mut object, finding.first);

@@ -5,7 +5,6 @@ ghost use Rattle.cmap_escape.specs.Escapes.{AddsLine, AddsOfLine};
 
 use cmap_escape::digits::{code_digits, push_code};
 use cmap_escape::object::Object;
-use cmap_escape::path::push_path;
 use cmap_escape::{escape, json};
 use cmap_queries::code_lengths::LENGTHS;
 use hayro_cmap::{
@@ -40,7 +39,7 @@ fn names_at<T>(uses: &[Vec<T>], index: usize) -> &[T] {
 /// Adds the file's path over its own layer, which is layer 1, and the number of any other over that.
 fn push_heading(out: &mut String, file: &str, layer: usize) -> Result<(), AllocError> {
     if layer == 1 {
-        push_path(out, file)?;
+        escape::push_text(out, file)?;
         out.push('\n')
     } else {
         writeln!(out, "layer {layer}")
@@ -197,7 +196,7 @@ fn file_object(
     uses: &[Vec<&[u8]>],
 ) -> Result<Value, AllocError> {
     let mut object = Object::new(alloc);
-    object.set_path("file", file);
+    object.set_text("file", file);
     object.set_list("layers", layer_objects(alloc, map, uses));
     object.finish()
 }

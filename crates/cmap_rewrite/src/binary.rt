@@ -1,7 +1,7 @@
 //! A file in the binary form, by the tables of a bundle.
 
 use cmap_bundle::obstacle::push_obstacle;
-use cmap_escape::path::push_path;
+use cmap_escape::escape::push_text;
 use cmap_packed::Bundle;
 use cmap_sources::failure::{Failure, fault};
 use cmap_values::fault::Fault;
@@ -39,7 +39,7 @@ pub(crate) fn binary_of(
 /// Why the binary form can't say what a file says.
 fn obstacle_line(alloc: Global, path: &str, obstacle: Obstacle) -> Result<String, AllocError> {
     let mut line = String::new(alloc);
-    push_path(&mut line, path)?;
+    push_text(&mut line, path)?;
     line.push_str(": the binary form can't say ")?;
     push_obstacle(&mut line, obstacle)?;
     Ok(line)

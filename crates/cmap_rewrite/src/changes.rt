@@ -2,7 +2,7 @@
 //! the fewest declarations.
 
 use cmap_escape::digits::push_code;
-use cmap_escape::path::push_path;
+use cmap_escape::escape::push_text;
 use cmap_flatten::{Codes, Contradiction, flatten, subset};
 use cmap_queries::code_lengths::LENGTHS;
 use cmap_runs::runs::{HasRange, Looks, Range, Table};
@@ -139,7 +139,7 @@ fn rows_in(range: &Range) -> u64 {
 /// That a file has too many codes.
 fn large_line(alloc: Global, path: &str) -> Result<String, AllocError> {
     let mut line = String::new(alloc);
-    push_path(&mut line, path)?;
+    push_text(&mut line, path)?;
     line.push_str(": its ranges have codes of more than 1048576 rows")?;
     Ok(line)
 }
@@ -151,7 +151,7 @@ fn contradiction_line(
     contradiction: Contradiction,
 ) -> Result<String, AllocError> {
     let mut line = String::new(alloc);
-    push_path(&mut line, path)?;
+    push_text(&mut line, path)?;
     line.push_str(": no one file gives the code <")?;
     push_code(&mut line, contradiction.len.count(), contradiction.code)?;
     line.push_str("> the CID and the text that its layers give it")?;

@@ -3,7 +3,7 @@
 use crate::binary::binary_of;
 use crate::changes::{one_file, tidied};
 use crate::obstacle::push_obstacle;
-use cmap_escape::path::push_path;
+use cmap_escape::escape::push_text;
 use cmap_sources::alone::file_of;
 use cmap_sources::bases::Bases;
 use cmap_sources::beside::Beside;
@@ -138,7 +138,7 @@ pub(crate) fn text_of(
 /// Why no text says what a file says.
 fn obstacle_line(alloc: Global, path: &str, obstacle: Obstacle) -> Result<String, AllocError> {
     let mut line = String::new(alloc);
-    push_path(&mut line, path)?;
+    push_text(&mut line, path)?;
     line.push_str(": ")?;
     push_obstacle(&mut line, obstacle)?;
     Ok(line)

@@ -1,7 +1,7 @@
-//! The arguments of the program. One that isn't UTF-8 is a text as a path is.
+//! The arguments of the program, which needn't be UTF-8.
 
 use crate::failure::Failure;
-use cmap_escape::path::path_text;
+use crate::path_text::path_text;
 use std::alloc::{AllocError, Global};
 use std::env::{Env, FillError};
 

@@ -9,7 +9,6 @@ use crate::folders::{files_in, is_folder, name_of, why_no_folder};
 use crate::inputs::{read, report_unreadable, unreadable};
 use crate::search::Search;
 use crate::status::{ACCEPTED, FAILED};
-use cmap_escape::path::is_plain;
 use hayro_cmap::{Bundle, BundleFiles, CMap, NamedFile, NamedFiles, Source, identity_text};
 use std::alloc::{AllocError, Global};
 use std::collections::BTreeMap;
@@ -130,10 +129,10 @@ impl<'b> Bases<'b> {
         Ok(())
     }
 
-    /// Adds the path of a file, unless an earlier one has its name. A file whose name isn't UTF-8 isn't used by it.
+    /// Adds the path of a file, unless an earlier one has its name.
     fn add_path(&mut self, alloc: Global, path: &str) -> Result<(), AllocError> {
         let name = name_of(path);
-        if is_plain(name) && self.paths.get(name).is_none() {
+        if self.paths.get(name).is_none() {
             let path = String::from_str(alloc, path)?;
             self.paths.insert(String::from_str(alloc, name)?, path)?;
         }

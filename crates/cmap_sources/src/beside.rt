@@ -1,8 +1,8 @@
 //! A file that is written beside another one and then takes its place, so that a path always has a whole file.
 
-use crate::failure::{Failure, fault};
+use crate::failure::Failure;
 use crate::inputs::failed_at;
-use cmap_escape::path::is_plain;
+use crate::path_text::is_plain;
 use std::fs::{self, File, OpenOptions};
 use std::io::{self, ErrorKind, Write};
 
@@ -60,7 +60,8 @@ impl Beside {
 /// A new file beside that of a path.
 fn create_beside(rt: &HostRuntime, target: &str) -> Result<(String, File), Failure> {
     if !is_plain(target) {
-        return Err(fault(rt, target, "can't be written: its path isn't UTF-8"));
+        let error = io::Error::from(ErrorKind::InvalidFilename);
+        return Err(unwritable(rt, target, &error));
     }
     for number in 0..MOST_TRIES {
         let path = format!(in rt.alloc(); "{target}.new-{number}")?;

@@ -1,8 +1,8 @@
 //! Messages on the standard error, and why a run ends early. Arguments and paths are untrusted, so they
 //! are escaped.
 
+use crate::path_text::push_path;
 use crate::status::{FAILED, READER_GONE, REFUSED};
-use cmap_escape::path::push_path;
 use std::alloc::{AllocError, AllocFailed, Global};
 use std::io::{self, ErrorKind};
 

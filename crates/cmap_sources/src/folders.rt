@@ -1,10 +1,11 @@
 //! The files in folders.
 
-use crate::failure::Failure;
+use crate::failure::{Failure, fault, report};
 use crate::inputs::{readable, report_unreadable};
-use crate::system::{Kind, is_real_folder, kind_of, paths_in};
+use crate::path_text::is_plain;
 use cmap_escape::count::Count;
 use std::alloc::{AllocError, Global};
+use std::fs::{self, DirEntry, read_dir};
 use std::io::{self, ErrorKind};
 
 /// The most folders that are read. The loop over folders ends because each is read once and links aren't followed, but
@@ -16,8 +17,10 @@ const MOST_FOLDERS: u32 = u32::MAX;
 pub struct Found {
     /// The paths of the files, in the order of their bytes.
     pub files: Vec<String>,
-    /// How many folders can't be read.
+    /// How many folders, and files whose names aren't UTF-8, can't be read.
     pub unreadable: Count,
+    /// How many names of the folder that is being read aren't UTF-8. The standard library doesn't give them.
+    unnamed: Count,
     /// The folders that aren't read yet.
     waiting: Vec<String>,
 }
@@ -46,6 +49,22 @@ pub fn why_no_folder(rt: &HostRuntime, path: &str) -> io::Error {
         Ok(_) => io::Error::from(ErrorKind::NotADirectory),
         Err(error) => error,
     }
+}
+
+/// What has a path.
+#[derive(Clone, Copy)]
+enum Kind {
+    File,
+    Folder,
+}
+
+/// What has this path. Links are followed.
+fn kind_of(rt: &HostRuntime, path: &str) -> io::Result<Kind> {
+    if !is_plain(path) {
+        return Err(io::Error::from(ErrorKind::InvalidFilename));
+    }
+    let is_folder = fs::metadata(rt, path)?.is_dir();
+    Ok(if is_folder { Kind::Folder } else { Kind::File })
 }
 
 /// The files in a folder and its subfolders, but for hidden files and folders. A link to a file counts
@@ -77,6 +96,7 @@ impl Found {
         Found {
             files: Vec::new(alloc),
             unreadable: Count::of(0),
+            unnamed: Count::of(0),
             waiting: Vec::new(alloc),
         }
     }
@@ -95,27 +115,42 @@ impl Found {
 
     /// Adds what lies in a folder, or reports that it can't be read.
     fn add_folder(&mut self, rt: &HostRuntime, folder: &str) -> Result<(), Failure> {
+        self.unnamed = Count::of(0);
         if let Err(error) = readable(self.add_entries(rt, folder))? {
             report_unreadable(rt, folder, &error)?;
             self.unreadable.add_one();
+        }
+        self.report_unnamed(rt, folder)
+    }
+
+    /// Reports that names in a folder aren't UTF-8.
+    fn report_unnamed(&mut self, rt: &HostRuntime, folder: &str) -> Result<(), Failure> {
+        if self.unnamed.get() > 0 {
+            let wrong = "can't be read as a whole: it has names that aren't UTF-8";
+            report(rt, &fault(rt, folder, wrong))?;
+            self.unreadable.add(self.unnamed.get());
         }
         Ok(())
     }
 
     fn add_entries(&mut self, rt: &HostRuntime, folder: &str) -> io::Result<()> {
-        for path in &paths_in(rt, folder)? {
-            self.add(rt, path.as_str())?;
+        for entry in read_dir(rt, folder)? {
+            match entry {
+                Ok(entry) => self.add(rt, &entry)?,
+                Err(error) if error.kind() == ErrorKind::InvalidFilename => self.unnamed.add_one(),
+                Err(error) => return Err(error),
+            }
         }
         Ok(())
     }
 
-    /// Adds what has a path in a folder, unless it is hidden.
-    fn add(&mut self, rt: &HostRuntime, path: &str) -> io::Result<()> {
-        if name_of(path).starts_with('.') {
+    /// Adds an entry of a folder, unless it is hidden.
+    fn add(&mut self, rt: &HostRuntime, entry: &DirEntry) -> io::Result<()> {
+        if entry.file_name().starts_with('.') {
             return Ok(());
         }
-        let is_waiting = is_real_folder(rt, path)?;
-        Ok(self.add_path(rt, path, is_waiting)?)
+        let is_folder = entry.file_type()?.is_dir();
+        Ok(self.add_path(rt, entry.path().as_str(), is_folder)?)
     }
 
     /// Adds a file, or a folder that isn't read yet. A link to a folder isn't followed.

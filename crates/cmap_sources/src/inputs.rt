@@ -5,11 +5,11 @@ use crate::failure::{Failure, fault, report};
 use crate::file_bytes::FileBytes;
 use crate::folders::{is_file, why_no_file};
 use crate::format::report_format;
+use crate::path_text::{is_plain, push_path};
 use crate::reading::{Input, Manner, read_over};
-use crate::system::read_file;
-use cmap_escape::path::push_path;
 use hayro_cmap::{CMap, Fault, identity_text};
 use std::alloc::{AllocError, Global};
+use std::fs;
 use std::io::{self, ErrorKind, Read};
 
 /// The argument that stands for the standard input.
@@ -29,6 +29,14 @@ pub fn read(rt: &HostRuntime, path: &str) -> Result<io::Result<Vec<u8>>, Failure
         readable(read_standard_input(rt))
     } else {
         readable(read_file(rt, path))
+    }
+}
+
+fn read_file(rt: &HostRuntime, path: &str) -> io::Result<Vec<u8>> {
+    if is_plain(path) {
+        fs::read(rt, path)
+    } else {
+        Err(io::Error::from(ErrorKind::InvalidFilename))
     }
 }
 
@@ -64,12 +72,15 @@ fn line_of(alloc: Global, path: &str, what: &str, error: &io::Error) -> Result<S
     let reason = format!(in alloc; "{error}")?;
     let mut line = String::new(alloc);
     push_path(&mut line, path)?;
-    write!(line, ": {what}: {}", without_number(reason.as_str()))?;
+    write!(line, ": {what}: {}", words_of(path, reason.as_str()))?;
     Ok(line)
 }
 
-/// The words of a reason without the number of the error.
-fn without_number(reason: &str) -> &str {
+/// The words of the reason why a path can't be opened, without the number of the error.
+fn words_of<'r>(path: &str, reason: &'r str) -> &'r str {
+    if !is_plain(path) {
+        return "its path isn't UTF-8";
+    }
     match reason.split_once(" (os error ") {
         Some((words, _number)) => words,
         None => reason,

@@ -3,8 +3,8 @@
 use crate::failure::{Failure, fault, report};
 use crate::folders::{files_in, is_folder};
 use crate::inputs::{STANDARD_INPUT, needed};
+use crate::path_text::path_text;
 use cmap_escape::count::Count;
-use cmap_escape::path::path_text;
 
 /// A file that lists paths.
 #[derive(Clone, Copy)]

@@ -2,10 +2,9 @@
 
 use crate::fault_line::LineCounter;
 use cmap_binary::is_marked_binary;
-use cmap_escape::escape::{escaped_names, push_name};
+use cmap_escape::escape::{escaped_names, push_name, push_text};
 use cmap_escape::json::push_value;
 use cmap_escape::object::Object;
-use cmap_escape::path::push_path;
 use hayro_cmap::token::Scanner;
 use hayro_cmap::{Bundle, Cause, NamedFile, NamedFiles, Reason, Refusal, Stop};
 use serde_json::Value;
@@ -107,7 +106,7 @@ pub fn push_refusal_line<'n, N: NamedFile>(
     refusal: &Refusal<'n>,
     lines: &mut LineCounter<'n>,
 ) -> Result<(), AllocError> {
-    push_path(out, path)?;
+    push_text(out, path)?;
     out.push_str(": ")?;
     push_refusal(out, bytes, files, refusal, lines)
 }
@@ -174,7 +173,7 @@ fn refusal_object(
         None => (None, None),
     };
     let mut object = Object::new(alloc);
-    object.set_path("file", path);
+    object.set_text("file", path);
     object.set("ok", Value::from(false));
     object.set_list("in", escaped_names(alloc, &refusal.names));
     object.set("byte", Value::from(byte));

@@ -3,7 +3,6 @@
 use crate::failure::{Failure, fault};
 use crate::file_names::file_name;
 use crate::folders::{add_with_subfolders, is_file};
-use cmap_escape::path::path_text;
 use std::alloc::{AllocError, Global};
 use std::collections::BTreeSet;
 use std::env::{self, VarError};
@@ -58,8 +57,8 @@ impl Search {
     fn add_listed(&mut self, alloc: Global, folders: &str) -> Result<(), AllocError> {
         for folder in env::split_paths(folders) {
             if !folder.as_str().is_empty() {
-                let folder = path_text(alloc, folder.as_str().as_bytes())?;
-                self.folders.push(folder)?;
+                self.folders
+                    .push(String::from_str(alloc, folder.as_str())?)?;
             }
         }
         Ok(())
@@ -99,7 +98,6 @@ impl Search {
     }
 
     fn find_file(&self, rt: &HostRuntime, name: &str) -> Result<Option<String>, Failure> {
-        let name = path_text(rt.alloc(), name.as_bytes())?;
         for folder in &self.folders {
             let path = format!(in rt.alloc(); "{folder}/{name}")?;
             if is_file(rt, path.as_str()) {
