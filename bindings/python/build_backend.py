@@ -29,6 +29,9 @@ Version: {VERSION}
 Summary: CMap files: which CID a character code stands for, and which Unicode text
 License: MIT OR Apache-2.0
 Requires-Python: >=3.8
+Provides-Extra: pdf
+Requires-Dist: pikepdf >= 6; extra == "pdf"
+Requires-Dist: fonttools; extra == "pdf"
 Classifier: Operating System :: POSIX :: Linux
 Classifier: Programming Language :: Python :: 3
 Classifier: Typing :: Typed
@@ -44,7 +47,7 @@ def metadata():
 def sources():
     """The files of the package, but the library."""
     folder = HERE / PACKAGE
-    return [path for path in sorted(folder.iterdir()) if path.suffix == ".py" or path.name == "py.typed"]
+    return [*sorted(folder.rglob("*.py")), folder / "py.typed"]
 
 
 def library():
@@ -57,7 +60,7 @@ def library():
 def wheel_files(tag, shared):
     """The names and the bytes of what a wheel has, but for the list of them."""
     about = f"{PACKAGE}-{VERSION}.dist-info"
-    files = {f"{PACKAGE}/{path.name}": path.read_bytes() for path in sources()}
+    files = {str(path.relative_to(HERE)): path.read_bytes() for path in sources()}
     if shared:
         files[f"{PACKAGE}/{LIBRARY}"] = shared.read_bytes()
     files[f"{about}/METADATA"] = metadata()
@@ -108,8 +111,8 @@ def build_sdist(sdist_directory, config_settings=None):
     root = f"{PACKAGE}-{VERSION}"
     here = ["pyproject.toml", "build_backend.py", "README.md"]
     files = {name: (HERE / name).read_bytes() for name in here}
-    files.update({f"{PACKAGE}/{path.name}": path.read_bytes() for path in sources()})
-    files.update({f"tests/{path.name}": path.read_bytes() for path in sorted((HERE / "tests").glob("*.py"))})
+    tests = [path for folder in ["tests", "pdf_tests"] for path in sorted((HERE / folder).glob("*.py"))]
+    files.update({str(path.relative_to(HERE)): path.read_bytes() for path in [*sources(), *tests]})
     files.update({name: (TOP / name).read_bytes() for name in ["VERSION", *LICENCES]})
     files["PKG-INFO"] = metadata()
     with tarfile.open(Path(sdist_directory, f"{root}.tar.gz"), "w:gz") as archive:

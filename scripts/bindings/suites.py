@@ -118,9 +118,18 @@ def test_rust_finds_the_library(checks, setting):
     checks.holds("cargo build without a library", ran.status != 0 and "scripts/c-library PREFIX" in ran.err, ran)
 
 
+@functools.cache
+def python_with_pikepdf():
+    """A Python that has pikepdf: this one, else Debian's; or None."""
+    for python in dict.fromkeys([sys.executable, "/usr/bin/python3"]):
+        if is_there(python) and run(python, "-c", "import pikepdf").status == 0:
+            return python
+    return None
+
+
 def check_unittest(checks, where, folder, environment):
     """Runs the tests of the package in a folder."""
-    ran = run(Package.python, "-m", "unittest", folder=folder, **environment)
+    ran = run(Package.python, "-m", "unittest", "discover", "-s", "tests", "-t", ".", folder=folder, **environment)
     found = re.search(r"^Ran ([1-9]\d*) tests", ran.err, re.M)
     is_whole = not (has_debian_files() and is_there("pdftotext")) or "skipped" not in ran.err
     checks.holds(f"unittest, {where}", ran.status == 0 and is_whole and found, ran)
@@ -139,3 +148,18 @@ def test_python_suite_installed(checks, setting):
     folder.mkdir()
     (folder / "tests").symlink_to(PACKAGE / "tests")
     check_unittest(checks, "as pip installs it", folder, setting.package.installed())
+
+
+def test_python_pdf_suite(checks, setting):
+    """The tests over PDF files, where a Python has pikepdf. Those for which something else is missing are counted."""
+    python = python_with_pikepdf()
+    if python is None:
+        print("skipped: the tests over PDF files, for lack of pikepdf (Debian's python3-pikepdf)", flush=True)
+        return
+    environment = {**setting.package.over_library(), "PYTHONPATH": str(PACKAGE), "PYTHONDONTWRITEBYTECODE": "1"}
+    ran = run(python, "-m", "unittest", folder=PACKAGE / "pdf_tests", **environment)
+    found = re.search(r"^Ran ([1-9]\d*) tests", ran.err, re.M)
+    checks.holds("unittest, over PDF files", ran.status == 0 and found, ran)
+    skipped = re.search(r"skipped=(\d+)", ran.err)
+    rest = f", {skipped[1]} of them skipped" if skipped else ""
+    print(f"unittest, over PDF files: {found[1] if found else 'no'} tests{rest}", flush=True)

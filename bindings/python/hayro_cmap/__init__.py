@@ -13,6 +13,7 @@ environment variable HAYRO_CMAP_LIBRARY, else the file in this package's folder,
 """
 
 from ._bundle import Bundle
+from ._effective import TextRun
 from ._extractor import Character, Extractor
 from ._faults import Cause, NotABundle, NotWritable, Reason, Refused, Segment
 from ._folder import folder
@@ -42,6 +43,7 @@ __all__ = [
     "Salvaged",
     "Segment",
     "TextRange",
+    "TextRun",
     "WritingMode",
     "folder",
     "predefined",

@@ -1,8 +1,11 @@
 """The texts of strings."""
 
 import contextlib
-from ctypes import create_string_buffer
-from typing import List, NamedTuple, Optional
+import functools
+import itertools
+import struct
+from ctypes import create_string_buffer, string_at
+from typing import Iterable, List, NamedTuple, Optional
 
 from ._library import NO_ROOM, CharacterInString, Extracted, Handle
 from ._map import CMap, Code
@@ -10,7 +13,10 @@ from ._owned import checked, library
 from ._values import Buffer, bytes_of
 
 
-#: The file of a map whose codes are bytes.
+#: A hayro_cmap_character: its fields have no gaps between them.
+CHARACTER = struct.Struct("@IIBBBBINN")
+
+#: The encoding of a simple font, whose codes are single bytes (ISO 32000-1, 9.6).
 SINGLE_BYTES = b"1 begincodespacerange <00> <FF> endcodespacerange"
 
 
@@ -26,16 +32,15 @@ class Character(NamedTuple):
 class Extractor:
     """The maps of a font, by which the texts of its strings are found (ISO 32000-1, 9.10.2).
 
-    `encoding` is the font's CMap, or None of a simple font, whose codes are bytes. `to_unicode` is its ToUnicode CMap,
-    and `collection` a map from the CIDs of its character collection to Unicode, as Adobe-Japan1-UCS2: `collection()` of
-    the encoding finds it. The maps are shared, so that they may be closed or used elsewhere; they
+    `encoding` is the font's CMap, `to_unicode` its ToUnicode CMap, and `collection` a map from the CIDs of its character
+    collection to Unicode, as Adobe-Japan1-UCS2: `collection()` of the encoding finds it. A simple font has no CMap, and
+    codes of one byte: of it `encoding` is None. The maps are shared, so that they may be closed or used elsewhere; they
     are freed by `close`, by `with`, or with the last reference. Several threads may use one extractor, one at a time.
     """
 
     def __init__(self, encoding: Optional[CMap], to_unicode: Optional[CMap] = None, collection: Optional[CMap] = None):
-        first = CMap.parse(SINGLE_BYTES) if encoding is None else encoding.share()
-        others = [CMap(Handle()) if cmap is None else cmap.share() for cmap in (to_unicode, collection)]
-        self._maps = [first, *others]
+        maps = [CMap.parse(SINGLE_BYTES) if encoding is None else encoding, to_unicode, collection]
+        self._maps = [CMap(Handle()) if cmap is None else cmap.share() for cmap in maps]
 
     def characters(self, string: Buffer) -> List[Character]:
         """The codes of a string, one after another, each with its CID and its text.
@@ -52,7 +57,7 @@ class Extractor:
                 extracted = Extracted()
                 arguments = [string, len(string), room, len(room), text, len(text), extracted]
                 status = checked(library.hayro_cmap_extract(*handles, *arguments))
-                found += [_character(it, text) for it in room[: extracted.made]]
+                found += characters_in(string_at(room, extracted.made * CHARACTER.size), text.raw)
                 string = string[extracted.taken :]
                 if status == NO_ROOM:
                     text = create_string_buffer(2 * len(text))
@@ -61,6 +66,23 @@ class Extractor:
     def text(self, string: Buffer, missing: str = "\N{REPLACEMENT CHARACTER}") -> str:
         """The text of a string, with `missing` for each code that has none."""
         return "".join(missing if it.text is None else it.text for it in self.characters(string))
+
+    def characters_of(self, strings: Iterable[Buffer]) -> List[List[Character]]:
+        """What `characters` gives for each of many strings, which takes less time than to ask for each."""
+        asked, length = [bytes_of(string) for string in strings], self._code_length
+        # where all codes have one length, strings of whole codes may stand one after another
+        together = [length is not None and len(string) % length == 0 for string in asked]
+        joined = iter(self.characters(b"".join(itertools.compress(asked, together))))
+        return [
+            list(itertools.islice(joined, len(string) // length)) if is_joined else self.characters(string)
+            for string, is_joined in zip(asked, together)
+        ]
+
+    @functools.cached_property
+    def _code_length(self):
+        """How many bytes each code has, or None where codes have several lengths."""
+        lengths = {it.byte_len for layer in self._maps[0].layers for it in layer.codespaces} or {1}
+        return lengths.pop() if len(lengths) == 1 else None
 
     def close(self):
         """Frees the maps, unless others share them. Each later use is a ValueError, but for a second `close`."""
@@ -74,10 +96,14 @@ class Extractor:
         self.close()
 
 
-def _character(it, text):
-    """A character whose text stands in this room."""
-    code, start = it.code, it.text_start
-    return Character(
-        Code(code.code, code.byte_len, code.cid if code.has_cid else None, bool(code.in_codespace), bool(code.cut_short)),
-        text[start : start + it.text_len].decode() if it.has_text else None,
-    )
+def characters_in(room: bytes, text: bytes) -> List[Character]:
+    """The characters of a room, whose texts stand in another one."""
+    return [
+        Character(
+            Code(code, byte_len, cid if has_cid else None, bool(in_codespace), bool(cut_short)),
+            text[start : start + text_len].decode() if has_text else None,
+        )
+        for code, cid, byte_len, in_codespace, has_cid, cut_short, has_text, start, text_len in CHARACTER.iter_unpack(
+            room
+        )
+    ]

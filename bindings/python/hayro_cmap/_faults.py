@@ -1,9 +1,10 @@
 """Why a file gives no map."""
 
 import enum
+import re
 from typing import Optional, Tuple
 
-from ._values import shown
+from ._values import Buffer, bytes_of, shown
 
 
 class Cause(enum.IntEnum):
@@ -53,6 +54,13 @@ class Segment(enum.IntEnum):
     COLLECTION = 6
 
 
+#: What is wrong with a binary file as a whole.
+BINARY = {Reason.HEADER, Reason.SEGMENT_LENGTH, Reason.SEGMENT_TYPE}
+
+#: The end of a line of a text.
+LINE_END = re.compile(rb"\r\n?|\n")
+
+
 class Refused(ValueError):
     """A file, or one that it uses, is malformed or missing, or passes a limit. Its text says which and why."""
 
@@ -81,6 +89,21 @@ class Refused(ValueError):
         self.segment = segment
         #: The name by which the first file was opened, if it was.
         self.opened = opened
+
+    @property
+    def words(self) -> str:
+        """What is wrong, without the offset that the message begins with."""
+        start = f"byte {self.offset}: "
+        return self.message[len(start) :] if self.message.startswith(start) else self.message
+
+    def line(self, data: Buffer) -> Optional[int]:
+        """The line of the offset in `data`, the bytes of the file at fault: one more than the line ends before it.
+
+        A line ends with LF, CR or CRLF. None for a binary file, and for one that isn't malformed.
+        """
+        if self.offset is None or self.segment is not None or self.reason in BINARY:
+            return None
+        return 1 + len(LINE_END.findall(bytes_of(data)[: self.offset]))
 
     def __str__(self) -> str:
         at_fault = self.names[-1] if self.names else self.opened

@@ -7,7 +7,9 @@ import struct
 from ctypes import c_int32, c_size_t, c_uint16, c_uint32, string_at
 from typing import Iterable, List, NamedTuple, Optional, Tuple, Union
 
+from . import _based
 from ._bundle import Bundle, held
+from ._effective import TextRun, effective
 from ._faults import Cause, NotWritable, Refused
 from ._library import (
     ABSENT,
@@ -23,7 +25,7 @@ from ._library import (
     Handle,
 )
 from ._owned import Owned, checked, library, put
-from ._predefined import beside
+from ._predefined import Kept, beside
 from ._reading import (
     NO_FILES,
     Files,
@@ -182,12 +184,18 @@ class CMap(Owned):
     _made_by = "CMap.parse, CMap.open or CMap.identity"
     _free = staticmethod(library.hayro_cmap_free)
     _share = staticmethod(library.hayro_cmap_share)
+    _kept = Kept()
 
     uses = staticmethod(uses_of)
 
     @classmethod
     def parse(
-        cls, data: Buffer, files: Files = NO_FILES, bundle: Optional[Bundle] = None, budget: Optional[int] = None
+        cls,
+        data: Buffer,
+        files: Files = NO_FILES,
+        bundle: Optional[Bundle] = None,
+        budget: Optional[int] = None,
+        base: Union["CMap", Buffer, None] = None,
     ) -> "CMap":
         """Reads a CMap file: a text or, with a bundle, also one in binary form.
 
@@ -196,22 +204,36 @@ class CMap(Owned):
         files that are read may have no more bytes than `budget` together, and no callable is asked for more than one
         file past it; the bytes of the bundle don't count.
 
-        Refused where the file, or one that it uses, is malformed, missing or past a limit.
+        `base` is what the file is based on, whatever name it uses, and also where it uses none, as the entry UseCMap of
+        a stream in a PDF file says: a map, or the bytes of a file, which itself may use those of `files`. Its name in
+        a fault is that which the file uses, or UseCMap.
+
+        Refused where the file, or one that it uses, is malformed, missing or past a limit. NotWritable where the base
+        is no one file, as `write` has it.
         """
+        if base is not None:
+            return _based.parsed(cls, data, base, files, bundle, budget)
         data, most = bytes_of(data), budget_of(budget)
         return cls(explained_over(data, files, bundle, most))
 
     @classmethod
     def salvage(
-        cls, data: Buffer, files: Files = NO_FILES, bundle: Optional[Bundle] = None, budget: Optional[int] = None
+        cls,
+        data: Buffer,
+        files: Files = NO_FILES,
+        bundle: Optional[Bundle] = None,
+        budget: Optional[int] = None,
+        base: Union["CMap", Buffer, None] = None,
     ) -> "Salvaged":
         """Reads a CMap file, and those that it uses, past their faults: the map of what they say, and each fault.
 
         The faults of a file come once, however often it is used. Of a file that `parse` reads it gives the same map,
         and no fault; of another one the first fault is one for which it is refused. The parameters are those of
         `parse`; a callable isn't asked for a name that only a file at fault uses, where the bundle has it
-        or it needs no file.
+        or it needs no file. The faults of a `base` come last.
         """
+        if base is not None:
+            return Salvaged(*_based.salvaged(cls, data, base, files, bundle, budget))
         data, most = bytes_of(data), budget_of(budget)
         handle, faults = salvaged_over(data, files, bundle, most)
         return Salvaged(cls(handle), faults)
@@ -227,15 +249,18 @@ class CMap(Owned):
         """Reads the file of a name, as `parse` does: that of `files`, else that of the bundle.
 
         Where neither has one, Identity-H and Identity-V are made, and any other name is Refused. Without `files` the
-        system's predefined CMaps serve for names that the bundle doesn't have, as `predefined` finds them.
+        system's predefined CMaps serve for names that the bundle doesn't have, as `predefined` finds them. With the
+        name alone, the last maps that were read are kept while their files stay as they are.
 
         A path, as a pathlib.Path, stands for its file: OSError where that can't be read.
         """
-        files = beside(bundle) if files is None else files
         if isinstance(name, os.PathLike):
             with open(name, "rb") as opened:
-                return cls.parse(opened.read(), files, bundle, budget)
+                return cls.parse(opened.read(), beside(bundle) if files is None else files, bundle, budget)
         name, most = name_of(name), budget_of(budget)
+        if files is bundle is budget is None:
+            return cls._kept.of(name, lambda files: cls.open(name, files))
+        files = beside(bundle) if files is None else files
         files = functools.lru_cache(maxsize=None)(files) if callable(files) else gathered(files)
         file = files(name) if callable(files) else files.get(name)
         if file is None and bundle is not None:
@@ -346,6 +371,17 @@ class CMap(Owned):
         """The layers, 1 to 16: the file's own, then that of the file that it is based on, and so on."""
         count = self._ask(library.hayro_cmap_layers)
         return [Layer(self, index) for index in range(count)]
+
+    def texts(self, codespaces: Optional[Iterable[Codespace]] = None) -> List[TextRun]:
+        """The texts of all codes that have one, over all layers: what `text` gives, as runs in the order of the codes.
+
+        No two runs have a code in common. A text belongs to the number of a code; how many bytes the code has, say
+        `codespaces`, by default all codespace ranges of the map: as many as in the shortest range that has it, else
+        the fewest that write it, and no fewer than the shortest codes have.
+        """
+        layers = self.layers
+        ranges = [it for layer in layers for it in layer.codespaces] if codespaces is None else list(codespaces)
+        return effective([it for layer in layers for it in reversed(layer.texts)], ranges)
 
     def _put(self, call, *arguments, **options):
         """The bytes that a call on the map puts to a room, or None."""

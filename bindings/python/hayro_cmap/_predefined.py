@@ -1,7 +1,9 @@
 """The predefined CMap files that a system has."""
 
+import collections
 import os
-from typing import Callable, Iterator, List, Optional
+import threading
+from typing import Any, Callable, Dict, Iterator, List, NamedTuple, Optional, Tuple
 
 #: Where poppler-data, Ghostscript and the packages cmap-adobe-* put the files, also in subfolders.
 SYSTEM_FOLDERS = ("/usr/share/poppler/cMap", "/var/lib/ghostscript/CMap", "/usr/share/fonts/cmap")
@@ -14,11 +16,16 @@ def predefined(name: bytes) -> Optional[bytes]:
     variable where packages of Linux put these files. A folder's own file counts before those of its subfolders. A name
     stands for nothing outside of the folders, and for no hidden file. OSError where a file is there and can't be read.
     """
-    for path in places(name):
-        if os.path.isfile(path):
-            with open(path, "rb") as file:
-                return file.read()
-    return None
+    path = path_of(name)
+    if path is None:
+        return None
+    with open(path, "rb") as file:
+        return file.read()
+
+
+def path_of(name: bytes) -> Optional[bytes]:
+    """The path of the predefined CMap file of a name, or None."""
+    return next((path for path in places(name) if os.path.isfile(path)), None)
 
 
 def beside(bundle) -> Callable[[bytes], Optional[bytes]]:
@@ -29,6 +36,54 @@ def beside(bundle) -> Callable[[bytes], Optional[bytes]]:
         return None if in_bundle else predefined(name)
 
     return file_of
+
+
+class Opened(NamedTuple):
+    """A map that was opened by its name, and by which files."""
+
+    cmap: Any
+    #: The path of each name that was asked for, and the time, the length and the number of the file there; or None.
+    stamps: Dict[bytes, Optional[Tuple]]
+
+
+class Kept:
+    """The last maps of predefined CMaps that were opened, each while its files stay as they are."""
+
+    MOST = 32
+
+    def __init__(self):
+        self._opened: "collections.OrderedDict[bytes, Opened]" = collections.OrderedDict()
+        self._lock = threading.Lock()
+
+    def of(self, name: bytes, opened: Callable):
+        """The map of a name: another handle of the one that is kept, else what `opened` gives over the files."""
+        with self._lock:
+            kept = self._opened.get(name)
+        if kept is not None and all(stamp(asked) == found for asked, found in kept.stamps.items()):
+            return kept.cmap.share()
+        stamps: Dict[bytes, Optional[Tuple]] = {}
+
+        def file_of(asked):
+            stamps[asked] = stamp(asked)
+            return predefined(asked)
+
+        cmap = opened(file_of)
+        with self._lock:
+            self._opened[name] = Opened(cmap.share(), stamps)
+            self._opened.move_to_end(name)
+            while len(self._opened) > self.MOST:
+                self._opened.popitem(last=False)
+        return cmap
+
+
+def stamp(name: bytes) -> Optional[Tuple]:
+    """Which file a name stands for, and as of when; None where there is none."""
+    path = path_of(name)
+    try:
+        it = None if path is None else os.stat(path)
+    except OSError:
+        return None
+    return None if it is None else (path, it.st_mtime_ns, it.st_size, it.st_ino)
 
 
 def places(name: bytes) -> Iterator[bytes]:

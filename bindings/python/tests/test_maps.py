@@ -15,6 +15,7 @@ from hayro_cmap import (
     Metadata,
     Refused,
     TextRange,
+    TextRun,
     WritingMode,
 )
 
@@ -51,7 +52,9 @@ class Lookups(unittest.TestCase):
         self.assertIsNone(self.cmap.text(0x42))
 
     def test_long_text(self):
-        with CMap.parse(b"1 begincidchar <00> 1 endcidchar 1 beginbfchar <01> <" + b"65E5" * 500 + b"> endbfchar") as cmap:
+        with CMap.parse(
+            b"1 begincidchar <00> 1 endcidchar 1 beginbfchar <01> <" + b"65E5" * 500 + b"> endbfchar"
+        ) as cmap:
             self.assertEqual(cmap.text(1), "日" * 500)
 
     def test_codes_of_cid(self):
@@ -93,8 +96,9 @@ class Lookups(unittest.TestCase):
             self.assertEqual([font.text(b"AB"), font.text(b"AB", missing="?"), font.text(b"")], ["ff\uFFFD", "ff?", ""])
 
     def test_simple_font(self):
-        """A font without a CMap has codes of one byte."""
-        with CMap.parse(b"beginbfchar <41> <0061> <FF> <0062> endbfchar") as codes:
+        """A font without a CMap has codes of one byte, whatever the ranges of its ToUnicode CMap are."""
+        data = b"begincodespacerange <0000> <FFFF> endcodespacerange beginbfchar <41> <0061> <00FF> <0062> endbfchar"
+        with CMap.parse(data) as codes:
             with Extractor(None, to_unicode=codes) as font:
                 found = font.characters(b"A\xFF\x00")
         self.assertEqual([it.text for it in found], ["a", "b", None])
@@ -132,12 +136,112 @@ class Lookups(unittest.TestCase):
             with Extractor(codes, codes, codes) as font:
                 self.assertEqual(font.characters(b"B")[0], ((0x42, 1, None, False, False), "b"))
 
+    def test_strings_together(self):
+        """Each string is cut by itself: the last byte of one and the first byte of the next are no code."""
+        strings = [b"A\x81", b"\x40B", b"", b"\x81\x40", b"\x81"]
+        with CMap.parse(b"beginbfchar <41> <0061> <8140> <3000> endbfchar") as codes, Extractor(
+            self.cmap, codes
+        ) as font:
+            found = font.characters_of(strings)
+            self.assertEqual(
+                [[bytes(it.code) for it in row] for row in found],
+                [[b"A", b"\x81"], [b"@", b"B"], [], [b"\x81\x40"], [b"\x81"]],
+            )
+            self.assertEqual(
+                [[it.text for it in row] for row in found], [["a", None], [None, None], [], ["\u3000"], [None]]
+            )
+            self.assertEqual(found, [font.characters(string) for string in strings])
+
+    def test_strings_of_codes_of_one_length(self):
+        with CMap.parse(b"beginbfchar <0041> <0061> endbfchar") as codes, CMap.identity() as identity:
+            with Extractor(identity, codes) as font:
+                found = font.characters_of([b"\0A\0", b"\0A\0B", b"A", b"\0A"])
+                self.assertEqual(
+                    [[it.code.code for it in row] for row in found], [[0x41, 0], [0x41, 0x42], [0x41], [0x41]]
+                )
+                self.assertEqual(
+                    [[it.code.cut_short for it in row] for row in found], [[False, True], [False] * 2, [True], [False]]
+                )
+                self.assertEqual([[it.text for it in row] for row in found], [["a", None], ["a", None], ["a"], ["a"]])
+
     def test_identity(self):
         with CMap.identity() as horizontal, CMap.identity(vertical=True) as vertical:
             self.assertEqual(horizontal.cid(0x3042, 2), 0x3042)
             self.assertEqual(vertical.cid(0x3042, 2), 0x3042)
             self.assertEqual(horizontal.metadata.writing_mode, WritingMode.HORIZONTAL)
             self.assertEqual(vertical.metadata.writing_mode, WritingMode.VERTICAL)
+
+
+class EffectiveTexts(unittest.TestCase):
+    """The runs of `texts` are what `text` gives for each code."""
+
+    def texts_of(self, data, codespaces=None, **over):
+        with CMap.parse(data, **over) as cmap:
+            runs = cmap.texts(codespaces)
+            for run in runs:
+                for code in range(run.first, run.last + 1):
+                    counted = run.text[:-1] + chr(ord(run.text[-1]) + code - run.first)
+                    self.assertEqual(cmap.text(code), counted, (run, code))
+            for before, after in zip(runs, runs[1:]):
+                self.assertLess(before.last, after.first)
+            codes = sum(run.last - run.first + 1 for run in runs)
+            last = max((declared.last for layer in cmap.layers for declared in layer.texts), default=0)
+            if last < 0x20000:
+                self.assertEqual(codes, sum(cmap.text(code) is not None for code in range(last + 1)))
+            return runs
+
+    def test_the_last_declaration_counts(self):
+        data = b"1 beginbfrange <10> <1F> <0041> endbfrange 2 beginbfchar <12> <00660069> <1F> <0078> endbfchar"
+        runs = [(0x10, 0x11, "A", 1), (0x12, 0x12, "fi", 1), (0x13, 0x1E, "D", 1), (0x1F, 0x1F, "x", 1)]
+        self.assertEqual(self.texts_of(data), [TextRun(*run) for run in runs])
+
+    def test_layers(self):
+        base = b"1 beginbfrange <10> <13> <0061> endbfrange"
+        runs = self.texts_of(b"/A usecmap 1 beginbfchar <11> <0042> endbfchar", files={"A": base})
+        self.assertEqual([(run.first, run.text) for run in runs], [(0x10, "a"), (0x11, "B"), (0x12, "c")])
+
+    def test_codes_without_a_text(self):
+        """Surrogates alone have none, and hide what is declared before; nor has what counts past FFFF."""
+        data = b"""4 beginbfrange <10> <20> <0061> <12> <13> <D7FF> <15> <16> <D83DDFFF> <30> <33> <FFFE> endbfrange
+            2 beginbfchar <18> <D800> <19> <DC00> endbfchar"""
+        runs = self.texts_of(data)
+        self.assertEqual([run.first for run in runs], [0x10, 0x12, 0x14, 0x15, 0x17, 0x1A, 0x30])
+        self.assertEqual([run.last for run in runs], [0x11, 0x12, 0x14, 0x15, 0x17, 0x20, 0x31])
+
+    def test_counting_over_surrogates(self):
+        runs = self.texts_of(b"1 beginbfrange <0000> <FFFF> <0000> endbfrange")
+        self.assertEqual([(run.first, run.last) for run in runs], [(0, 0xFF), (0x100, 0xD7FF), (0xE000, 0xFFFF)])
+        runs = self.texts_of(b"1 beginbfrange <0000> <FFFF> <D83DDE00> endbfrange")
+        self.assertEqual(
+            [(run.first, run.last, run.text) for run in runs], [(0, 0xFF, "\U0001F600"), (0x100, 0x1FF, "\U0001F700")]
+        )
+
+    def test_lengths(self):
+        """A code has as many bytes as the shortest range that has it; else as many as write it, and no fewer than the
+        shortest codes have."""
+        ranges = b"2 begincodespacerange <00> <80> <8140> <9FFC> endcodespacerange "
+        declared = b"3 beginbfrange <7F> <81> <0061> <813F> <8141> <4E00> <010000> <010001> <5000> endbfrange"
+        runs = [(0x7F, 0x81, 1), (0x813F, 0x8141, 2), (0x10000, 0x10001, 3)]
+        self.assertEqual([(run.first, run.last, run.byte_len) for run in self.texts_of(ranges + declared)], runs)
+        runs = self.texts_of(ranges + declared, [Codespace(0x0000, 0xFFFF, 2)])
+        self.assertEqual([run.byte_len for run in runs], [2, 2, 3])
+        both = [Codespace(0x0000, 0xFFFF, 2), Codespace(0x20, 0x7E, 1)]
+        runs = self.texts_of(b"1 beginbfrange <00> <FF> <0100> endbfrange", both)
+        self.assertEqual(
+            [(run.first, run.last, run.byte_len) for run in runs], [(0, 0x1F, 2), (0x20, 0x7E, 1), (0x7F, 0xFF, 2)]
+        )
+
+    def test_none(self):
+        self.assertEqual(self.texts_of(b""), [])
+        self.assertEqual(self.texts_of(b"2 beginbfrange <20> <10> <0041> <FFFFFFFF> <FFFFFFFF> <D800> endbfrange"), [])
+        self.assertEqual(
+            self.texts_of(b"1 beginbfchar <FFFFFFFF> <0041> endbfchar"), [TextRun(2**32 - 1, 2**32 - 1, "A", 4)]
+        )
+
+    @needs_resources
+    def test_predefined(self):
+        data = predefined("Adobe-Japan1-UCS2")
+        self.assertGreater(len(self.texts_of(data)), 1000)
 
 
 class Values(unittest.TestCase):
@@ -169,9 +273,11 @@ class Values(unittest.TestCase):
             with self.subTest(first=first, count=count):
                 self.assertRaises(ValueError, self.cmap.cids, first, count, 4)
 
-    def test_extractor_without_an_encoding(self):
-        with CMap.parse(SMALL) as cmap:
-            self.assertRaises(ValueError, Extractor, None, cmap)
+    def test_extractor_without_a_map(self):
+        with CMap.parse(b"beginbfchar <41> <0061> endbfchar") as codes:
+            for font in [Extractor(None), Extractor(None, None, codes)]:
+                with font:
+                    self.assertEqual(font.characters(b"A"), [(Code(0x41, 1, None, True, False), None)])
 
     def test_budgets_out_of_range(self):
         for budget in [-1, 2**64, 2**64 + 10**6]:

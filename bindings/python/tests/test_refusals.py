@@ -22,6 +22,17 @@ class Refusals(unittest.TestCase):
         self.assertEqual((fault.cause, fault.reason, fault.offset), (Cause.MALFORMED, Reason.CID_EXPECTED, 27))
         self.assertEqual((fault.names, fault.segment), ((), None))
         self.assertEqual(str(fault), "byte 27: a CID was expected")
+        self.assertEqual((fault.words, fault.line(BROKEN)), ("a CID was expected", 1))
+
+    def test_lines(self):
+        """CR, LF and CRLF end lines; those after the offset don't count."""
+        data = b"% 1\n% 2\r% 3\r\n% 4\n\n% 6\n" + BROKEN + b"\n\n"
+        fault = self.refusal(CMap.parse, data)
+        self.assertEqual((fault.words, fault.line(data)), ("a CID was expected", 7))
+        fault = self.refusal(CMap.parse, uses(b"A"), {"A": data})
+        self.assertEqual((fault.line(data), fault.line(bytearray(data))), (7, 7))
+        fault = self.refusal(CMap.parse, uses(b"Nowhere"))
+        self.assertEqual((fault.line(data), fault.words), (None, fault.message))
 
     def test_below(self):
         fault = self.refusal(CMap.parse, uses(b"A"), {"A": uses(b"B"), "B": BROKEN})
@@ -94,12 +105,15 @@ class Refusals(unittest.TestCase):
         with Bundle.open(BUNDLE) as bundle:
             fault = self.refusal(CMap.parse, BINARY[:17] + BINARY[18:], bundle=bundle)
             self.assertEqual((fault.cause, fault.reason, fault.segment), (Cause.MALFORMED, Reason.HEADER, None))
+            self.assertIsNone(fault.line(BINARY))
             # after the writing mode, codespace ranges without their number, and with it
             for ranges, reason in [("0C 00000005", Reason.FIELD), ("0C 00000006 01", Reason.ENTRY)]:
                 cut = bytes.fromhex("62636D617001 00000000 0B 00000006 01" + ranges)
                 cut = cut[:6] + len(cut).to_bytes(4, "big") + cut[10:]
                 fault = self.refusal(CMap.parse, cut, bundle=bundle)
                 self.assertEqual((fault.reason, fault.segment, fault.offset), (reason, Segment.CODESPACES, 16))
+                self.assertIsNone(fault.line(cut))
+                self.assertFalse(fault.words.startswith("byte"), fault.words)
 
     def test_names_of_any_bytes(self):
         fault = self.refusal(CMap.parse, uses(b"\xff\x1bJ\\"))

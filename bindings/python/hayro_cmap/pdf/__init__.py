@@ -1,0 +1,56 @@
+"""The fonts of PDF files, the codes that their pages show, and the texts of these. It needs pikepdf, which reads them.
+
+    import pikepdf
+    from hayro_cmap import pdf
+
+    with pikepdf.open("F.pdf") as file:
+        for font in pdf.fonts(file):
+            print(font)
+        print(pdf.check(file).summary())
+
+    python3 -m hayro_cmap.pdf check|fonts|text FILE.pdf ..
+    python3 -m hayro_cmap.pdf repair IN.pdf OUT.pdf
+
+A text is that of the font's ToUnicode CMap; else of a composite font that of the CID in the map of its character
+collection, and of a simple font that of the name of the glyph, if fontTools is there (ISO 32000-1, 9.10.2).
+"""
+
+try:
+    import pikepdf  # noqa: F401
+except ImportError as fault:
+    raise ImportError('pikepdf is missing: pip install "hayro-cmap[pdf]", or Debian\'s python3-pikepdf') from fault
+
+from ._check import CMapWarning, FontReport, Report, ShownCode, check
+from ._content import Content, Document, Shown, characters
+from ._fonts import Character, Fault, Font, Read, Source, fonts
+from ._glyphs import HAS_GLYPH_LIST, glyph_names
+from ._many import check_files
+from ._objects import TooLarge, Undecodable
+from ._repair import Repaired, Signed, repair, save
+
+__all__ = [
+    "HAS_GLYPH_LIST",
+    "CMapWarning",
+    "Character",
+    "Content",
+    "Document",
+    "Fault",
+    "Font",
+    "FontReport",
+    "Read",
+    "Repaired",
+    "Report",
+    "Shown",
+    "ShownCode",
+    "Signed",
+    "Source",
+    "TooLarge",
+    "Undecodable",
+    "characters",
+    "check",
+    "check_files",
+    "fonts",
+    "glyph_names",
+    "repair",
+    "save",
+]

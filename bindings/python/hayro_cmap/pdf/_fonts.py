@@ -1,0 +1,415 @@
+"""The fonts of a PDF file, with their CMaps."""
+
+import enum
+import functools
+from typing import Any, Dict, Iterable, Iterator, List, NamedTuple, Optional, Tuple
+
+import pikepdf
+
+from .. import CMap, Code, Extractor, NotWritable, Refused, predefined
+from ._glyphs import glyph_texts
+from ._objects import (
+    MALFORMED,
+    Streams,
+    TooLarge,
+    Undecodable,
+    bytes_of,
+    dictionary_at,
+    name_at,
+    object_number,
+    stream_at,
+    text_of,
+    values,
+)
+
+#: How many fonts a file may have.
+MOST_FONTS = 20_000
+
+#: How many files a chain of CMaps may have.
+MOST_IN_CHAIN = 16
+
+#: How deep the nodes of pages are looked up for resources.
+MOST_NODES = 64
+
+#: The registries and orderings whose CIDs have a text, where the system has the map (ISO 32000-1, 9.10.2).
+COLLECTIONS = {b"Adobe-GB1", b"Adobe-CNS1", b"Adobe-Japan1", b"Adobe-Korea1", b"Adobe-KR"}
+
+#: The encodings by which codes are CIDs.
+IDENTITIES = ("Identity-H", "Identity-V")
+
+
+class Source(enum.Enum):
+    """Where the text of a code comes from."""
+
+    TO_UNICODE = "ToUnicode"
+    COLLECTION = "collection"
+    GLYPH_NAME = "glyph name"
+    NONE = "none"
+
+
+class Character(NamedTuple):
+    """A code that is shown."""
+
+    #: None where no font is chosen, or one that isn't there.
+    font: Optional["Font"]
+    #: The code, with its CID under the encoding of a composite font.
+    code: Code
+    #: Its text, or None.
+    text: Optional[str]
+    source: Source
+
+
+class Fault(NamedTuple):
+    """Why a CMap of a font is refused."""
+
+    #: The key of the CMap, "ToUnicode" or "Encoding".
+    of: str
+    #: The number of the object of its stream; 0 where it is none.
+    number: int
+    #: Where reading stopped, in bytes of the decoded stream, and its line; None where it isn't malformed.
+    offset: Optional[int]
+    line: Optional[int]
+    #: The names of the CMaps by `UseCMap` that lead to the one at fault.
+    names: Tuple[bytes, ...]
+    reason: str
+
+    def __str__(self) -> str:
+        where = "" if self.offset is None else f"byte {self.offset}"
+        where += "" if self.line is None else f" (line {self.line})"
+        below = f", in /{self.names[-1].decode('latin-1')}" if self.names else ""
+        what = f"{self.of} {self.number}" if self.number else self.of
+        return f"{what}: {where}{': ' if where else ''}{self.reason}{below}"
+
+
+class Read(NamedTuple):
+    """What is read of a CMap of a font."""
+
+    #: The map, or None where it has faults, or there is no CMap.
+    strict: Optional[CMap]
+    #: The map of what it says apart from its faults.
+    lenient: Optional[CMap]
+    faults: List[Fault]
+
+
+NOTHING = Read(None, None, [])
+
+
+class Font:
+    """A font of a PDF file. Its CMaps are read when they are first asked for, while the file is open."""
+
+    def __init__(self, dictionary: pikepdf.Dictionary, streams: Optional[Streams] = None):
+        self.dictionary = dictionary
+        self._streams = Streams() if streams is None else streams
+        self._characters: Dict[bool, Dict[Tuple[int, int], Character]] = {False: {}, True: {}}
+        #: The numbers of its object, or None where it is written where it is used.
+        self.objgen: Optional[Tuple[int, int]] = dictionary.objgen if dictionary.is_indirect else None
+        #: "Type0", "Type1", "TrueType" and so on.
+        self.subtype = name_at(dictionary, "/Subtype")
+        self.base_font = name_at(dictionary, "/BaseFont") or name_at(dictionary, "/Name")
+        listed = dictionary.get("/DescendantFonts")
+        below = list(listed)[:1] if isinstance(listed, pikepdf.Array) else []
+        #: The CIDFont of a composite font.
+        self.descendant: Optional[pikepdf.Dictionary] = next(
+            (it for it in below if isinstance(it, pikepdf.Dictionary)), None
+        )
+
+    @property
+    def is_composite(self) -> bool:
+        return self.subtype == "Type0"
+
+    @property
+    def number(self) -> int:
+        """The number of its object; 0 where it has none."""
+        return self.objgen[0] if self.objgen else 0
+
+    @property
+    def encoding_name(self) -> Optional[str]:
+        """The name of the encoding: of a stream the CMapName, of a dictionary the BaseEncoding."""
+        encoding = self.dictionary.get("/Encoding")
+        if isinstance(encoding, pikepdf.Stream):
+            return name_at(encoding, "/CMapName")
+        if isinstance(encoding, pikepdf.Dictionary):
+            return name_at(encoding, "/BaseEncoding")
+        return text_of(encoding) if isinstance(encoding, pikepdf.Name) else None
+
+    @property
+    def encoding_kind(self) -> str:
+        """What the encoding is: "name", "stream", "dictionary" or "none"."""
+        encoding = self.dictionary.get("/Encoding")
+        kinds = [(pikepdf.Stream, "stream"), (pikepdf.Dictionary, "dictionary"), (pikepdf.Name, "name")]
+        return next((name for kind, name in kinds if isinstance(encoding, kind)), "none")
+
+    @functools.cached_property
+    def encoding(self) -> Read:
+        """The CMap of a composite font, over those of `UseCMap`; nothing of a simple one."""
+        encoding = self.dictionary.get("/Encoding")
+        if not self.is_composite:
+            return NOTHING
+        if isinstance(encoding, pikepdf.Stream):
+            return read_stream(encoding, "Encoding", self._streams)
+        if not isinstance(encoding, pikepdf.Name):
+            return Read(None, None, [Fault("Encoding", 0, None, None, (), "it is neither a name nor a stream")])
+        try:
+            cmap = CMap.open(bytes_of(encoding))
+        except Refused as fault:
+            return Read(None, None, [fault_of(fault, "Encoding", 0, b"")])
+        return Read(cmap, cmap, [])
+
+    @functools.cached_property
+    def to_unicode(self) -> Read:
+        """The ToUnicode CMap; nothing where the font has none."""
+        value = self.dictionary.get("/ToUnicode")
+        if isinstance(value, pikepdf.Stream):
+            return read_stream(value, "ToUnicode", self._streams)
+        # a name there stands for no text: writers of PDF give Identity-H
+        is_absent = value is None or isinstance(value, pikepdf.Name)
+        return NOTHING if is_absent else Read(None, None, [Fault("ToUnicode", 0, None, None, (), "it is no stream")])
+
+    @functools.cached_property
+    def collection(self) -> Optional[bytes]:
+        """The character collection of a composite font, as b"Adobe-Japan1" (ISO 32000-1, 9.7.3).
+
+        It is that of a predefined CMap. Under Identity-H, Identity-V or a stream it is that of the CIDFont: the codes
+        are CIDs of that font, while the CMap's own collection is Adobe-Identity.
+        """
+        if not self.is_composite:
+            return None
+        of_font = None if self.descendant is None else collection_in(self.descendant.get("/CIDSystemInfo"))
+        is_own = self.encoding_kind == "stream" or self.encoding_name in IDENTITIES
+        if is_own and of_font is not None:
+            return of_font
+        said = [] if self.encoding.lenient is None else [layer.metadata for layer in self.encoding.lenient.layers]
+        found = (
+            b"%b-%b" % (it.registry, it.ordering) for it in said if it.registry is not None and it.ordering is not None
+        )
+        return next(found, of_font)
+
+    @functools.cached_property
+    def texts_of_cids(self) -> Optional[CMap]:
+        """The map of the CIDs of its collection to texts, as Adobe-Japan1-UCS2; None where there is none."""
+        if self.collection not in COLLECTIONS or self.encoding.lenient is None:
+            return None
+        try:
+            return CMap.open(self.collection + b"-UCS2")
+        except Refused:
+            return None
+
+    @functools.cached_property
+    def glyph_texts(self) -> List[Optional[str]]:
+        """The texts of the codes 0 to 255 of a simple font, by its encoding and the names of its glyphs."""
+        try:
+            return [None] * 256 if self.is_composite else glyph_texts(self.dictionary, self._streams)
+        except MALFORMED:
+            return [None] * 256
+
+    def extractor(self, lenient: bool = False) -> Extractor:
+        """The CMaps of the font, by which strings have texts.
+
+        A ToUnicode CMap with faults gives no text, but with `lenient` what it says apart from them. Where a composite
+        font has no CMap that can be had, strings are cut by the codespace ranges of the ToUnicode CMap, and without
+        these into codes of two bytes.
+        """
+        to_unicode = self.to_unicode.lenient if lenient else self.to_unicode.strict
+        if not self.is_composite:
+            return Extractor(None, to_unicode=to_unicode)
+        encoding = self.encoding.lenient
+        if encoding is None:
+            left = self.to_unicode.lenient
+            has_ranges = left is not None and any(layer.codespaces for layer in left.layers)
+            encoding = left if has_ranges else CMap.identity()
+        return Extractor(encoding, to_unicode=to_unicode, collection=self.texts_of_cids)
+
+    @functools.cached_property
+    def _extractors(self) -> Dict[bool, Extractor]:
+        return {lenient: self.extractor(lenient) for lenient in (False, True)}
+
+    def characters(self, string: bytes, lenient: bool = False) -> List[Character]:
+        """The codes of a string that is shown with the font, with their texts."""
+        return self.characters_of([string], lenient)[0]
+
+    def characters_of(self, strings: Iterable[bytes], lenient: bool = False) -> List[List[Character]]:
+        """What `characters` gives for each of many strings, which takes less time than to ask for each."""
+        known, to_unicode = self._characters[lenient], self.to_unicode.lenient if lenient else self.to_unicode.strict
+        found = []
+        for characters in self._extractors[lenient].characters_of(strings):
+            row = []
+            for code, text in characters:
+                key = code[:2] if not code.cut_short else (code.code, -code.byte_len)
+                if key not in known:
+                    known[key] = self._character(code, text, to_unicode)
+                row.append(known[key])
+            found.append(row)
+        return found
+
+    def _character(self, code: Code, text: Optional[str], to_unicode: Optional[CMap]) -> Character:
+        """A character of the font, of which an extractor gives this text."""
+        if text is not None:
+            is_own = to_unicode is not None and to_unicode.text(code.code) is not None
+            return Character(self, code, text, Source.TO_UNICODE if is_own else Source.COLLECTION)
+        if not self.is_composite and self.glyph_texts[code.code] is not None:
+            return Character(self, code, self.glyph_texts[code.code], Source.GLYPH_NAME)
+        return Character(self, code, None, Source.NONE)
+
+    @property
+    def faults(self) -> List[Fault]:
+        """Those of its encoding, then those of its ToUnicode CMap."""
+        return self.encoding.faults + self.to_unicode.faults
+
+    def as_json(self) -> Dict[str, Any]:
+        """What is known of the font, as values of JSON."""
+        encoding, to_unicode = self.dictionary.get("/Encoding"), self.dictionary.get("/ToUnicode")
+        base = encoding.get("/UseCMap") if isinstance(encoding, pikepdf.Stream) else None
+        return {
+            "base_font": self.base_font,
+            "collection": None if self.collection is None else self.collection.decode("latin-1"),
+            "encoding": self.encoding_name,
+            "encoding_kind": self.encoding_kind,
+            "encoding_object": object_number(encoding),
+            "font": self.number,
+            "subtype": self.subtype if self.descendant is None else name_at(self.descendant, "/Subtype"),
+            "to_unicode_object": object_number(to_unicode),
+            "type0": self.is_composite,
+            "use_cmap": text_of(base) if isinstance(base, pikepdf.Name) else None,
+            "use_cmap_object": object_number(base),
+        }
+
+    def __str__(self) -> str:
+        words = [self.subtype or "no Subtype", self.encoding_name or self.encoding_kind]
+        words += [] if self.collection is None else [self.collection.decode("latin-1")]
+        stream = stream_at(self.dictionary, "/ToUnicode")
+        words.append("no ToUnicode" if stream is None else f"ToUnicode {object_number(stream)}")
+        return f"font {self.number} {self.base_font or '-'} ({', '.join(words)})"
+
+
+def read_stream(stream: pikepdf.Stream, of: str, streams: Streams, over: Tuple = ()) -> Read:
+    """What is read of a CMap in a stream, over the one that it is based on; `over` are the streams based on it."""
+    number = object_number(stream)
+    try:
+        data = streams.decoded(stream)
+        below = read_base(stream.get("/UseCMap"), of, streams, (*over, stream.objgen))
+        cmap, refusals = CMap.salvage(data, predefined, base=below.lenient)
+    except (TooLarge, Undecodable) as fault:
+        return Read(None, None, [Fault(of, number, None, None, (), str(fault))])
+    except NotWritable as fault:
+        return Read(None, None, [Fault(of, number, None, None, (), f"what it is based on can't be used: {fault}")])
+    faults = [fault_of(it, of, number, data) for it in refusals] + below.faults
+    return Read(None if faults else cmap, cmap, faults)
+
+
+def read_base(base: Any, of: str, streams: Streams, over: Tuple) -> Read:
+    """What is read of the CMap at the entry UseCMap of a stream (ISO 32000-1, 9.7.5.3), a stream or a name."""
+    if isinstance(base, pikepdf.Stream) and base.objgen not in over and len(over) < MOST_IN_CHAIN:
+        return read_stream(base, of, streams, over)
+    if not isinstance(base, pikepdf.Name):
+        return NOTHING
+    try:
+        cmap = CMap.open(bytes_of(base))
+    except Refused as fault:
+        return Read(None, None, [fault_of(fault, of, 0, b"")])
+    return Read(cmap, cmap, [])
+
+
+def fault_of(refused: Refused, of: str, number: int, data: bytes) -> Fault:
+    """Why a CMap is refused, whose bytes are these."""
+    line = None if refused.names else refused.line(data)
+    return Fault(of, number, refused.offset, line, refused.names, refused.words)
+
+
+def collection_in(info: Any) -> Optional[bytes]:
+    """The registry and the ordering of a CIDSystemInfo."""
+    if not isinstance(info, pikepdf.Dictionary):
+        return None
+    texts = [info.get(key) for key in ("/Registry", "/Ordering")]
+    return b"-".join(map(bytes, texts)) if all(isinstance(it, pikepdf.String) for it in texts) else None
+
+
+class Fonts:
+    """The fonts of a file, each once: one that is an object by its number, any other by what is written."""
+
+    def __init__(self, streams: Optional[Streams] = None):
+        self.streams = Streams() if streams is None else streams
+        self.found: Dict[Any, Font] = {}
+
+    def of(self, value: Any) -> Optional[Font]:
+        """The font of a dictionary; None where it is none."""
+        if not isinstance(value, pikepdf.Dictionary):
+            return None
+        key = value.objgen if value.is_indirect else value.unparse()
+        if key not in self.found:
+            if len(self.found) >= MOST_FONTS:
+                raise TooLarge(f"the file has more than {MOST_FONTS:,} fonts")
+            self.found[key] = Font(value, self.streams)
+        return self.found[key]
+
+    def walk(self, holders: Iterable[pikepdf.Object]) -> None:
+        """Finds those in the resources of pages, forms, patterns, soft masks and Type 3 fonts, each of these once."""
+        seen, left = set(), list(holders)
+        while left:
+            holder = left.pop()
+            if holder.is_indirect and holder.objgen in seen:
+                continue
+            if holder.is_indirect:
+                seen.add(holder.objgen)
+            resources = resources_of(holder)
+            states = [it for it in values(dictionary_at(resources, "/ExtGState")) if isinstance(it, pikepdf.Dictionary)]
+            listed = values(dictionary_at(resources, "/Font")) + [font_of_state(state) for state in states]
+            fonts = [font for font in map(self.of, listed) if font is not None]
+            left += [font.dictionary for font in reversed(fonts) if font.subtype == "Type3"]
+            groups = [dictionary_at(state, "/SMask").get("/G") for state in states]
+            drawn = [it for kind in ("/XObject", "/Pattern") for it in values(dictionary_at(resources, kind))]
+            left += [form for form in drawn + groups if isinstance(form, pikepdf.Stream)]
+
+
+def font_of_state(state: pikepdf.Dictionary) -> Optional[pikepdf.Object]:
+    """The font that a graphics state chooses, or None."""
+    pair = state.get("/Font")
+    return pair[0] if isinstance(pair, pikepdf.Array) and len(pair) == 2 else None
+
+
+def resources_of(holder: pikepdf.Object) -> pikepdf.Dictionary:
+    """The resources of a page, a form or a Type 3 font: its own, or of a page those of a node above it."""
+    for _ in range(MOST_NODES):
+        if not isinstance(holder, (pikepdf.Dictionary, pikepdf.Stream)):
+            break
+        found = holder.get("/Resources")
+        if isinstance(found, pikepdf.Dictionary):
+            return found
+        if name_at(holder, "/Type") not in ("Page", "Pages"):
+            break
+        holder = holder.get("/Parent")
+    return pikepdf.Dictionary()
+
+
+def pages_of(pdf: pikepdf.Pdf) -> List[pikepdf.Page]:
+    """The pages of a file, without what stands in the place of one and is none."""
+    return [page for page in pdf.pages if isinstance(page.obj, pikepdf.Dictionary)]
+
+
+def annotations_of(page: pikepdf.Object) -> List[pikepdf.Dictionary]:
+    listed = page.get("/Annots")
+    return (
+        [it for it in list(listed) if isinstance(it, pikepdf.Dictionary)] if isinstance(listed, pikepdf.Array) else []
+    )
+
+
+def appearances_of(page: pikepdf.Object) -> Iterator[pikepdf.Stream]:
+    """All appearance streams of the annotations of a page."""
+    for annotation in annotations_of(page):
+        for value in values(dictionary_at(annotation, "/AP")):
+            states = values(value) if isinstance(value, pikepdf.Dictionary) else [value]
+            yield from (it for it in states if isinstance(it, pikepdf.Stream))
+
+
+def every_font(pdf: pikepdf.Pdf, streams: Optional[Streams] = None) -> Fonts:
+    """The fonts of a file: those of pages, forms, patterns, soft masks, Type 3 fonts, annotations and form fields."""
+    found = Fonts(streams)
+    holders = [form for page in pages_of(pdf) for form in (*appearances_of(page.obj), page.obj)]
+    fields = dictionary_at(dictionary_at(pdf.Root, "/AcroForm"), "/DR")
+    found.walk([pikepdf.Dictionary(Resources=fields), *reversed(holders)])
+    return found
+
+
+def fonts(pdf: pikepdf.Pdf) -> List[Font]:
+    """The fonts of a file, each once: those of pages, forms, patterns, soft masks, Type 3 fonts, annotations and form
+    fields."""
+    return list(every_font(pdf).found.values())

@@ -1,0 +1,193 @@
+"""The texts of simple fonts by the names of their glyphs (ISO 32000-1, 9.6.6 and 9.10.2).
+
+The names come of the encoding of the font, or of the font program. Their texts are those of the Adobe Glyph List, which
+fontTools has.
+"""
+
+import functools
+import io
+import re
+from typing import List, Optional, Tuple
+
+import pikepdf
+
+from ._encodings import BY_NAME, STANDARD, SYMBOL, ZAPF_DINGBATS
+from ._objects import MALFORMED, Streams, integer_at, name_at, stream_at, text_of
+
+try:
+    from fontTools import agl
+except ImportError:
+    agl = None
+
+#: Whether names of glyphs have texts: whether fontTools is there.
+HAS_GLYPH_LIST = agl is not None
+
+#: Names of glyphs in the mathematical fonts of TeX, which no list of Adobe's has, with their texts.
+TEX = {
+    "angbracketleft": "\u27e8",
+    "angbracketright": "\u27e9",
+    "arrowdblvertex": "\u2016",
+    "backslashbig": "\\",
+    "ceilingleft": "\u2308",
+    "ceilingright": "\u2309",
+    "contintegraldisplay": "\u222e",
+    "contintegraltext": "\u222e",
+    "coproductdisplay": "\u2210",
+    "coproducttext": "\u2210",
+    "epsilon1": "\u03f5",
+    "floorleft": "\u230a",
+    "floorright": "\u230b",
+    "integraldisplay": "\u222b",
+    "integraltext": "\u222b",
+    "intersectiondisplay": "\u22c2",
+    "intersectiontext": "\u22c2",
+    "negationslash": "\u0338",
+    "prime": "\u2032",
+    "productdisplay": "\u220f",
+    "producttext": "\u220f",
+    "radicalbig": "\u221a",
+    "star": "\u22c6",
+    "summationdisplay": "\u2211",
+    "summationtext": "\u2211",
+    "uniondisplay": "\u22c3",
+    "uniontext": "\u22c3",
+    "visiblespace": "\u2423",
+}
+
+#: What ends the names of larger forms of their brackets.
+LARGER = re.compile("(big|Big|bigg|Bigg)$")
+
+#: The names of the glyphs of the codes 0 to 255, or None.
+Names = List[Optional[str]]
+
+#: The flag of a font descriptor that says that a font has other glyphs than those of Latin text.
+SYMBOLIC = 1 << 2
+
+#: An entry of the encoding of a Type 1 font program, as in `dup 65 /A put`; a number may have a base, as 8#101.
+ENTRY = re.compile(rb"dup\s+(?:(\d+)#)?(\w+)\s*/([^\s/\[\](){}<>%]+)\s+put\b")
+ENCODING = re.compile(rb"/Encoding\s+(StandardEncoding\b|.*?(?:\breadonly|\bdef)\b)", re.DOTALL)
+
+#: Where an encoding of a CFF font program may stand: the places before stand for encodings of Adobe.
+FIRST_OF_CFF = 2
+
+#: The longest encoding of a Type 1 font program that is read.
+MOST_OF_ENCODING = 1 << 16
+
+
+def glyph_names(font: pikepdf.Dictionary, streams: Streams) -> Names:
+    """The names of the glyphs of a simple font: those of Differences over a base encoding (ISO 32000-1, 9.6.6)."""
+    encoding = font.get("/Encoding")
+    if isinstance(encoding, pikepdf.Name):
+        return list(BY_NAME.get(text_of(encoding)) or built_in(font, streams))
+    if not isinstance(encoding, pikepdf.Dictionary):
+        return built_in(font, streams)
+    names = list(BY_NAME.get(name_at(encoding, "/BaseEncoding") or "") or built_in(font, streams))
+    code = 0
+    differences = encoding.get("/Differences")
+    for it in list(differences) if isinstance(differences, pikepdf.Array) else []:
+        if isinstance(it, pikepdf.Name):
+            if 0 <= code < 256:
+                names[code] = text_of(it)
+            code += 1
+        elif isinstance(it, int):
+            code = int(it)
+    return names
+
+
+def built_in(font: pikepdf.Dictionary, streams: Streams) -> Names:
+    """The encoding that a font has of itself: that of its program, or of the standard font of its name."""
+    base = (name_at(font, "/BaseFont") or "").rpartition("+")[2]
+    descriptor = font.get("/FontDescriptor")
+    if isinstance(descriptor, pikepdf.Dictionary):
+        program = stream_at(descriptor, "/FontFile"), stream_at(descriptor, "/FontFile3")
+        try:
+            found = of_program(*program, streams)
+        except MALFORMED:
+            found = None
+        if found is not None:
+            return found
+    if base == "Symbol":
+        return list(SYMBOL)
+    if base == "ZapfDingbats":
+        return list(ZAPF_DINGBATS)
+    is_symbolic = isinstance(descriptor, pikepdf.Dictionary) and integer_at(descriptor, "/Flags") & SYMBOLIC
+    is_type3 = name_at(font, "/Subtype") == "Type3"
+    return [None] * 256 if is_symbolic or is_type3 else list(STANDARD)
+
+
+def of_program(type1: Optional[pikepdf.Stream], cff: Optional[pikepdf.Stream], streams: Streams) -> Optional[Names]:
+    """The encoding of an embedded font program, or None where there is none that is known."""
+    if type1 is not None:
+        return of_type1(streams.decoded(type1))
+    if cff is not None and name_at(cff, "/Subtype") == "Type1C":
+        return of_cff(streams.decoded(cff))
+    return None
+
+
+def of_type1(program: bytes) -> Optional[Names]:
+    """The encoding of a Type 1 font program, which stands before its encrypted part (Adobe Type 1 Font Format, 2.2)."""
+    clear = program.partition(b"eexec")[0][:MOST_OF_ENCODING]
+    found = ENCODING.search(clear)
+    if found is None:
+        return None
+    if found[1] == b"StandardEncoding":
+        return list(STANDARD)
+    names: Names = [None] * 256
+    for base, digits, name in ENTRY.findall(clear, found.start()):
+        code = int(digits, int(base or 10)) if int(base or 10) in range(2, 37) else 256
+        if code < 256:
+            names[code] = name.decode("latin-1")
+    return names
+
+
+def of_cff(program: bytes) -> Optional[Names]:
+    """The encoding of a CFF font program (Adobe Technical Note 5176, 12); None without fontTools."""
+    if agl is None:
+        return None
+    from fontTools import cffLib
+
+    fonts = cffLib.CFFFontSet()
+    try:
+        fonts.decompile(io.BytesIO(program), None)
+        place = fonts[0].rawDict.get("Encoding", 0)
+        if place < FIRST_OF_CFF:
+            return list(STANDARD) if place == 0 else None
+        codes, supplements = codes_of_cff(program[place:])
+        names: Names = [None] * 256
+        for code, name in [
+            *zip(codes, fonts[0].charset[1:]),
+            *((code, fonts.strings[sid]) for code, sid in supplements),
+        ]:
+            names[code] = name
+        return names
+    except Exception:  # fontTools has no exception of its own for a program that is malformed
+        return None
+
+
+def codes_of_cff(data: bytes) -> Tuple[List[int], List[Tuple[int, int]]]:
+    """The codes of the glyphs of an encoding, from glyph 1 on, and the codes of further names by their numbers."""
+    kind, count, place = data[0], data[1], 2
+    if kind & 0x7F == 0:
+        codes = list(data[place : place + count])
+        place += count
+    else:
+        rows = [data[at : at + 2] for at in range(place, place + 2 * count, 2)]
+        codes = [first + at for first, left in rows for at in range(left + 1) if first + at < 256]
+        place += 2 * count
+    entries = range(place + 1, place + 1 + 3 * data[place], 3) if kind & 0x80 else ()
+    return codes, [(data[at], int.from_bytes(data[at + 1 : at + 3], "big")) for at in entries]
+
+
+@functools.lru_cache(maxsize=1 << 16)
+def text_of_glyph(name: str, is_dingbat: bool = False) -> Optional[str]:
+    """The text of the name of a glyph, by the Adobe Glyph List and the rules that go with it, or None."""
+    if agl is None:
+        return None
+    smaller = LARGER.sub("", name)
+    return agl.toUnicode(name, is_dingbat) or TEX.get(name) or TEX.get(smaller) or agl.toUnicode(smaller) or None
+
+
+def glyph_texts(font: pikepdf.Dictionary, streams: Streams) -> List[Optional[str]]:
+    """The texts of the codes 0 to 255 of a simple font, by the names of their glyphs."""
+    is_dingbat = "Dingbats" in (name_at(font, "/BaseFont") or "")
+    return [None if name is None else text_of_glyph(name, is_dingbat) for name in glyph_names(font, streams)]

@@ -1,0 +1,180 @@
+"""Many PDF files: one after another, over processes of this machine, or over a cluster of Dask."""
+
+import functools
+import itertools
+import json
+import multiprocessing
+import os
+from multiprocessing import connection
+from typing import Any, Dict, Iterable, Iterator, List, Optional, Sequence
+
+from ._commands import Result, results_of, run, unread
+
+#: How many seconds a process without work waits before it looks whether there is still one to work for.
+SECONDS = 5.0
+
+#: How many files each thread of a cluster has at hand.
+AT_HAND = 2
+
+
+def check_files(paths: Iterable[str], **options: Any) -> Iterator[str]:
+    """The lines of JSON that `python3 -m hayro_cmap.pdf check --json` prints of these files.
+
+    A file that can't be read has one line, with `unread`. It is for tools that cut a list of paths into parts, as
+
+        context.parallelize(paths, 100).mapPartitions(hayro_cmap.pdf.check_files)
+    """
+    for result in results_of(paths, "check", options):
+        yield from json_lines(result)
+
+
+def json_lines(result: Result) -> Iterator[str]:
+    """What is said of a file as lines of JSON."""
+    for it in result.objects:
+        yield json.dumps({"file": result.path, **it}, sort_keys=True, separators=(",", ":"))
+
+
+def limit_memory(most: Optional[int]) -> None:
+    """Lets this process have so many bytes of memory: what asks for more is a MemoryError."""
+    if most is not None:
+        import resource
+
+        _, hard = resource.getrlimit(resource.RLIMIT_AS)
+        resource.setrlimit(resource.RLIMIT_AS, (most if hard < 0 else min(most, hard), hard))
+
+
+class Worker:
+    """A process that runs a command over files, one at a time."""
+
+    def __init__(self, command: str, options: Dict[str, Any], memory: Optional[int]):
+        self.end, other = multiprocessing.Pipe()
+        words = (other, command, options, memory, os.getpid())
+        self.process = multiprocessing.Process(target=serve, args=words, daemon=True)
+        self.process.start()
+        # with no other end in this process, that of the worker is the only one
+        other.close()
+        #: The index and the path of the file that it has.
+        self.index, self.path = -1, ""
+
+    def begin(self, index: int, path: str) -> None:
+        """Hands it a file."""
+        self.index, self.path = index, path
+        self.end.send(path)
+
+    def result(self) -> Optional[Result]:
+        """What it says of the file; None where it ended."""
+        try:
+            return self.end.recv()
+        except (EOFError, OSError):
+            self.process.join()
+            return None
+
+    def fault(self) -> str:
+        """Why it ended."""
+        code = self.process.exitcode or 0
+        return f"the process that read it ended, {f'by signal {-code}' if code < 0 else f'with status {code}'}"
+
+    def close(self) -> None:
+        """Ends it."""
+        self.end.close()
+        self.process.terminate()
+        self.process.join()
+
+
+def serve(
+    end: connection.Connection, command: str, options: Dict[str, Any], memory: Optional[int], parent: int
+) -> None:
+    """Runs a command over the files that come through a pipe, until the other process is gone."""
+    limit_memory(memory)
+    while True:
+        while not end.poll(SECONDS):
+            if os.getppid() != parent:
+                return
+        try:
+            path = end.recv()
+        except EOFError:
+            return
+        end.send(run(path, command, options))
+
+
+def by_processes(
+    paths: Sequence[str], command: str, options: Dict[str, Any], jobs: int, memory: Optional[int] = None
+) -> Iterator[Result]:
+    """What a command says of each file, in their order, by several processes. One that ends costs its file alone."""
+    start = functools.partial(Worker, command, options, memory)
+    workers = [start() for _ in range(min(jobs, len(paths)))]
+    left, done, next_one = enumerate(paths), {}, 0
+    try:
+        busy: List[Worker] = []
+        for worker in workers:
+            worker.begin(*next(left))
+            busy.append(worker)
+        while next_one < len(paths):
+            ends = connection.wait([worker.end for worker in busy])
+            for worker in [it for it in busy if it.end in ends]:
+                index, result = worker.index, worker.result()
+                busy.remove(worker)
+                if result is None:
+                    result = unread(worker.path, worker.fault())
+                    workers.remove(worker)
+                    worker.close()
+                    worker = start()
+                    workers.append(worker)
+                done[index] = result
+                upcoming = next(left, None)
+                if upcoming is not None:
+                    worker.begin(*upcoming)
+                    busy.append(worker)
+            while next_one in done:
+                yield done.pop(next_one)
+                next_one += 1
+    finally:
+        for worker in workers:
+            worker.close()
+
+
+def by_dask(paths: Sequence[str], command: str, options: Dict[str, Any], address: str) -> Iterator[Result]:
+    """What a command says of each file, in any order, by the workers of a Dask scheduler.
+
+    Each worker has the package, the library and pikepdf, and the files under the same paths. A worker that dies costs
+    no file: another one takes what it had. A file over which one worker after another dies, is one that can't be read.
+    """
+    from distributed import Client
+
+    with Client(address, set_as_default=False) as client:
+        suspects = []
+        for path, result in submitted(client, paths, command, options):
+            if result is None:
+                suspects.append(path)
+            else:
+                yield result
+        # some only stood beside a file that ends workers: each is tried alone
+        for path in suspects:
+            for _, result in submitted(client, [path], command, options):
+                yield unread(path, "the workers that read it ended") if result is None else result
+
+
+def submitted(client, paths: Sequence[str], command: str, options: Dict[str, Any]):
+    """Each path with its result, or None where workers died over it; a few are at hand, however many there are."""
+    from distributed import as_completed
+    from distributed.scheduler import KilledWorker
+
+    left = iter(paths)
+    submit = lambda path: client.submit(run, path, command, options, pure=False)
+    at_hand = AT_HAND * max(1, sum(client.nthreads().values()))
+    of = {submit(path): path for path in itertools.islice(left, at_hand)}
+    completed = as_completed(list(of), loop=client.loop)
+    for future in completed:
+        path = of.pop(future)
+        fault = future.exception()
+        if fault is None:
+            yield path, future.result()
+        elif isinstance(fault, KilledWorker):
+            yield path, None
+        else:
+            yield path, unread(path, f"it can't be read: {fault}")
+        future.release()
+        for upcoming in itertools.islice(left, 1):
+            another = submit(upcoming)
+            of[another] = upcoming
+            completed.add(another)

@@ -1,0 +1,144 @@
+"""Writes the ToUnicode CMaps of a PDF file anew that have faults, with what they say apart from them."""
+
+import os
+from typing import Any, Dict, List, NamedTuple, Tuple, Union
+
+import pikepdf
+
+from .. import CMap, CMapWriter, Codespace
+from ._fonts import Fault, Font, fonts
+from ._objects import dictionary_at, integer_at, object_number, stream_at
+
+#: The flag of a form that says that the file is signed (ISO 32000-1, 12.7.2).
+SIGNATURES_EXIST = 1
+
+#: The ranges of a simple font, whose codes are single bytes, and of a composite one of which none are known.
+SINGLE_BYTES = Codespace(0x00, 0xFF, 1)
+TWO_BYTES = Codespace(0x0000, 0xFFFF, 2)
+
+
+class Signed(ValueError):
+    """The file is signed, and its signature would no longer hold."""
+
+
+class Repaired(NamedTuple):
+    """A ToUnicode CMap with faults."""
+
+    #: The number of the object of its stream.
+    number: int
+    #: The fonts that have it.
+    fonts: List[Font]
+    #: What was wrong, and is lost.
+    faults: List[Fault]
+    #: How many codes have a text in what is written. Where it is 0, nothing is left, and the stream stays as it is.
+    kept: int
+
+    def lines(self) -> List[str]:
+        """A line for what is written, and one for each fault."""
+        what = f"written anew, with texts for {self.kept:,} codes" if self.kept else "nothing is left of it"
+        return [f"ToUnicode {self.number}: {what}", *(f"lost at {fault}" for fault in self.faults)]
+
+    def as_json(self) -> Dict[str, Any]:
+        """The same as values of JSON."""
+        from ._check import fault_json
+
+        return {
+            "faults": [fault_json(fault) for fault in self.faults],
+            "fonts": [font.number for font in self.fonts],
+            "kept": self.kept,
+            "to_unicode_object": self.number,
+        }
+
+
+def repair(pdf: pikepdf.Pdf, signed: bool = False) -> List[Repaired]:
+    """Writes each ToUnicode CMap that is refused anew, with what it says apart from its faults.
+
+    It stands in the object that it stood in, and no other object is touched; `save` then writes the file. Signed where
+    the file is signed, unless `signed` allows that.
+    """
+    if is_signed(pdf) and not signed:
+        raise Signed("the file is signed, and its signature would no longer hold")
+    streams: Dict[Tuple[int, int], List[Font]] = {}
+    for font in fonts(pdf):
+        stream = stream_at(font.dictionary, "/ToUnicode")
+        if stream is not None and font.to_unicode.faults:
+            streams.setdefault(stream.objgen, []).append(font)
+    return [repaired(sharing) for sharing in streams.values()]
+
+
+def repaired(sharing: List[Font]) -> Repaired:
+    """Writes the ToUnicode CMap of these fonts anew."""
+    stream, read = sharing[0].dictionary["/ToUnicode"], sharing[0].to_unicode
+    codespaces = codespaces_of(sharing)
+    runs = [] if read.lenient is None else read.lenient.texts(codespaces)
+    if runs:
+        stream.write(written(runs, codespaces))
+    return Repaired(object_number(stream), sharing, read.faults, sum(run.last - run.first + 1 for run in runs))
+
+
+def written(runs, codespaces: List[Codespace]) -> bytes:
+    """A ToUnicode CMap with these texts, which gives back the same (ISO 32000-1, 9.10.3)."""
+    writer = CMapWriter("Adobe-Identity-UCS", collection=("Adobe", "UCS", 0))
+    for it in codespaces:
+        writer.codespace(it.low.to_bytes(it.byte_len, "big"), it.high.to_bytes(it.byte_len, "big"))
+    for run in runs:
+        writer.text(run.first.to_bytes(run.byte_len, "big"), run.last.to_bytes(run.byte_len, "big"), run.text)
+    data = writer.write()
+    with CMap.parse(data) as again:
+        if texts_of(again.texts()) != texts_of(runs):
+            raise AssertionError("the CMap that is written has other texts")
+    return data
+
+
+def texts_of(runs) -> Dict[int, str]:
+    """The text of each code of these runs, but for its last character, which counts on."""
+    return {
+        code: run.text[:-1] + chr(ord(run.text[-1]) + code - run.first)
+        for run in runs
+        for code in range(run.first, run.last + 1)
+    }
+
+
+def codespaces_of(sharing: List[Font]) -> List[Codespace]:
+    """The codespace ranges of the fonts that share a ToUnicode CMap: those of their encodings, else its own."""
+    found: List[Codespace] = []
+    for font in sharing:
+        if not font.is_composite:
+            of_font = [SINGLE_BYTES]
+        else:
+            given = font.encoding.lenient or font.to_unicode.lenient
+            of_font = [it for layer in (given.layers if given is not None else []) for it in layer.codespaces]
+        found += [it for it in of_font if it not in found]
+    return found or [TWO_BYTES]
+
+
+def is_signed(pdf: pikepdf.Pdf) -> bool:
+    """Whether the file says that it is signed."""
+    form = dictionary_at(pdf.Root, "/AcroForm")
+    return (
+        bool(integer_at(form, "/SigFlags") & SIGNATURES_EXIST)
+        or dictionary_at(pdf.Root, "/Perms").get("/DocMDP") is not None
+    )
+
+
+def save(pdf: pikepdf.Pdf, path: Union[str, "os.PathLike[str]"]) -> None:
+    """Writes a file with all objects as they are, and their streams byte for byte; an encrypted one stays encrypted,
+    and then its streams are what they were once they are decoded.
+
+    It is written beside its place and then put there, so that another file of this name stays as it is if that fails.
+    """
+    new = f"{os.fspath(path)}.new"
+    try:
+        pdf.save(
+            new,
+            preserve_pdfa=False,
+            fix_metadata_version=False,
+            # pikepdf takes no level together with an encryption
+            stream_decode_level=None if pdf.is_encrypted else pikepdf.StreamDecodeLevel.none,
+            object_stream_mode=pikepdf.ObjectStreamMode.preserve,
+            encryption=pdf.is_encrypted,
+        )
+        os.replace(new, path)
+    finally:
+        if os.path.exists(new):
+            os.remove(new)

@@ -1,0 +1,191 @@
+"""A page for people: the fonts of PDF files, what is wrong with them, and a chart of the codes of each."""
+
+import html
+import json
+import os
+from pathlib import Path
+from typing import Any, Dict, Iterable, List, Tuple, Union
+
+from ._check import FontReport, Report, share
+from ._fonts import Source
+
+#: How many codes of a font a chart has that have a text and aren't shown.
+MOST_UNSHOWN = 1 << 16
+
+#: What a code has, as the page numbers it.
+KINDS = [Source.TO_UNICODE.value, Source.COLLECTION.value, Source.GLYPH_NAME.value, Source.NONE.value]
+UNSHOWN = len(KINDS)
+
+#: What the page says of each, and its colour: colours that people tell apart who don't tell red from green.
+LEGEND = [
+    ("text by ToUnicode", "#0072b2"),
+    ("text by the collection", "#009e73"),
+    ("text by the glyph name", "#e69f00"),
+    ("shown without a text", "#d5301a"),
+    ("has a text, isn't shown", "#b9cfe4"),
+]
+
+#: A cell of a chart: the code, its length in bytes, what it has, its CID, its text, and how often it is shown.
+Cell = Tuple[int, int, int, Any, Any, int]
+
+
+def charts_of(report: Report) -> List[Dict[str, Any]]:
+    """What the page shows of each font of a file: its lines, and the cells of its chart."""
+    return [{"lines": list(font.lines()), "ok": not font.font.faults, "cells": cells_of(font)} for font in report.fonts]
+
+
+def cells_of(report: FontReport) -> List[Cell]:
+    """The cells of the chart of a font: the codes that are shown, and those that its ToUnicode CMap has a text for."""
+    cells: Dict[Tuple[int, int], Cell] = {}
+    for (_, shown, text, source), times in report.codes:
+        cells[shown[:2]] = (shown.code, shown.byte_len, KINDS.index(source.value), shown.cid, text, times)
+    to_unicode = report.font.to_unicode.lenient
+    encoding = report.font.encoding.lenient
+    ranges = None if encoding is None else [it for layer in encoding.layers for it in layer.codespaces]
+    left = MOST_UNSHOWN
+    for run in [] if to_unicode is None else to_unicode.texts(ranges):
+        byte_len = run.byte_len if report.font.is_composite else 1
+        for code in range(run.first, min(run.last, run.first + left - 1) + 1):
+            left -= 1
+            if (code, byte_len) not in cells:
+                cid = None if encoding is None else encoding.cid(code, byte_len)
+                text = run.text[:-1] + chr(ord(run.text[-1]) + code - run.first)
+                cells[code, byte_len] = (code, byte_len, UNSHOWN, cid, text, 0)
+    return sorted(cells.values(), key=lambda cell: (cell[1], cell[0]))
+
+
+def write_report(path: Union[str, "os.PathLike[str]"], results: Iterable[Any]) -> None:
+    """Writes the page of the results of a check."""
+    Path(path).write_text(page_of(list(results)), encoding="utf-8", errors="backslashreplace")
+
+
+def page_of(results: List[Any]) -> str:
+    """The page of the results of a check. It loads nothing else."""
+    shown, with_text = sum(it.shown for it in results), sum(it.with_text for it in results)
+    legend = "".join(f'<span><i style="background:{colour}"></i>{words}</span>' for words, colour in LEGEND)
+    charts = [chart["cells"] for result in results for chart in result.charts]
+    # no text of a file ends the script that the data stands in
+    data = json.dumps(charts, separators=(",", ":")).replace("<", "\\u003c")
+    return TEMPLATE.format(
+        summary=html.escape(f"{len(results)} files; {share(with_text, shown)}"),
+        legend=legend,
+        files="".join(map(section_of, results)),
+        data=data,
+        colours=json.dumps([colour for _, colour in LEGEND]),
+        words=json.dumps([words for words, _ in LEGEND]),
+    )
+
+
+def section_of(result: Any) -> str:
+    """The part of the page for a file."""
+    fault = "" if result.fault is None else f'<p class="bad">{html.escape(result.fault)}</p>'
+    words = html.escape(share(result.with_text, result.shown)) if result.charts else ""
+    fonts = "".join(map(font_of, result.charts))
+    return f"<section><h2>{html.escape(result.path)}</h2>{fault}<p>{words}</p>{fonts}</section>\n"
+
+
+def font_of(chart: Dict[str, Any]) -> str:
+    """The part of the page for a font."""
+    title, *lines = map(html.escape, chart["lines"])
+    # each line begins with the number of the font, which the title has
+    listed = "".join(f"<li>{line.partition(': ')[2]}</li>" for line in lines)
+    bad, fine = "" if chart["ok"] else ' class="bad"', "" if lines else ' class="fine"'
+    drawn = "<canvas></canvas>" if chart["cells"] else "<canvas hidden></canvas>"
+    return f"<article{fine}><h3{bad}>{title}</h3><ul>{listed}</ul>{drawn}</article>\n"
+
+
+TEMPLATE = """<!DOCTYPE html>
+<html lang="en">
+<meta charset="utf-8">
+<meta name="viewport" content="width=device-width">
+<title>Fonts of PDF files</title>
+<style>
+body {{ font: 14px/1.4 system-ui, sans-serif; margin: 1.5em auto; max-width: 1120px; color: #222; background: #fff }}
+h1 {{ font-size: 1.4em; margin: 0 }} h2 {{ font-size: 1.15em; border-top: 1px solid #bbb; padding-top: .8em }}
+h3 {{ font-size: 1em; margin: 1em 0 .2em; overflow-wrap: anywhere }}
+ul {{ margin: 0 0 .4em; padding-left: 1.2em; overflow-wrap: anywhere }}
+.bad {{ color: #a51d0a }} body:has(#wrong:checked) .fine {{ display: none }}
+#legend {{ position: sticky; top: 0; background: #fff; padding: .5em 0; display: flex; gap: 1.2em; flex-wrap: wrap }}
+#legend i {{ display: inline-block; width: 1em; height: 1em; margin-right: .4em; vertical-align: -.1em }}
+canvas {{ display: block; cursor: crosshair }} canvas[hidden] {{ display: none }}
+#tip {{ position: fixed; pointer-events: none; background: #222; color: #fff; padding: .3em .6em; border-radius: .3em;
+  max-width: 30em; white-space: pre-line; display: none }}
+</style>
+<h1>Fonts of PDF files</h1>
+<p>{summary}. A chart has 256 codes a row; the digits before it are the first bytes of the codes.</p>
+<div id="legend">{legend}<label><input type="checkbox" id="wrong"> only fonts with something to say</label></div>
+{files}
+<div id="tip"></div>
+<script id="data" type="application/json">{data}</script>
+<script>
+"use strict";
+const COLOURS = {colours}, WORDS = {words}, WIDTH = 4, LEFT = 64;
+const charts = JSON.parse(document.getElementById("data").textContent);
+const tip = document.getElementById("tip");
+const hex = (code, length) => code.toString(16).toUpperCase().padStart(2 * length, "0");
+
+function rowsOf(cells) {{
+  const rows = new Map();
+  for (const cell of cells) {{
+    const key = cell[1] + ":" + Math.floor(cell[0] / 256);
+    if (!rows.has(key)) rows.set(key, {{ label: hex(cell[0], cell[1]).slice(0, -2), cells: new Array(256) }});
+    rows.get(key).cells[cell[0] % 256] = cell;
+  }}
+  return [...rows.values()];
+}}
+
+function draw(canvas, cells) {{
+  const rows = rowsOf(cells), height = rows.length <= 8 ? 20 : rows.length <= 64 ? 12 : 6;
+  const scale = window.devicePixelRatio || 1, width = LEFT + 256 * WIDTH;
+  canvas.width = width * scale; canvas.height = rows.length * height * scale;
+  canvas.style.width = width + "px"; canvas.style.height = rows.length * height + "px";
+  const context = canvas.getContext("2d");
+  context.scale(scale, scale);
+  context.font = "10px monospace"; context.textBaseline = "middle";
+  rows.forEach((row, index) => {{
+    const top = index * height;
+    context.fillStyle = index % 2 ? "#f1f1f1" : "#e8e8e8";
+    context.fillRect(LEFT, top, 256 * WIDTH, height);
+    context.fillStyle = "#555";
+    if (height >= 12 || index % 2 === 0) context.fillText(row.label, 4, top + height / 2);
+    row.cells.forEach((cell, column) => {{
+      context.fillStyle = COLOURS[cell[2]];
+      context.fillRect(LEFT + column * WIDTH, top, WIDTH - 0.5, height - 1);
+    }});
+  }});
+  canvas.onmousemove = event => point(event, rows, height);
+  canvas.onmouseleave = () => {{ tip.style.display = "none"; }};
+}}
+
+function wordsOf(cell) {{
+  const [code, length, kind, cid, text, count] = cell;
+  const numbers = text === null ? "" : [...text].map(it => "U+" + hex(it.codePointAt(0), 2)).join(" ");
+  const lines = ["<" + hex(code, length) + ">" + (cid === null ? "" : "  CID " + cid)];
+  if (text !== null) lines.push(text + "  " + numbers);
+  lines.push(WORDS[kind]);
+  if (count) lines.push("shown " + count + (count === 1 ? " time" : " times"));
+  return lines.join("\\n");
+}}
+
+function point(event, rows, height) {{
+  const row = rows[Math.floor(event.offsetY / height)];
+  const cell = row && row.cells[Math.floor((event.offsetX - LEFT) / WIDTH)];
+  tip.style.display = cell ? "block" : "none";
+  if (!cell) return;
+  tip.textContent = wordsOf(cell);
+  tip.style.left = Math.min(event.clientX + 14, window.innerWidth - tip.offsetWidth - 8) + "px";
+  tip.style.top = event.clientY + 18 + "px";
+}}
+
+const canvases = [...document.querySelectorAll("canvas")];
+const seen = new IntersectionObserver(entries => {{
+  for (const entry of entries) {{
+    if (!entry.isIntersecting) continue;
+    seen.unobserve(entry.target);
+    draw(entry.target, charts[canvases.indexOf(entry.target)]);
+  }}
+}}, {{ rootMargin: "400px" }});
+canvases.forEach(canvas => seen.observe(canvas));
+</script>
+</html>
+"""

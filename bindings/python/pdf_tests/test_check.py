@@ -1,0 +1,128 @@
+"""What is said of the fonts of a file, and of the codes that it shows."""
+
+import unittest
+
+from pikepdf import Name
+
+from hayro_cmap import pdf
+from hayro_cmap.pdf import _check
+
+from made import BAD, GOOD, File, needs_glyph_list, showing
+
+#: Two codes in a codespace range, of which one has a CID.
+ENCODING = b"1 begincodespacerange <8140> <817E> endcodespacerange 1 begincidchar <8140> 7 endcidchar"
+
+
+def digits(codes):
+    return [bytes(it.character.code).hex() for it in codes]
+
+
+class Counts(unittest.TestCase):
+    def test_codes(self):
+        file = showing(b"AAB\1", GOOD, b"/F 9 Tf (%b) Tj (A) Tj")
+        report = pdf.check(file.pdf)
+        self.assertEqual(report.summary(), "80.0 % of 5 shown codes have a text")
+        [font] = report.fonts
+        self.assertEqual(
+            [(bytes(it.character.code), it.times) for it in font.codes], [(b"A", 3), (b"B", 1), (b"\1", 1)]
+        )
+        self.assertEqual((digits(font.no_text), font.no_cid, font.outside_codespace), (["01"], [], []))
+        self.assertEqual(font.sources, {"ToUnicode": 4, "collection": 0, "glyph name": 0, "none": 1})
+
+    @needs_glyph_list
+    def test_glyph_names_count(self):
+        file = showing(b"AC", GOOD)
+        self.assertEqual(
+            pdf.check(file.pdf).fonts[0].sources, {"ToUnicode": 1, "collection": 0, "glyph name": 1, "none": 0}
+        )
+
+    def test_codes_without_a_cid_and_in_no_range(self):
+        file = File()
+        file.show(b"/F 9 Tf <814081418181> Tj", F=file.composite(file.stream(ENCODING)))
+        [font] = pdf.check(file.pdf).fonts
+        self.assertEqual((digits(font.no_cid), digits(font.outside_codespace)), (["8141", "8181"], ["8181"]))
+        self.assertEqual(
+            list(font.lines())[1:],
+            [
+                f"font {font.font.number}: without a text: 3 codes, 3 different: <8140> <8141> <8181>",
+                f"font {font.font.number}: without a CID: 2 codes, 2 different: <8141> <8181>",
+                f"font {font.font.number}: in no codespace range: 1 codes, 1 different: <8181>",
+            ],
+        )
+
+    def test_faults(self):
+        file = showing(b"\1AC", BAD.replace(b"<41>", b"<01>").replace(b"<43>", b"<02>"))
+        report = pdf.check(file.pdf)
+        [font] = report.fonts
+        self.assertEqual((report.refused, font.font.to_unicode.strict), (1, None))
+        self.assertEqual(font.with_text_past_faults, font.with_text + 1)
+        self.assertIn("the text of a code was expected", list(font.lines())[1])
+        self.assertTrue(report.summary().endswith("; 1 of 1 fonts refused"))
+
+    def test_without_a_font(self):
+        self.assertEqual(pdf.check(File().show(b"(abc) Tj").pdf).without_font, 3)
+
+    def test_fonts_without_codes(self):
+        file = File()
+        file.show(b"", F=file.simple(GOOD))
+        report = pdf.check(file.pdf)
+        self.assertEqual((len(report.fonts), report.summary()), (1, "no codes are shown"))
+
+    def test_shares_are_never_rounded_to_all(self):
+        self.assertEqual(_check.share(99999, 100000), "99.9 % of 100,000 shown codes have a text")
+        self.assertEqual(_check.share(12012, 12345), "97.3 % of 12,345 shown codes have a text")
+        self.assertEqual(_check.share(3, 3), "100.0 % of 3 shown codes have a text")
+
+    def test_content_that_is_malformed(self):
+        file = File()
+        file.page.Contents = file.stream(b"/F 9 Tf (A) Tj (unclosed")
+        report = pdf.check(file.pdf)
+        self.assertEqual(report.without_font, 1)
+
+    def test_a_content_that_cannot_be_decoded(self):
+        file = showing(b"A", GOOD)
+        file.page.Contents.write(b"no data", filter=Name.FlateDecode)
+        report = pdf.check(file.pdf)
+        self.assertEqual((report.shown, len(report.faults)), (0, 1))
+
+
+class Warnings(unittest.TestCase):
+    def warnings(self, to_unicode):
+        [font] = pdf.check(showing(b"A", to_unicode).pdf).fonts
+        return {(it.of, it.name, it.codes, it.first) for it in font.warnings}
+
+    def test_of_texts(self):
+        texts = b"4 beginbfchar <10> <0000> <11> <0041E000> <12> <FFFD> <13> <FFFE> endbfchar"
+        texts += b" 1 beginbfrange <20> <22> <F8FF> endbfrange"
+        expected = {
+            ("null-character", 1, 0x10),
+            ("private-use", 2, 0x11),
+            ("replacement-character", 1, 0x12),
+            ("noncharacter", 1, 0x13),
+        }
+        ranges = b"1 begincodespacerange <00> <FF> endcodespacerange "
+        self.assertEqual(self.warnings(ranges + texts), {("ToUnicode", *it) for it in expected})
+
+    def test_of_the_whole(self):
+        self.assertEqual(self.warnings(b"no CMap"), {("ToUnicode", "nothing-declared", 1, None)})
+        self.assertEqual(
+            self.warnings(b"1 beginbfchar <41> <0041> endbfchar"), {("ToUnicode", "no-codespace", 1, None)}
+        )
+        self.assertEqual(self.warnings(GOOD), set())
+
+    def test_denied(self):
+        report = pdf.check(showing(b"A\1", b"1 beginbfchar <41> <0041> endbfchar").pdf)
+        for name, is_found in [
+            ("no-text", True),
+            ("no-codespace", True),
+            ("all", True),
+            ("no-cid", False),
+            ("outside-codespace", False),
+        ]:
+            self.assertEqual(report.has_denied([name]), is_found, name)
+        self.assertFalse(report.has_denied([]))
+        self.assertFalse(pdf.check(showing(b"A", GOOD).pdf).has_denied(["all"]))
+
+
+if __name__ == "__main__":
+    unittest.main()
