@@ -28,11 +28,15 @@ pub(crate) fn next_cid_section(len: CodeLength, entries: &[CidRange]) -> (Extent
 {
     let here = &entries[..entries.len().min(MOST)];
     let mut walk = Walk::new(len);
-    for entry in here {
-        walk.pass_one(&entry.range);
-        if walk.is_over() {
-            break;
+    let mut left = here;
+    while !left.is_empty() && !walk.is_over() {
+        let (alike, later) = left.split_at(count_alike(left));
+        if is_single(&left[0].range) {
+            walk.pass_singles(alike.len());
+        } else {
+            walk.pass_ranges(alike.len());
         }
+        left = later;
     }
     let (extent, count) = walk.end(entries.len());
     section_of(here, extent, count)
@@ -52,7 +56,8 @@ pub(crate) fn next_text_section(lengths: TextLengths, entries: &[BfRange]) -> (E
     while !left.is_empty() && !walk.is_over() {
         let (line, later) = left.split_at(count_line(left));
         match line {
-            [entry] => walk.pass_one(&entry.range),
+            [entry] if is_single(&entry.range) => walk.pass_singles(1),
+            [_] => walk.pass_ranges(1),
             _ => walk.pass_array(line.len()),
         }
         left = later;
@@ -78,6 +83,21 @@ fn section_of<T: HasRange>(entries: &[T], extent: Extent, count: usize) -> (Exte
     } else {
         (Extent::Range, count)
     }
+}
+
+/// How many declarations a list begins with that are for single codes, or for ranges, as the first one is.
+fn count_alike(entries: &[CidRange]) -> usize
+    requires { 0 < length entries.now }
+    ensures some { 0 < result }
+    ensures within { result ≤ length entries.now }
+{
+    let first = is_single(&entries[0].range);
+    for i in 1..entries.len() {
+        if is_single(&entries[i].range) != first {
+            return i;
+        }
+    }
+    entries.len()
 }
 
 /// How many declarations of single codes a list begins with.

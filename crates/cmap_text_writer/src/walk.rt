@@ -1,6 +1,5 @@
 //! Where a section of declarations ends, and of which kind it is, so that few bytes are written.
 
-use cmap_runs::runs::Range;
 use cmap_text::Extent;
 use cmap_values::code_length::CodeLength;
 
@@ -30,7 +29,7 @@ pub(crate) struct Walk {
     greatest: Place,
     /// Where a section for ranges saves most.
     least: Place,
-    /// The kind that saves as much as the section's count and names take.
+    /// The kind of the section, once it saves as much as the count and the names of one take.
     extent: Option<Extent>,
 }
 
@@ -50,22 +49,20 @@ impl Walk {
         }
     }
 
-    /// Passes a declaration that isn't in an array.
-    pub(crate) fn pass_one(&mut self, range: &Range) {
-        if range.start == range.end {
-            self.pass(1, self.width);
-        } else {
-            self.pass(1, -NEVER);
-        }
+    /// Passes declarations of single codes.
+    pub(crate) fn pass_singles(&mut self, count: usize) {
+        self.pass(count, number_of(count).saturating_mul(self.width));
+    }
+
+    /// Passes declarations of ranges.
+    pub(crate) fn pass_ranges(&mut self, count: usize) {
+        self.pass(count, -NEVER);
     }
 
     /// Passes an array of texts, whose codes are written for all but two.
     pub(crate) fn pass_array(&mut self, count: usize) {
-        let codes = i32::try_from(count).unwrap_or(NEVER);
-        self.pass(
-            count,
-            2_i32.saturating_sub(codes).saturating_mul(self.width),
-        );
+        let saved = 2_i32.saturating_sub(number_of(count));
+        self.pass(count, saved.saturating_mul(self.width));
     }
 
     /// Passes declarations that are so much longer in a section for ranges.
@@ -120,7 +117,7 @@ impl Walk {
     }
 }
 
-/// The kind of section that is shorter by more than its count and names, if one is.
+/// The kind of section that saves as much as its count and names take, if one does.
 fn worth_a_section(excess: i32) -> Option<Extent> {
     if excess >= HEAD {
         Some(Extent::Single)
@@ -129,4 +126,9 @@ fn worth_a_section(excess: i32) -> Option<Extent> {
     } else {
         None
     }
+}
+
+/// How many declarations there are, as a number with a sign.
+fn number_of(count: usize) -> i32 {
+    i32::try_from(count).unwrap_or(NEVER)
 }
