@@ -1,16 +1,18 @@
 -- Entries of sections that are written, and what a reader finds in them.
 use Rattle.std.proofs.Common.{◌≡◌, ◌∙◌, ℕ, ◌+◌, ◌^◌, ◌<◌, ◌≤◌, List, [], ◌∷◌, ◌++◌, get_or, inl, inr, length, map, take, refl, sym, ap, subst, arith}
-use Rattle.std.specs.Prelude.{decimal, flat_map}
+use Rattle.std.specs.Prelude.{All, decimal, flat_map}
 use Rattle.std.specs.Int.{bytes_high_first}
 use Rattle.std.proofs.lemmas.Bool.{cases_lt, le-ltb, lt-ltb}
-use Rattle.std.proofs.lemmas.List.{append_assoc, append-nil, map-append, take_more}
+use Rattle.std.proofs.lemmas.List.{append_assoc, append-nil}
+use Rattle.std.proofs.lemmas.List.Elements.{All-head, All-tail}
 use Rattle.std.proofs.lemmas.List.Concat.{flat_map-append}
 use Rattle.cmap_values.specs.Files.{CidEntry, Codespace, Declaration}
 use Rattle.cmap_text.specs.TextFiles.{AreEntries, CidKind, Extent, Section, cids, codespace_range, declares_cid, range, single}
-use Rattle.cmap_text_writer.specs.Fits.{CidFits, Fits, IsOfExtent, IsSpaceFitting}
+use Rattle.cmap_text_writer.specs.Fits.{BeginsFitting, CidFits, Fits, IsOfExtent, IsSmallCid, IsSpaceFitting}
 use Rattle.cmap_text_writer.specs.Spelled.{cid_spelled, end_length, hex_string, space_spelled}
-use Rattle.cmap_text_writer.specs.Told.{Appends, TellsEntries, TellsEntry, TellsTokens}
+use Rattle.cmap_text_writer.specs.Told.{TellsEntries, TellsEntry, TellsTokens}
 use Rattle.cmap_text_writer.proofs.StringsTold.{code_back, code_is_token, code_string, decimal_is_token, is_cid, is_code, length-code, number_token}
+use Rattle.cmap_text_writer.proofs.Walked.{all_more}
 use Rattle.cmap_text_writer.proofs.TokensTold.{lined, no_tokens, spaced, tokens_both}
 
 -- ---- codespace ranges
@@ -113,43 +115,20 @@ entries_both section ds es a b first second = let ts = first.tokens in let us = 
       subst (λ tokens. AreEntries section tokens ((first.each ++ second.each) ++ others) end) (sym (append_assoc ts us rest)) (subst (λ es. AreEntries section (ts ++ (us ++ rest)) es end) (sym (append_assoc first.each second.each others)) all);
 }
 
-pub entries_push : (section : Section) (ds : List Declaration) (d : Declaration) (a b : List ℕ) → TellsEntries section ds a → TellsEntry section (d ∷ []) b → TellsEntries section (ds ++ d ∷ []) (a ++ b)
-entries_push section ds d a b first second = entries_both section ds (d ∷ []) a b first (one_entry section (d ∷ []) b second)
+pub spaces_told : (ss : List Codespace) → All IsSpaceFitting ss → TellsEntries codespace_range (map Declaration.codespace ss) (flat_map space_spelled ss)
+spaces_told [] all = no_entries codespace_range
+spaces_told (s ∷ ss) all = entries_both codespace_range (Declaration.codespace s ∷ []) (map Declaration.codespace ss) (space_spelled s) (flat_map space_spelled ss) (one_entry codespace_range (Declaration.codespace s ∷ []) (space_spelled s) (space_by s (All-head IsSpaceFitting s ss all))) (spaces_told ss (All-tail IsSpaceFitting s ss all))
 
--- the entries of a list, up to an index
-pub appended_none : (section : Section) (old : List ℕ) → Appends old old (TellsEntries section [])
-appended_none section old = ([], sym (append-nil old), no_entries section)
+cid_fits : (len : ℕ) (e : CidEntry) → BeginsFitting len e → IsSmallCid e → CidFits len e
+cid_fits len e start small = record { start = start; end = small.end; cid = small.cid }
 
-pub appended_more : {X E : Type 0} (section : Section) (say : E → Declaration) (seen : X → E) (xs : List X) (i : ℕ) (d : X) (old now new entry : List ℕ) → i < length xs
-    → Appends old now (TellsEntries section (map say (map seen (take i xs)))) → new ≡ now ++ entry → TellsEntry section (say (seen (get_or xs i d)) ∷ []) entry → Appends old new (TellsEntries section (map say (map seen (take (i + 1) xs))))
-appended_more section say seen xs i d old now new entry within (bytes, first, all) second here =
-    let x = seen (get_or xs i d) in
-    let before = map say (map seen (take i xs)) in
-    let parted : map say (map seen (take (i + 1) xs)) ≡ before ++ say x ∷ [] = ap (λ es. map say (map seen es)) (take_more xs i d within) ∙ ap (map say) (map-append seen (take i xs) (get_or xs i d ∷ [])) ∙ map-append say (map seen (take i xs)) (x ∷ []) in (
-      bytes ++ entry,
-      second ∙ ap (λ bs. bs ++ entry) first ∙ append_assoc old bytes entry,
-      subst (λ ds. TellsEntries section ds (bytes ++ entry)) (sym parted) (entries_push section before (say x) bytes entry all here),
-    )
+pub cids_told : (kind : CidKind) (len : ℕ) (extent : Extent) (es : List CidEntry) → All (BeginsFitting len) es → All IsSmallCid es → All (λ e. IsOfExtent extent e.start e.end) es → TellsEntries (cids kind extent) (map (declares_cid kind len) es) (flat_map (cid_spelled len extent) es)
+cids_told kind len extent [] starts small extents = no_entries (cids kind extent)
+cids_told kind len extent (e ∷ es) starts small extents =
+    let first = cid_told kind len extent e (cid_fits len e (All-head (BeginsFitting len) e es starts) (All-head IsSmallCid e es small)) (All-head (λ e. IsOfExtent extent e.start e.end) e es extents) in
+    entries_both (cids kind extent) (declares_cid kind len e ∷ []) (map (declares_cid kind len) es) (cid_spelled len extent e) (flat_map (cid_spelled len extent) es) (one_entry (cids kind extent) (declares_cid kind len e ∷ []) (cid_spelled len extent e) first)
+    (cids_told kind len extent es (All-tail (BeginsFitting len) e es starts) (All-tail IsSmallCid e es small) (All-tail (λ e. IsOfExtent extent e.start e.end) e es extents))
 
--- the same, of each kind of CIDs
-abbrev pub TellsCids : Extent → ℕ → List CidEntry → List ℕ → Type 0
-TellsCids extent len es bytes = (kind : CidKind) → TellsEntries (cids kind extent) (map (declares_cid kind len) es) bytes
-
-pub cids_none : (extent : Extent) (len : ℕ) (old : List ℕ) → Appends old old (TellsCids extent len [])
-cids_none extent len old = ([], sym (append-nil old), λ kind. no_entries (cids kind extent))
-
-pub cids_more : {X : Type 0} (extent : Extent) (len : ℕ) (seen : X → CidEntry) (xs : List X) (i : ℕ) (d : X) (old now new entry : List ℕ) → i < length xs
-    → Appends old now (TellsCids extent len (map seen (take i xs))) → new ≡ now ++ entry → ((kind : CidKind) → TellsEntry (cids kind extent) (declares_cid kind len (seen (get_or xs i d)) ∷ []) entry) → Appends old new (TellsCids extent len (map seen (take (i + 1) xs)))
-cids_more extent len seen xs i d old now new entry within (bytes, first, all) second here = (
-  bytes ++ entry,
-  second ∙ ap (λ bs. bs ++ entry) first ∙ append_assoc old bytes entry,
-  λ kind.
-      let x = seen (get_or xs i d) in
-      let say = declares_cid kind len in
-      let before = map say (map seen (take i xs)) in
-      let parted : map say (map seen (take (i + 1) xs)) ≡ before ++ say x ∷ [] = ap (λ es. map say (map seen es)) (take_more xs i d within) ∙ ap (map say) (map-append seen (take i xs) (get_or xs i d ∷ [])) ∙ map-append say (map seen (take i xs)) (x ∷ []) in
-      subst (λ ds. TellsEntries (cids kind extent) ds (bytes ++ entry)) (sym parted) (entries_push (cids kind extent) before (say x) bytes entry (all kind) (here kind)),
-)
-
-pub of_kind : (kind : CidKind) (extent : Extent) (len : ℕ) (es : List CidEntry) (old new : List ℕ) → Appends old new (TellsCids extent len es) → Appends old new (TellsEntries (cids kind extent) (map (declares_cid kind len) es))
-of_kind kind extent len es old new (bytes, is, told) = (bytes, is, told kind)
+-- one of a list more
+pub small_more : {X : Type 0} (seen : X → CidEntry) (xs : List X) (i : ℕ) (d : X) → i < length xs → All IsSmallCid (map seen (take i xs)) → (seen (get_or xs i d)).end < 2 ^ 32 → (seen (get_or xs i d)).cid < 2 ^ 32 → All IsSmallCid (map seen (take (i + 1) xs))
+small_more seen xs i d within all end cid = all_more IsSmallCid seen xs i d within all (record { end = end; cid = cid })

@@ -13,5 +13,6 @@ pub mod WholeTold
 pub mod TextsTold
 pub mod ArraysTold
 pub mod Walked
+pub mod LengthsTold
 pub mod Sayable
 pub mod ObstaclesMet

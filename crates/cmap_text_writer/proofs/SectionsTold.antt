@@ -1,15 +1,20 @@
 -- Sections that are written, in order.
-use Rattle.std.proofs.Common.{◌≡◌, ◌∙◌, ℕ, ◌^◌, ◌<◌, ◌≤◌, false, List, [], ◌∷◌, ◌++◌, length, refl, sym, ap, subst, arith}
-use Rattle.std.specs.Prelude.{decimal, flat_map}
+use Rattle.std.proofs.Common.{◌≡◌, ◌∙◌, ℕ, ◌^◌, ◌<◌, ◌≤◌, false, List, [], ◌∷◌, ◌++◌, length, map, refl, sym, ap, subst, arith}
+use Rattle.std.specs.Prelude.{All, decimal, flat_map}
 use Rattle.std.specs.List.{AllByRecursion}
-use Rattle.std.proofs.lemmas.List.{append_assoc, append-nil}
+use Rattle.std.proofs.lemmas.List.{append_assoc, append-nil, length-map}
 use Rattle.std.proofs.lemmas.List.Concat.{flat_map-append}
-use Rattle.cmap_values.specs.Files.{Declaration}
+use Rattle.cmap_values.specs.Files.{BfEntry, CidEntry, Codespace, Declaration}
 use Rattle.cmap_tokens.specs.Numbers.{numeral, integer, radix_integer, is_real}
 use Rattle.cmap_tokens.specs.Tokens.{IsToken, Token}
-use Rattle.cmap_text.specs.TextFiles.{AreEntries, Item, Section, bf_char, bf_range, cids, closer, codespace_range, declared_by, entries, mapped, notdef, opener, other, range, single}
-use Rattle.cmap_text_writer.specs.Spelled.{closer_spelled, opener_spelled}
-use Rattle.cmap_text_writer.specs.Told.{Appends, IsOfSections, TellsEntries, TellsItems, TellsSections}
+use Rattle.cmap_text.specs.TextFiles.{AreEntries, CidKind, Extent, Item, Section, bf_char, bf_range, cids, closer, codespace_range, declared_by, declares_cid, entries, mapped, notdef, opener, other, range, single}
+use Rattle.cmap_text_writer.specs.Fits.{BeginsFitting, HasUnits, IsOfExtent, IsSmallCid, IsSmallText, IsSpaceFitting}
+use Rattle.cmap_text_writer.specs.Layout.{Block, block_spelled, char_spelled, chars, declared_in, declares, line_spelled, lines, section_spelled, spaces}
+use Rattle.cmap_text_writer.specs.Spelled.{cid_spelled, closer_spelled, opener_spelled, space_spelled}
+use Rattle.cmap_text_writer.specs.Told.{Appends, HasLines, IsOfSections, TellsAnyway, TellsEntries, TellsItems, TellsSections}
+use Rattle.cmap_text_writer.proofs.ArraysTold.{declared_texts, lines_told}
+use Rattle.cmap_text_writer.proofs.EntriesTold.{cids_told, spaces_told}
+use Rattle.cmap_text_writer.proofs.TextsTold.{HaveRoom, chars_told}
 use Rattle.cmap_text_writer.proofs.ItemsTold.{items_both, no_items, one_item, other_item}
 use Rattle.cmap_text_writer.proofs.StringsTold.{decimal_is_token, number_token}
 use Rattle.cmap_text_writer.proofs.TokensTold.{is_word, lined, spaced, tokens_both}
@@ -55,42 +60,84 @@ body_told section ds body h =
     ))
 
 -- with the count before it
-pub section_told : (section : Section) (ds : List Declaration) (count : ℕ) (body : List ℕ) → count < 2 ^ 63 → length ds ≤ 100 → TellsEntries section ds body → TellsSections ds (opener_spelled count section ++ (body ++ closer_spelled section))
-section_told section ds count body small few told =
+section_told : (lengths : ℕ → ℕ) (block : Block) (section : Section) (count : ℕ) (body : List ℕ) → count < 2 ^ 63 → length (declared_in block) ≤ 100 → TellsEntries section (declared_in block) body → opener_spelled count section ++ (body ++ closer_spelled section) ≡ block_spelled lengths block
+    → TellsSections lengths (declared_in block) (block_spelled lengths block)
+section_told lengths block section count body small few told same =
     let t = number_token count in
     let parts : (decimal count ++ 32 ∷ []) ++ ((opener section ++ 10 ∷ []) ++ (body ++ closer_spelled section)) ≡ opener_spelled count section ++ (body ++ closer_spelled section) = simp append_assoc in
-    let items = items_both (other t ∷ []) (entries ds ∷ []) _ _ (other_item t _ (spaced (decimal count) t (decimal_is_token count small)) refl refl refl) (body_told section ds body told) in
-    record { items = other t ∷ entries ds ∷ []; told = subst (TellsItems (other t ∷ entries ds ∷ [])) parts items; all = (tt, (few, tt)); flat = append-nil ds }
+    let items = items_both (other t ∷ []) (entries (declared_in block) ∷ []) _ _ (other_item t _ (spaced (decimal count) t (decimal_is_token count small)) refl refl refl) (body_told section (declared_in block) body told) in record {
+      items = other t ∷ entries (declared_in block) ∷ [];
+      told = subst (TellsItems (other t ∷ entries (declared_in block) ∷ [])) (parts ∙ same) items;
+      all = (tt, (few, tt));
+      flat = append-nil (declared_in block);
+      blocks = block ∷ [];
+      says = append-nil (declared_in block);
+      spelled = sym (append-nil (block_spelled lengths block));
+    }
 
-pub section_made : (section : Section) (ds : List Declaration) (count : ℕ) (old a b new : List ℕ) → count < 2 ^ 63 → length ds ≤ 100 → a ≡ old ++ opener_spelled count section → Appends a b (TellsEntries section ds) → new ≡ b ++ closer_spelled section → Appends old new (TellsSections ds)
-section_made section ds count old a b new small few first (body, second, told) third = (
-  opener_spelled count section ++ (body ++ closer_spelled section),
-  third ∙ ap (λ bs. bs ++ closer_spelled section) (second ∙ ap (λ bs. bs ++ body) first) ∙ simp append_assoc,
-  section_told section ds count body small few told,
-)
+pub space_section : (ss : List Codespace) → length ss ≤ 100 → All IsSpaceFitting ss → TellsAnyway (map Declaration.codespace ss) (section_spelled codespace_range space_spelled ss)
+space_section ss few fit = record { at = λ lengths. section_told lengths (spaces ss) codespace_range (length ss) (flat_map space_spelled ss) (omega (arith, few)) (omega (arith, length-map ss Declaration.codespace, few)) (spaces_told ss fit) refl }
+
+pub cid_section : (kind : CidKind) (extent : Extent) (len : ℕ) (es : List CidEntry) → length es ≤ 100 → All (BeginsFitting len) es → All IsSmallCid es → All (λ e. IsOfExtent extent e.start e.end) es → TellsAnyway (map (declares_cid kind len) es) (section_spelled (Section.cids kind extent) (cid_spelled len extent) es)
+cid_section kind extent len es few starts small extents = record {
+  at = λ lengths. section_told lengths (declares kind extent len es) (Section.cids kind extent) (length es) (flat_map (cid_spelled len extent) es) (omega (arith, few)) (omega (arith, length-map es (declares_cid kind len), few)) (cids_told kind len extent es starts small extents) refl;
+}
+
+pub char_section : (lengths : ℕ → ℕ) → HaveRoom lengths → (es : List BfEntry) → length es ≤ 100 → All HasUnits es → All IsSmallText es → All (λ e. IsOfExtent single e.start e.end) es → TellsSections lengths (map Declaration.bf es) (section_spelled bf_char (char_spelled lengths) es)
+char_section lengths room es few units small singles = section_told lengths (chars es) bf_char (length es) (flat_map (char_spelled lengths) es) (omega (arith, few)) (omega (arith, length-map es Declaration.bf, few)) (chars_told lengths room es units small singles) refl
+
+pub line_section : (lengths : ℕ → ℕ) → HaveRoom lengths → (es : List BfEntry) (count : ℕ) (body : List ℕ) → count < 2 ^ 63 → length es ≤ 100 → All HasUnits es → HasLines lengths es count [] body → TellsSections lengths (map Declaration.bf es) (opener_spelled count bf_range ++ (body ++ closer_spelled bf_range))
+line_section lengths room es count body small few units h =
+    let ls = h.each in
+    let texts = sym h.flat in
+    let same : declared_in (lines ls) ≡ map Declaration.bf es = declared_texts ls ∙ ap (map Declaration.bf) h.flat in
+    let spelled : opener_spelled count bf_range ++ (body ++ closer_spelled bf_range) ≡ block_spelled lengths (lines ls) = ap (λ n. opener_spelled n bf_range ++ (body ++ closer_spelled bf_range)) (sym h.counted) ∙ ap (λ bs. opener_spelled (length ls) bf_range ++ (bs ++ closer_spelled bf_range)) h.spelled in
+    let told = lines_told lengths room ls h.rows (subst (All HasUnits) texts units) (subst (All IsSmallText) texts h.small) in
+    let made = section_told lengths (lines ls) bf_range (length ls) (flat_map (λ l. line_spelled lengths (l.0 ∷ l.1)) ls) (omega (arith, h.counted, small)) (omega (arith, ap (λ (ds : List Declaration). length ds) same, length-map es Declaration.bf, few)) told refl in
+    subst (TellsSections lengths (map Declaration.bf es)) (sym spelled) (subst (λ ds. TellsSections lengths ds (block_spelled lengths (lines ls))) same made)
+
+-- an opener, a body and a closer that are appended
+pub appended_section : (section : Section) (count n : ℕ) (old a b new body : List ℕ) → count ≡ n → a ≡ old ++ opener_spelled count section → b ≡ a ++ body → new ≡ b ++ closer_spelled section → new ≡ old ++ (opener_spelled n section ++ (body ++ closer_spelled section))
+appended_section section count n old a b new body same first second third =
+    third ∙ ap (λ bs. bs ++ closer_spelled section) (second ∙ ap (λ bs. bs ++ body) (first ∙ ap (λ k. old ++ opener_spelled k section) same)) ∙ simp append_assoc
 
 -- ---- sections after others
 of_sections_both : (is js : List Item) → AllByRecursion IsOfSections is → AllByRecursion IsOfSections js → AllByRecursion IsOfSections (is ++ js)
 of_sections_both [] js all more = more
 of_sections_both (i ∷ is) js (first, later) more = (first, of_sections_both is js later more)
 
-pub no_sections : TellsSections [] []
-no_sections = record { items = []; told = no_items; all = tt; flat = refl }
+pub no_sections : (lengths : ℕ → ℕ) → TellsSections lengths [] []
+no_sections lengths = record { items = []; told = no_items; all = tt; flat = refl; blocks = []; says = refl; spelled = refl }
 
-pub sections_both : (ds es : List Declaration) (a b : List ℕ) → TellsSections ds a → TellsSections es b → TellsSections (ds ++ es) (a ++ b)
-sections_both ds es a b first second = let is = first.items in let js = second.items in record {
+pub no_sections_anyway : TellsAnyway [] []
+no_sections_anyway = record { at = no_sections }
+
+pub sections_both : (lengths : ℕ → ℕ) (ds es : List Declaration) (a b : List ℕ) → TellsSections lengths ds a → TellsSections lengths es b → TellsSections lengths (ds ++ es) (a ++ b)
+sections_both lengths ds es a b first second = let is = first.items in let js = second.items in record {
   items = is ++ js;
   told = items_both is js a b first.told second.told;
   all = of_sections_both is js first.all second.all;
   flat = flat_map-append declared_by is js ∙ ap (λ xs. xs ++ flat_map declared_by js) first.flat ∙ ap (λ xs. ds ++ xs) second.flat;
+  blocks = first.blocks ++ second.blocks;
+  says = flat_map-append declared_in first.blocks second.blocks ∙ ap (λ xs. xs ++ flat_map declared_in second.blocks) first.says ∙ ap (λ xs. ds ++ xs) second.says;
+  spelled = ap (λ bs. bs ++ b) first.spelled ∙ ap (λ bs. flat_map (block_spelled lengths) first.blocks ++ bs) second.spelled ∙ sym (flat_map-append (block_spelled lengths) first.blocks second.blocks);
 }
 
-pub sections_appended_both : (ds es : List Declaration) (old mid new : List ℕ) → Appends old mid (TellsSections ds) → Appends mid new (TellsSections es) → Appends old new (TellsSections (ds ++ es))
-sections_appended_both ds es old mid new (a, first, told) (b, second, told_too) = (a ++ b, second ∙ ap (λ bs. bs ++ b) first ∙ append_assoc old a b, sections_both ds es a b told told_too)
+pub sections_appended_both : (lengths : ℕ → ℕ) (ds es : List Declaration) (old mid new : List ℕ) → Appends old mid (TellsSections lengths ds) → Appends mid new (TellsSections lengths es) → Appends old new (TellsSections lengths (ds ++ es))
+sections_appended_both lengths ds es old mid new (a, first, told) (b, second, told_too) = (a ++ b, second ∙ ap (λ bs. bs ++ b) first ∙ append_assoc old a b, sections_both lengths ds es a b told told_too)
+
+pub anyway_appended_both : (ds es : List Declaration) (old mid new : List ℕ) → Appends old mid (TellsAnyway ds) → Appends mid new (TellsAnyway es) → Appends old new (TellsAnyway (ds ++ es))
+anyway_appended_both ds es old mid new (a, first, told) (b, second, told_too) = (a ++ b, second ∙ ap (λ bs. bs ++ b) first ∙ append_assoc old a b, record { at = λ lengths. sections_both lengths ds es a b (told.at lengths) (told_too.at lengths) })
+
+pub at_lengths : (lengths : ℕ → ℕ) (ds : List Declaration) (old new : List ℕ) → Appends old new (TellsAnyway ds) → Appends old new (TellsSections lengths ds)
+at_lengths lengths ds old new (bytes, is, told) = (bytes, is, told.at lengths)
 
 -- a list of which parts say parts
-pub sections_joined : {X : Type 0} (say : List X → List Declaration) → ((a b : List X) → say (a ++ b) ≡ say a ++ say b) → (a b : List X) (x y : List ℕ) → TellsSections (say a) x → TellsSections (say b) y → TellsSections (say (a ++ b)) (x ++ y)
-sections_joined say both a b x y first second = subst (λ ds. TellsSections ds (x ++ y)) (sym (both a b)) (sections_both (say a) (say b) x y first second)
+pub sections_joined : {X : Type 0} (lengths : ℕ → ℕ) (say : List X → List Declaration) → ((a b : List X) → say (a ++ b) ≡ say a ++ say b) → (a b : List X) (x y : List ℕ) → TellsSections lengths (say a) x → TellsSections lengths (say b) y → TellsSections lengths (say (a ++ b)) (x ++ y)
+sections_joined lengths say both a b x y first second = subst (λ ds. TellsSections lengths ds (x ++ y)) (sym (both a b)) (sections_both lengths (say a) (say b) x y first second)
+
+pub anyway_joined : {X : Type 0} (say : List X → List Declaration) → ((a b : List X) → say (a ++ b) ≡ say a ++ say b) → (a b : List X) (x y : List ℕ) → TellsAnyway (say a) x → TellsAnyway (say b) y → TellsAnyway (say (a ++ b)) (x ++ y)
+anyway_joined say both a b x y first second = record { at = λ lengths. sections_joined lengths say both a b x y (first.at lengths) (second.at lengths) }
 
 -- ---- a list, part by part
 module _ {X : Type 0} (Tells : List X → List ℕ → Type 0) where

@@ -1,21 +1,21 @@
 -- Entries of texts that are written, and what a reader finds in them.
-use Rattle.std.proofs.Common.{◌≡◌, ◌∙◌, ℕ, ◌^◌, ◌<◌, ◌≤◌, List, [], ◌∷◌, inl, get_or, length, map, refl, sym, subst, arith}
-use Rattle.std.specs.Prelude.{All}
+use Rattle.std.proofs.Common.{◌≡◌, ◌∙◌, ℕ, ◌^◌, ◌<◌, ◌≤◌, List, [], ◌∷◌, inl, map, refl, arith}
+use Rattle.std.specs.Prelude.{All, flat_map}
+use Rattle.std.proofs.lemmas.List.Elements.{All-head, All-tail}
 use Rattle.std.specs.Int.{bytes_high_first}
 use Rattle.cmap_values.specs.Files.{BfEntry, Declaration}
-use Rattle.cmap_values.specs.DeclarationsSeen.{bf_entry_seen}
-use Rattle.cmap_values.specs.declared.declarations.BfRange.{BfRange}
 use Rattle.cmap_values.specs.CodeLengths.{length_of}
-use Rattle.cmap_values.specs.UnitsSeen.{units_seen}
 use Rattle.cmap_values.specs.declared.code_length.CodeLength.{CodeLength}
 use Rattle.cmap_values.specs.declared.code_length.CodeLength.TheVariants.{One, Two, Three, Four}
-use Rattle.cmap_text.specs.TextFiles.{Extent, declares_bf, range, single}
-use Rattle.cmap_text_writer.specs.Fits.{Fits, HasUnits, IsOfExtent, TextFits}
+use Rattle.cmap_text.specs.TextFiles.{Extent, bf_char, declares_bf, range, single}
+use Rattle.cmap_text_writer.specs.Fits.{Fits, HasUnits, IsOfExtent, IsSmallText, TextFits}
+use Rattle.cmap_text_writer.specs.Layout.{char_spelled}
+use Rattle.cmap_text_writer.specs.Lengths.{length_around, text_length}
 use Rattle.cmap_text_writer.specs.Spelled.{end_length, hex_string, text_spelled}
-use Rattle.cmap_text_writer.specs.Told.{TellsEntry, text_section}
-use Rattle.cmap_text_writer.proofs.EntriesTold.{end_fits}
+use Rattle.cmap_text_writer.specs.declared.text_lengths.TextLengths.{TextLengths}
+use Rattle.cmap_text_writer.specs.Told.{TellsEntries, TellsEntry, text_section}
+use Rattle.cmap_text_writer.proofs.EntriesTold.{end_fits, entries_both, no_entries, one_entry}
 use Rattle.cmap_text_writer.proofs.StringsTold.{code_back, code_is_token, code_string, is_code, is_destination, units_is_token, units_string}
-use Rattle.cmap_text_writer.proofs.Walked.{all_at}
 use Rattle.cmap_text_writer.proofs.TokensTold.{lined, spaced, tokens_both}
 
 text_same : (e : BfEntry) (start end : ℕ) → start ≡ e.start → end ≡ e.end → Declaration.bf e ∷ [] ≡ declares_bf start end e.units ∷ []
@@ -52,19 +52,29 @@ text_told len range e first fits any =
       );
     }
 
-pub is_length : (len : CodeLength) → (1 ≤ length_of len) × (length_of len ≤ 4)
+is_length : (len : CodeLength) → (1 ≤ length_of len) × (length_of len ≤ 4)
 is_length One = (omega arith, omega arith)
 is_length Two = (omega arith, omega arith)
 is_length Three = (omega arith, omega arith)
 is_length Four = (omega arith, omega arith)
 
--- an entry of a list
-pub text_by : (len : CodeLength) (extent : Extent) (xs : List BfRange) (i : ℕ) (x : BfRange) → i < length xs → x ≡ get_or xs i x → All HasUnits (map bf_entry_seen xs) → All (λ e. IsOfExtent extent e.start e.end) (map bf_entry_seen xs)
-    → x.range.start < 2 ^ 32 → x.range.end < 2 ^ 32 → All (λ u. u < 2 ^ 16) (units_seen x.units)
-    → TellsEntry (text_section extent) (Declaration.bf (bf_entry_seen (get_or xs i x)) ∷ []) (text_spelled (end_length (length_of len) x.range.start) extent (bf_entry_seen x))
-text_by len extent xs i x within is units extents start end small =
-    let some = subst (λ y. HasUnits (bf_entry_seen y)) (sym is) (all_at HasUnits bf_entry_seen xs i x within units) in
-    let one = subst (λ y. IsOfExtent extent (bf_entry_seen y).start (bf_entry_seen y).end) (sym is) (all_at (λ e. IsOfExtent extent e.start e.end) bf_entry_seen xs i x within extents) in
-    let (many, few) = is_length len in
-    let told = text_told (end_length (length_of len) x.range.start) extent (bf_entry_seen x) (end_fits (length_of len) x.range.start many few start) (record { end = end; some = some; units = small }) one in
-    subst (λ y. TellsEntry (text_section extent) (Declaration.bf (bf_entry_seen y) ∷ []) (text_spelled (end_length (length_of len) x.range.start) extent (bf_entry_seen x))) is told
+around_is : (l : TextLengths) (code : ℕ) → (1 ≤ length_around l code) × (length_around l code ≤ 4)
+around_is l code = grind (arith, is_length l.other)
+
+pub fits_text : (e : BfEntry) → HasUnits e → IsSmallText e → TextFits e
+fits_text e some small = record { end = small.end; some = some; units = small.units }
+
+-- lengths with room for each code
+abbrev pub HaveRoom : (ℕ → ℕ) → Type 0
+HaveRoom lengths = (code : ℕ) → code < 2 ^ 32 → Fits (lengths code) code
+
+pub chars_told : (lengths : ℕ → ℕ) → HaveRoom lengths → (es : List BfEntry) → All HasUnits es → All IsSmallText es → All (λ e. IsOfExtent single e.start e.end) es → TellsEntries bf_char (map Declaration.bf es) (flat_map (char_spelled lengths) es)
+chars_told lengths room [] units small singles = no_entries bf_char
+chars_told lengths room (e ∷ es) units small singles =
+    let here = All-head IsSmallText e es small in
+    let first = text_told (lengths e.start) single e (room e.start here.start) (fits_text e (All-head HasUnits e es units) here) (All-head (λ e. IsOfExtent single e.start e.end) e es singles) in
+    entries_both bf_char (Declaration.bf e ∷ []) (map Declaration.bf es) (char_spelled lengths e) (flat_map (char_spelled lengths) es) (one_entry bf_char (Declaration.bf e ∷ []) (char_spelled lengths e) first)
+    (chars_told lengths room es (All-tail HasUnits e es units) (All-tail IsSmallText e es small) (All-tail (λ e. IsOfExtent single e.start e.end) e es singles))
+
+pub of_lengths : (lengths : TextLengths) → HaveRoom (text_length lengths)
+of_lengths l code small = let (some, few) = around_is l code in end_fits (length_around l code) code some few small

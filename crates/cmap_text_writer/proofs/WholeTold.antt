@@ -1,20 +1,28 @@
 -- A whole file.
+use Rattle.std.proofs.Math.Path.{fun_ext}
 use Rattle.std.proofs.Common.{◌≡◌, ◌∙◌, ℕ, Bool, true, inl, inr, length, List, [], ◌∷◌, ◌++◌, Some, None, refl, sym, ap, subst}
-use Rattle.std.specs.Prelude.{IfSome, Option, flat_map, nat_le}
+use Rattle.std.specs.Prelude.{All, IfSome, Option, flat_map, nat_le}
 use Rattle.std.specs.List.{AllByRecursion, list_all}
 use Rattle.std.proofs.lemmas.Bool.{and_from, and_parts, cases_Bool, le-leb}
-use Rattle.std.proofs.lemmas.List.{append-nil}
+use Rattle.std.proofs.lemmas.List.{append_assoc, append-nil}
+use Rattle.std.proofs.lemmas.List.Elements.{All-head, All-tail}
 use Rattle.cmap_values.specs.Files.{Collection, File, FileMetadata, Mode, lists_of}
 use Rattle.cmap_text.specs.TextFiles.{AreItems, IsTextFile, Item, declared_by, entries, key, other, use_of_base}
 use Rattle.cmap_tokens.specs.Tokens.{Token, Tokens}
-use Rattle.cmap_text_writer.specs.FileItems.{collection_items, file_items, footer_items, from_option, header_items, is_key, metadata_items, mode_items, name_items, use_items}
+use Rattle.cmap_text_writer.specs.FileItems.{collection_items, collection_text, comments_text, file_items, footer_items, footer_text, from_option, header_items, header_text, is_key, metadata_items, mode_items, mode_text, name_items, name_text, use_items, use_text}
 use Rattle.cmap_values.specs.ListsByKind.{declarations_of}
-use Rattle.cmap_text_writer.specs.Fits.{CollectionFits}
+use Rattle.cmap_text_writer.specs.Fits.{CollectionFits, IsName, IsSayable, IsSayableName}
+use Rattle.cmap_text_writer.specs.Layout.{IsLaidOut, front_text, is_to_unicode, metadata_text}
 use Rattle.cmap_text_writer.specs.Told.{Appends, IsOfSections, TellsItems, TellsSections}
 use Rattle.cmap_text_writer.specs.Written.{HasShortSections, IsWritten}
 use Rattle.cmap_values.proofs.KindsMade.{all_kinds}
 use Rattle.cmap_text_writer.proofs.FileTold.{declarations_are, names_are}
-use Rattle.cmap_text_writer.proofs.UsesTold.{items_appended_both}
+use Rattle.cmap_text_writer.proofs.HeaderTold.{comments_told, footer_told, header_told, type_number}
+use Rattle.cmap_text_writer.proofs.ItemsTold.{items_both, no_items}
+use Rattle.cmap_text_writer.proofs.MetadataTold.{collection_spelled, mode_told, name_told}
+use Rattle.cmap_text_writer.proofs.StringsTold.{supplement_is_token}
+use Rattle.cmap_text_writer.proofs.UsesTold.{name_used}
+use Rattle.cmap_text_writer.proofs.Walked.{joined}
 use Rattle.cmap_text_writer.proofs.ValuesTold.{metadata_told}
 
 -- items of a whole text
@@ -88,13 +96,64 @@ has_short : (type : ℕ) (m : FileMetadata) (uses : List (List ℕ)) (sections :
 unfolding is_short
 has_short type m uses sections text told all = let (tokens, here, are) = items_are (file_items type m uses sections) text told in (tokens, file_items type m uses sections, here, are, short_file type m uses sections all)
 
-pub whole_told : (type : ℕ) (file : File) (old a b c d new : List ℕ) → Appends old a (TellsItems (header_items type)) → Appends a b (TellsItems (flat_map use_items file.uses)) → Appends b c (TellsItems (metadata_items file.metadata)) → Appends c d (TellsSections (declarations_of file.lists)) → Appends d new (TellsItems footer_items)
-    → IfSome file.metadata.collection CollectionFits → Appends old new (IsWritten file)
-whole_told type file old a b c d new header uses metadata (bytes, bytes_are, h) footer fits =
-    let sections = h.items in
-    let last = items_appended_both sections footer_items c d new (bytes, bytes_are, h.told) footer in
-    let (text, is, whole) = items_appended_both (header_items type) _ old a new header (items_appended_both (flat_map use_items file.uses) _ a b new uses (items_appended_both (metadata_items file.metadata) _ b c new metadata last)) in
-    (text, is, record { is = file_is type file sections text whole h.all h.flat fits; short = has_short type file.metadata file.uses sections text whole h.all })
+-- ---- parts that are written
+uses_told : (names : List (List ℕ)) → All IsName names → TellsItems (flat_map use_items names) (flat_map use_text names)
+uses_told [] all = no_items
+uses_told (n ∷ names) all = items_both (use_items n) (flat_map use_items names) (use_text n) (flat_map use_text names) (name_used n (All-head IsName n names all)) (uses_told names (All-tail IsName n names all))
 
-pub written_alone : (file : File) (old new : List ℕ) → old ≡ [] → Appends old new (IsWritten file) → IsWritten file new
-written_alone file old new none (text, is, written) = subst (IsWritten file) (sym (is ∙ ap (λ bs. bs ++ text) none)) written
+collection_part : (c : Option Collection) → IfSome c CollectionFits → TellsItems (from_option collection_items c) (from_option collection_text c)
+collection_part None fits = no_items
+collection_part (Some c) fits = collection_spelled c fits (supplement_is_token c.supplement fits.supplement)
+
+name_part : (n : Option (List ℕ)) → IfSome n IsSayableName → TellsItems (from_option name_items n) (from_option name_text n)
+name_part None sayable = no_items
+name_part (Some n) sayable = name_told n sayable
+
+mode_part : (w : Option Mode) → TellsItems (from_option mode_items w) (from_option mode_text w)
+mode_part None = no_items
+mode_part (Some w) = mode_told w
+
+metadata_part : (m : FileMetadata) → IfSome m.collection CollectionFits → IfSome m.name IsSayableName → TellsItems (metadata_items m) (metadata_text m)
+metadata_part m fits sayable = items_both (from_option collection_items m.collection) (from_option name_items m.name ++ from_option mode_items m.mode) _ _ (collection_part m.collection fits) (items_both (from_option name_items m.name) (from_option mode_items m.mode) _ _ (name_part m.name sayable) (mode_part m.mode))
+
+-- ---- all of it
+whole_told : (lengths : ℕ → ℕ) (file : File) (body : List ℕ) → IsSayable file → IfSome file.metadata.collection CollectionFits → TellsSections lengths (declarations_of file.lists) body → IsWritten lengths file (front_text file ++ (body ++ footer_text))
+whole_told lengths file body sayable fits h =
+    let m = file.metadata in
+    let type = type_number (is_to_unicode file.lists) in
+    let sections = h.items in
+    let c = comments_text m.name in
+    let head = header_text (is_to_unicode file.lists) in
+    let uses = flat_map use_text file.uses in
+    let meta = metadata_text m in
+    let tail = body ++ footer_text in
+    let last = items_both sections footer_items body footer_text h.told footer_told in
+    let later = items_both (flat_map use_items file.uses) (metadata_items m ++ (sections ++ footer_items)) uses (meta ++ tail) (uses_told file.uses sayable.uses) (items_both (metadata_items m) (sections ++ footer_items) meta tail (metadata_part m fits sayable.name) last) in
+    let all = items_both [] (file_items type m file.uses sections) c (head ++ (uses ++ (meta ++ tail))) (comments_told m.name sayable.name) (items_both (header_items type) (flat_map use_items file.uses ++ (metadata_items m ++ (sections ++ footer_items))) head (uses ++ (meta ++ tail)) (header_told (is_to_unicode file.lists)) later) in
+    let told = subst (TellsItems (file_items type m file.uses sections)) (sym (parts_front c head uses meta tail)) all in record {
+      is = file_is type file sections (front_text file ++ tail) told h.all h.flat fits;
+      laid = record { blocks = h.blocks; declared = h.says; spelled = ap (λ bs. front_text file ++ (bs ++ footer_text)) h.spelled };
+      short = has_short type m file.uses sections (front_text file ++ tail) told h.all;
+    }
+  where
+    parts_front : (c head uses meta tail : List ℕ) → (c ++ (head ++ (uses ++ meta))) ++ tail ≡ c ++ (head ++ (uses ++ (meta ++ tail)))
+    parts_front c head uses meta tail = append_assoc c (head ++ (uses ++ meta)) tail ∙ ap (λ bs. c ++ bs) (append_assoc head (uses ++ meta) tail ∙ ap (λ bs. head ++ bs) (append_assoc uses meta tail))
+
+pub whole_appended : (lengths : ℕ → ℕ) (file : File) (type : Bool) (old o a b c d new : List ℕ) → type ≡ is_to_unicode file.lists → o ≡ old ++ comments_text file.metadata.name → a ≡ o ++ header_text type → b ≡ a ++ flat_map use_text file.uses → c ≡ b ++ metadata_text file.metadata
+    → Appends c d (TellsSections lengths (declarations_of file.lists)) → new ≡ d ++ footer_text → IsSayable file → IfSome file.metadata.collection CollectionFits → Appends old new (IsWritten lengths file)
+whole_appended lengths file type old o a b c d new same first second third fourth (body, fifth, told) last sayable fits =
+    let head = header_text type in
+    let uses = flat_map use_text file.uses in
+    let meta = metadata_text file.metadata in
+    let front : c ≡ old ++ (comments_text file.metadata.name ++ (head ++ (uses ++ meta))) = joined old o c (comments_text file.metadata.name) (head ++ (uses ++ meta)) first (joined o a c head (uses ++ meta) second (joined a b c uses meta third fourth)) in (
+      front_text file ++ (body ++ footer_text),
+      joined old c new (front_text file) (body ++ footer_text) (front ∙ ap (λ t. old ++ (comments_text file.metadata.name ++ (header_text t ++ (uses ++ meta)))) same) (joined c d new body footer_text fifth last),
+      whole_told lengths file body sayable fits told,
+    )
+
+pub written_alone : (lengths : ℕ → ℕ) (file : File) (old new : List ℕ) → old ≡ [] → Appends old new (IsWritten lengths file) → IsWritten lengths file new
+written_alone lengths file old new none (text, is, written) = subst (IsWritten lengths file) (sym (is ∙ ap (λ bs. bs ++ text) none)) written
+
+-- with lengths that are the same for each code
+pub same_lengths : (lengths others : ℕ → ℕ) (file : File) (text : List ℕ) → ((code : ℕ) → lengths code ≡ others code) → IsLaidOut lengths file text → IsLaidOut others file text
+same_lengths lengths others file text same laid = subst (λ f. IsLaidOut f file text) (fun_ext same) laid

@@ -68,7 +68,7 @@ abbrev pub mode_items : Mode → List Item
 mode_items mode = key (codes "WMode") (Some (number (mode_number mode))) ∷ word (codes "def") ∷ []
 
 -- what is said of a value that may be there
-abbrev pub from_option : {A : Type 0} → (A → List Item) → Option A → List Item
+abbrev pub from_option : {A B : Type 0} → (A → List B) → Option A → List B
 from_option say None = []
 from_option say (Some x) = say x
 

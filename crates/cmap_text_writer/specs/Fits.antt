@@ -74,6 +74,19 @@ pub record TextFits (e : BfEntry) : Type 0 where
   pub some : HasUnits e
   pub units : All (λ u. u < 2 ^ 16) e.units
 
+-- numbers of 32 bits, and units of 16
+pub record IsSmallCid (e : CidEntry) : Type 0 where
+  pub end : e.end < 2 ^ 32
+  pub cid : e.cid < 2 ^ 32
+
+abbrev pub AreSmallUnits : List ℕ → Type 0
+AreSmallUnits units = All (λ u. u < 2 ^ 16) units
+
+pub record IsSmallText (e : BfEntry) : Type 0 where
+  pub start : e.start < 2 ^ 32
+  pub end : e.end < 2 ^ 32
+  pub units : AreSmallUnits e.units
+
 -- a supplement that a reader takes
 abbrev pub IsSupplement : ℤ → Type 0
 IsSupplement n = supplement_in (Some (Token.Numeral (Integer n))) ≡ Some n

@@ -1,8 +1,10 @@
 -- Bytes that are written, and what a reader finds in them.
-use Rattle.std.specs.Prelude.{◌≡◌, ℕ, ◌≤◌, List, [], ◌∷◌, ◌++◌, false, codes, flat_map, length}
+use Rattle.std.specs.Prelude.{◌≡◌, ℕ, ◌≤◌, List, [], ◌∷◌, ◌++◌, All, false, codes, flat_map, length}
 use Rattle.std.specs.List.{AllByRecursion, AllZip}
-use Rattle.cmap_values.specs.Files.{Declaration}
+use Rattle.cmap_values.specs.Files.{BfEntry, Declaration}
 use Rattle.cmap_tokens.specs.Tokens.{Token, Tokens}
+use Rattle.cmap_text_writer.specs.Fits.{IsLine, IsSmallText}
+use Rattle.cmap_text_writer.specs.Layout.{Block, block_spelled, declared_in, line_spelled}
 use Rattle.cmap_text.specs.TextFiles.{AreEntries, AreItems, Extent, IsDestination, IsEntry, Item, Section, bf_char, bf_range, declared_by, entries, other, range, single}
 
 -- bytes of which this holds come after the old ones
@@ -56,9 +58,25 @@ IsOfSections (entries declared) = length declared ≤ 100
 IsOfSections (other (Token.Numeral n)) = Unit {0}
 IsOfSections _ = ⊥
 
--- sections that declare these, in order
-pub record TellsSections (declared : List Declaration) (bytes : List ℕ) : Type 0 where
+-- these lines come after the old bytes, and declare these texts
+pub record HasLines (lengths : ℕ → ℕ) (es : List BfEntry) (count : ℕ) (old new : List ℕ) : Type 0 where
+  pub each : List (BfEntry × List BfEntry)
+  pub counted : length each ≡ count
+  pub flat : flat_map (λ l. l.0 ∷ l.1) each ≡ es
+  pub rows : All (λ l. IsLine (l.0 ∷ l.1)) each
+  pub small : All IsSmallText es
+  pub spelled : new ≡ old ++ flat_map (λ l. line_spelled lengths (l.0 ∷ l.1)) each
+
+-- sections that declare these, in order, where codes of texts have so many bytes
+pub record TellsSections (lengths : ℕ → ℕ) (declared : List Declaration) (bytes : List ℕ) : Type 0 where
   pub items : List Item
   pub told : TellsItems items bytes
   pub all : AllByRecursion IsOfSections items
   pub flat : flat_map declared_by items ≡ declared
+  pub blocks : List Block
+  pub says : flat_map declared_in blocks ≡ declared
+  pub spelled : bytes ≡ flat_map (block_spelled lengths) blocks
+
+-- the same, however many bytes codes of texts have
+pub record TellsAnyway (declared : List Declaration) (bytes : List ℕ) : Type 0 where
+  pub at : (lengths : ℕ → ℕ) → TellsSections lengths declared bytes

@@ -2,9 +2,12 @@
 
 ghost use Rattle.std.specs.Prelude.{◌≡◌, ◌++◌, IfErr, IfOk, OnOk, option_map};
 ghost use Rattle.cmap_values.specs.FilesSeen.{file_seen};
+ghost use Rattle.cmap_values.specs.DeclarationsSeen.{by_length_seen, lists_seen};
 ghost use Rattle.cmap_text.specs.TextFiles.{IsTextFile};
 ghost use Rattle.cmap_values.specs.Outcomes.{RefusesWith};
 ghost use Rattle.cmap_text_writer.specs.Fits.{IsSayable};
+ghost use Rattle.cmap_text_writer.specs.Layout.{IsLaidOut, has_none, is_to_unicode};
+ghost use Rattle.cmap_text_writer.specs.Lengths.{length_by, text_length};
 ghost use Rattle.cmap_text_writer.specs.Obstacles.{IsObstacle, NoTextSays};
 ghost use Rattle.cmap_text_writer.specs.Written.{HasShortSections, IsWritten};
 ghost use Rattle.cmap_text_writer.specs.Told.{Appends};
@@ -26,6 +29,7 @@ use std::alloc::{AllocError, Global};
 /// It is refused with what no text can say.
 pub fn write_text(alloc: Global, file: &File<'_>) -> Result<Vec<u8>, Fault<Obstacle>>
     ensures written { IfOk result (λ text. IsTextFile text.items (file_seen file.now)) }
+    ensures laid { IfOk result (λ text. IsLaidOut (length_by (file_seen file.now).lists.spaces) (file_seen file.now) text.items) }
     ensures short { IfOk result (λ text. HasShortSections text.items) }
     ensures err { IfErr result (RefusesWith (IsObstacle (file_seen file.now))) }
     ensures none { IfErr result (RefusesWith (λ obstacle. NoTextSays (file_seen file.now))) }
@@ -40,36 +44,46 @@ pub fn write_text_by(
     lengths: TextLengths,
 ) -> Result<Vec<u8>, Fault<Obstacle>>
     ensures written { IfOk result (λ text. IsTextFile text.items (file_seen file.now)) }
+    ensures laid { IfOk result (λ text. IsLaidOut (text_length lengths) (file_seen file.now) text.items) }
     ensures short { IfOk result (λ text. HasShortSections text.items) }
     ensures err { IfErr result (RefusesWith (IsObstacle (file_seen file.now))) }
     ensures none { IfErr result (RefusesWith (λ obstacle. NoTextSays (file_seen file.now))) }
 {
     check_file(alloc, file)?;
     let mut out = Vec::new(alloc);
-    push_file(&mut out, file, lengths)?;
+    push_file(alloc, &mut out, file, lengths)?;
     Ok(out)
 }
 
 /// Writes a file.
-fn push_file(out: &mut Vec<u8>, file: &File<'_>, lengths: TextLengths) -> Result<(), AllocError>
+fn push_file(
+    alloc: Global,
+    out: &mut Vec<u8>,
+    file: &File<'_>,
+    lengths: TextLengths,
+) -> Result<(), AllocError>
     requires { IsSayable (file_seen file.now) }
-    ensures { OnOk result (Appends out.old.items out.new.items (IsWritten (file_seen file.now))) }
+    ensures { OnOk result (Appends out.old.items out.new.items (IsWritten (text_length lengths) (file_seen file.now))) }
 {
     push_comments(out, &file.metadata.name)?;
     push_header(out, is_to_unicode(&file.lists))?;
     push_uses(out, &file.uses)?;
     push_metadata(out, &file.metadata)?;
-    push_lists(out, &file.lists, lengths)?;
+    push_lists(alloc, out, &file.lists, lengths)?;
     push_footer(out)
 }
 
 /// Whether codes stand for Unicode texts alone, and not for CIDs.
-fn is_to_unicode(lists: &Lists) -> bool {
+fn is_to_unicode(lists: &Lists) -> bool
+    ensures { result ≡ is_to_unicode (lists_seen lists.now) }
+{
     !lists.bfs.is_empty() && has_none(&lists.cids) && has_none(&lists.notdefs)
 }
 
 /// Whether there is no declaration for codes of any length.
-fn has_none(lists: &ByLength<Vec<CidRange>>) -> bool {
+fn has_none(lists: &ByLength<Vec<CidRange>>) -> bool
+    ensures { result ≡ has_none (by_length_seen lists.now) }
+{
     lists.one.is_empty() && lists.two.is_empty() && lists.three.is_empty() && lists.four.is_empty()
 }
 

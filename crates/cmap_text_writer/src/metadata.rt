@@ -1,15 +1,15 @@
 //! The names that a file uses, and what it says of itself.
 
-ghost use Rattle.std.specs.Prelude.{◌≡◌, ◌++◌, All, IfSome, OnOk, flat_map, option_map};
+ghost use Rattle.std.specs.Prelude.{◌≡◌, ◌++◌, IfSome, OnOk, flat_map, option_map};
 ghost use Rattle.std.specs.Fmt.{signed_decimal};
 ghost use Rattle.std.specs.Int.{w32};
 ghost use Rattle.std.specs.Int.RustNames.{FitsSigned};
 ghost use Rattle.std.specs.List.{list_all};
 ghost use Rattle.cmap_values.specs.MetadataSeen.{collection_seen, metadata_seen, mode_seen};
 ghost use Rattle.cmap_values.specs.NamesSeen.{names_seen};
-ghost use Rattle.cmap_text_writer.specs.FileItems.{collection_items, collection_text, from_option, is_key, is_plain, metadata_items, mode_items, mode_text, name_items, name_text, string_spelled, use_items, use_text};
-ghost use Rattle.cmap_text_writer.specs.Fits.{AllBytes, CollectionFits, HasOwnFamily, IsName, IsSayableName, IsSupplement};
-ghost use Rattle.cmap_text_writer.specs.Told.{Appends, TellsItems};
+ghost use Rattle.cmap_text_writer.specs.FileItems.{collection_text, from_option, is_key, is_plain, mode_text, name_text, string_spelled, use_text};
+ghost use Rattle.cmap_text_writer.specs.Fits.{AllBytes, CollectionFits, HasOwnFamily, IsSupplement};
+ghost use Rattle.cmap_text_writer.specs.Layout.{metadata_text};
 
 use crate::digits::push_hex;
 use crate::names::is_name;
@@ -22,8 +22,7 @@ use std::alloc::AllocError;
 
 /// Writes the uses of names, in order.
 pub(crate) fn push_uses(out: &mut Vec<u8>, names: &[&[u8]]) -> Result<(), AllocError>
-    requires { All IsName (names_seen names.now) }
-    ensures { OnOk result (Appends out.old.items out.new.items (TellsItems (flat_map use_items (names_seen names.now)))) }
+    ensures { OnOk result (out.new.items ≡ out.old.items ++ flat_map use_text (names_seen names.now)) }
 {
     for name in names {
         push_use(out, *name)?;
@@ -46,9 +45,8 @@ fn push_use(out: &mut Vec<u8>, name: &[u8]) -> Result<(), AllocError>
 
 /// Writes each part of the metadata that is there.
 pub(crate) fn push_metadata(out: &mut Vec<u8>, metadata: &Metadata) -> Result<(), AllocError>
-    requires family { IfSome (metadata_seen metadata.now).collection HasOwnFamily }
-    requires name { IfSome (metadata_seen metadata.now).name IsSayableName }
-    ensures written { OnOk result (Appends out.old.items out.new.items (TellsItems (metadata_items (metadata_seen metadata.now)))) }
+    requires { IfSome (metadata_seen metadata.now).collection HasOwnFamily }
+    ensures written { OnOk result (out.new.items ≡ out.old.items ++ metadata_text (metadata_seen metadata.now)) }
     ensures fits { OnOk result (IfSome (metadata_seen metadata.now).collection CollectionFits) }
 {
     push_collection(out, &metadata.character_collection)?;
@@ -62,8 +60,7 @@ fn push_collection(
     collection: &Option<CharacterCollection>,
 ) -> Result<(), AllocError>
     requires { IfSome (option_map collection_seen collection.now) HasOwnFamily }
-    ensures written { OnOk result (Appends out.old.items out.new.items
-        (TellsItems (from_option collection_items (option_map collection_seen collection.now)))) }
+    ensures written { OnOk result (out.new.items ≡ out.old.items ++ from_option collection_text (option_map collection_seen collection.now)) }
     ensures fits { OnOk result (IfSome (option_map collection_seen collection.now) CollectionFits) }
 {
     match collection {
@@ -135,9 +132,7 @@ fn push_signed(out: &mut Vec<u8>, number: i32) -> Result<(), AllocError>
 
 /// Writes the name of a file.
 fn push_name(out: &mut Vec<u8>, name: &Option<Vec<u8>>) -> Result<(), AllocError>
-    requires { IfSome (option_map (λ name. name.items) name.now) IsSayableName }
-    ensures { OnOk result (Appends out.old.items out.new.items
-        (TellsItems (from_option name_items (option_map (λ name. name.items) name.now)))) }
+    ensures { OnOk result (out.new.items ≡ out.old.items ++ from_option name_text (option_map (λ name. name.items) name.now)) }
 {
     match name {
         Some(name) => push_name_key(out, name),
@@ -159,8 +154,7 @@ fn push_name_key(out: &mut Vec<u8>, name: &[u8]) -> Result<(), AllocError>
 
 /// Writes a writing mode.
 fn push_mode(out: &mut Vec<u8>, mode: Option<WritingMode>) -> Result<(), AllocError>
-    ensures { OnOk result (Appends out.old.items out.new.items
-        (TellsItems (from_option mode_items (option_map mode_seen mode)))) }
+    ensures { OnOk result (out.new.items ≡ out.old.items ++ from_option mode_text (option_map mode_seen mode)) }
 {
     match mode {
         Some(mode) => push_mode_key(out, mode),

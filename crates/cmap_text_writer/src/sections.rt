@@ -6,18 +6,21 @@ ghost use Rattle.cmap_values.specs.Files.{Declaration};
 ghost use Rattle.cmap_text.specs.TextFiles as files;
 ghost use Rattle.cmap_values.specs.CodeLengths.{length_of};
 ghost use Rattle.cmap_text_writer.specs.Fits.{BeginsFitting, HasUnits, IsOfExtent, IsSpaceFitting};
+ghost use Rattle.cmap_text_writer.specs.Lengths.{text_length};
 ghost use Rattle.cmap_text.specs.TextSeen.{extent_seen, kind_seen, section_seen};
 ghost use Rattle.cmap_text_writer.specs.Spelled.{closer_spelled, opener_spelled};
-ghost use Rattle.cmap_text_writer.specs.Told.{Appends, TellsSections, text_section};
+ghost use Rattle.cmap_text_writer.specs.Told.{Appends, TellsAnyway, TellsSections};
 
 use crate::digits::push_number;
-use crate::entries::{push_cid_entries, push_spaces, push_text_entries};
-use crate::runs::count_lines;
+use crate::entries::{push_chars, push_cid_entries, push_lines, push_spaces};
 use crate::text_lengths::TextLengths;
 use cmap_text::{CidKind, Extent, Section};
 use cmap_values::code_length::CodeLength;
 use cmap_values::declarations::{BfRange, CidRange, Codespace};
-use std::alloc::AllocError;
+use std::alloc::{AllocError, Global};
+
+/// How many bytes most lines have room in.
+const ROOM: usize = 16;
 
 /// Writes the count of a section and the name that opens it.
 fn push_opener(out: &mut Vec<u8>, count: u32, section: Section) -> Result<(), AllocError>
@@ -41,7 +44,7 @@ pub(crate) fn push_space_section(out: &mut Vec<u8>, spaces: &[Codespace]) -> Res
     requires few { length spaces.now ≤ 100 }
     requires fit { All IsSpaceFitting (map codespace_seen spaces.now) }
     ensures { OnOk result (Appends out.old.items out.new.items
-        (TellsSections (map Declaration.codespace (map codespace_seen spaces.now)))) }
+        (TellsAnyway (map Declaration.codespace (map codespace_seen spaces.now)))) }
 {
     push_opener(out, spaces.len() as u32, Section::Codespaces)?;
     push_spaces(out, spaces)?;
@@ -60,7 +63,7 @@ pub(crate) fn push_cid_section(
     requires start { All (BeginsFitting (length_of len)) (entries_seen entries.now) }
     requires extent { All (λ e. IsOfExtent (extent_seen extent) e.start e.end) (entries_seen entries.now) }
     ensures { OnOk result (Appends out.old.items out.new.items
-        (TellsSections (map (files.declares_cid (kind_seen kind) (length_of len)) (entries_seen entries.now)))) }
+        (TellsAnyway (map (files.declares_cid (kind_seen kind) (length_of len)) (entries_seen entries.now)))) }
 {
     let section = Section::Cids(kind, extent);
     push_opener(out, entries.len() as u32, section)?;
@@ -68,29 +71,9 @@ pub(crate) fn push_cid_section(
     push_closer(out, section)
 }
 
-/// The kind of sections for texts.
-fn text_section(extent: Extent) -> Section
-    ensures { section_seen result ≡ text_section (extent_seen extent) }
-{
-    match extent {
-        Extent::Range => Section::BfRange,
-        Extent::Single => Section::BfChar,
-    }
-}
-
-/// How many entries these texts are in a section.
-fn count_entries(extent: Extent, entries: &[BfRange]) -> u32
-    requires { length entries.now ≤ 100 }
-    ensures { result ≤ 100 }
-{
-    match extent {
-        Extent::Range => count_lines(entries) as u32,
-        Extent::Single => entries.len() as u32,
-    }
-}
-
 /// Writes a section of texts.
 pub(crate) fn push_text_section(
+    alloc: Global,
     out: &mut Vec<u8>,
     lengths: TextLengths,
     extent: Extent,
@@ -100,10 +83,46 @@ pub(crate) fn push_text_section(
     requires units { All HasUnits (map bf_entry_seen entries.now) }
     requires extent { All (λ e. IsOfExtent (extent_seen extent) e.start e.end) (map bf_entry_seen entries.now) }
     ensures { OnOk result (Appends out.old.items out.new.items
-        (TellsSections (map Declaration.bf (map bf_entry_seen entries.now)))) }
+        (TellsSections (text_length lengths) (map Declaration.bf (map bf_entry_seen entries.now)))) }
 {
-    let section = text_section(extent);
-    push_opener(out, count_entries(extent, entries), section)?;
-    push_text_entries(out, lengths, extent, entries)?;
-    push_closer(out, section)
+    match extent {
+        Extent::Single => push_char_section(out, lengths, entries),
+        Extent::Range => push_line_section(alloc, out, lengths, entries),
+    }
+}
+
+/// Writes a section of texts of single codes.
+fn push_char_section(
+    out: &mut Vec<u8>,
+    lengths: TextLengths,
+    entries: &[BfRange],
+) -> Result<(), AllocError>
+    requires few { length entries.now ≤ 100 }
+    requires units { All HasUnits (map bf_entry_seen entries.now) }
+    requires single { All (λ e. IsOfExtent files.single e.start e.end) (map bf_entry_seen entries.now) }
+    ensures { OnOk result (Appends out.old.items out.new.items
+        (TellsSections (text_length lengths) (map Declaration.bf (map bf_entry_seen entries.now)))) }
+{
+    push_opener(out, entries.len() as u32, Section::BfChar)?;
+    push_chars(out, lengths, entries)?;
+    push_closer(out, Section::BfChar)
+}
+
+/// Writes a section of texts of ranges and arrays of texts. How many these are stands before them.
+fn push_line_section(
+    alloc: Global,
+    out: &mut Vec<u8>,
+    lengths: TextLengths,
+    entries: &[BfRange],
+) -> Result<(), AllocError>
+    requires few { length entries.now ≤ 100 }
+    requires units { All HasUnits (map bf_entry_seen entries.now) }
+    ensures { OnOk result (Appends out.old.items out.new.items
+        (TellsSections (text_length lengths) (map Declaration.bf (map bf_entry_seen entries.now)))) }
+{
+    let mut lines = Vec::with_capacity(alloc, ROOM * entries.len())?;
+    let count = push_lines(&mut lines, lengths, entries)?;
+    push_opener(out, count, Section::BfRange)?;
+    out.extend_from_slice(&lines)?;
+    push_closer(out, Section::BfRange)
 }

@@ -1,5 +1,14 @@
 //! How many bytes the codes of texts are written with, which a file doesn't keep.
 
+ghost use Rattle.std.specs.Prelude.{◌≡◌, ℕ, List, [], ◌∷◌, ◌++◌, map, max, min};
+ghost use Rattle.cmap_values.specs.CodeLengths.{length_of};
+ghost use Rattle.cmap_values.specs.declared.code_length.CodeLength.{CodeLength};
+ghost use Rattle.cmap_values.specs.Files as files;
+ghost use Rattle.cmap_values.specs.DeclarationsSeen.{codespace_seen};
+ghost use Rattle.cmap_text_writer.specs.Lengths.{AreBounds, is_within, length_around, length_by, text_length};
+ghost use Rattle.cmap_text_writer.specs.Spelled.{end_length};
+
+use crate::digits::fitting;
 use cmap_runs::runs::Range;
 use cmap_values::code_length::CodeLength;
 use cmap_values::declarations::Codespace;
@@ -24,32 +33,61 @@ pub struct TextLengths {
 
 impl TextLengths {
     /// This length.
-    pub fn same(len: CodeLength) -> TextLengths {
+    pub fn same(len: CodeLength) -> TextLengths
+        ensures { (code : ℕ) → text_length result code ≡ end_length (length_of len) code }
+    {
+        TextLengths::outside(len)
+    }
+
+    /// The least length of which codespace ranges have codes around the code, and two bytes where none has.
+    pub fn by(spaces: &[Codespace]) -> TextLengths
+        ensures { (code : ℕ) → text_length result code ≡ length_by (map codespace_seen spaces.now) code }
+    {
+        let mut lengths = TextLengths::outside(CodeLength::Two);
+        for space in spaces {
+            lengths = lengths.widened(*space);
+        }
+        lengths
+    }
+
+    /// Lengths without codespace ranges.
+    fn outside(other: CodeLength) -> TextLengths
+        ensures { AreBounds result other [] }
+    {
         TextLengths {
             one: NONE,
             two: NONE,
             three: NONE,
             four: NONE,
-            other: len,
+            other,
         }
     }
 
-    /// The least length of which codespace ranges have codes around the code, and two bytes where none has.
-    pub fn by(spaces: &[Codespace]) -> TextLengths {
-        let mut lengths = TextLengths::same(CodeLength::Two);
-        for space in spaces {
-            match space.len {
-                CodeLength::One => lengths.one = widened(lengths.one, *space),
-                CodeLength::Two => lengths.two = widened(lengths.two, *space),
-                CodeLength::Three => lengths.three = widened(lengths.three, *space),
-                CodeLength::Four => lengths.four = widened(lengths.four, *space),
-            }
+    /// The lengths with one more codespace range.
+    fn widened(self, space: Codespace) -> TextLengths
+        ensures { (other : CodeLength) → (ss : List files.Codespace) → AreBounds self other ss → AreBounds result other (ss ++ codespace_seen space ∷ []) }
+    {
+        let mut lengths = self;
+        match space.len {
+            CodeLength::One => lengths.one = widened(self.one, space),
+            CodeLength::Two => lengths.two = widened(self.two, space),
+            CodeLength::Three => lengths.three = widened(self.three, space),
+            CodeLength::Four => lengths.four = widened(self.four, space),
         }
         lengths
     }
 
     /// The length of a code.
-    pub(crate) fn of(self, code: u32) -> CodeLength {
+    pub(crate) fn of(self, code: u32) -> CodeLength
+        ensures { length_of result ≡ text_length self code }
+    {
+        fitting(self.around(code), code)
+    }
+
+    /// The length of which codespace ranges have codes around a code.
+    fn around(self, code: u32) -> CodeLength
+        ensures { length_of result ≡ length_around self code }
+    {
         if contains(self.one, code) {
             CodeLength::One
         } else if contains(self.two, code) {
@@ -65,7 +103,10 @@ impl TextLengths {
 }
 
 /// The range with the codes of a codespace range.
-fn widened(range: Range, space: Codespace) -> Range {
+fn widened(range: Range, space: Codespace) -> Range
+    ensures start { result.start ≡ min range.start space.low }
+    ensures end { result.end ≡ max range.end space.high }
+{
     Range {
         start: range.start.min(space.low),
         end: range.end.max(space.high),
@@ -73,6 +114,8 @@ fn widened(range: Range, space: Codespace) -> Range {
 }
 
 /// Whether a range has a code.
-fn contains(range: Range, code: u32) -> bool {
+fn contains(range: Range, code: u32) -> bool
+    ensures { result ≡ is_within range code }
+{
     range.start <= code && code <= range.end
 }

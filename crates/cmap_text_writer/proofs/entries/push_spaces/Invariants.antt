@@ -1,9 +1,8 @@
-use Rattle.std.proofs.Common.{map, take}
+use Rattle.std.proofs.Common.{◌≡◌, ◌++◌, map, take}
+use Rattle.std.specs.Prelude.{flat_map}
 use Rattle.cmap_values.specs.DeclarationsSeen.{codespace_seen}
-use Rattle.cmap_values.specs.Files.{Declaration}
-use Rattle.cmap_text.specs.TextFiles.{codespace_range}
-use Rattle.cmap_text_writer.specs.Told.{Appends, TellsEntries}
+use Rattle.cmap_text_writer.specs.Spelled.{space_spelled}
 use Rattle.cmap_text_writer.proofs.entries.push_spaces.Given as goal
 
 abbrev pub invariant-loop-space : goal.invariant-loop-space
-invariant-loop-space l = Appends l.initial.out.items l.out.items (TellsEntries codespace_range (map Declaration.codespace (map codespace_seen (take l.space-index l.spaces))))
+invariant-loop-space l = l.out.items ≡ l.initial.out.items ++ flat_map space_spelled (map codespace_seen (take l.space-index l.spaces))

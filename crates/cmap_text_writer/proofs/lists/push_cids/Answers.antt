@@ -8,24 +8,27 @@ use Rattle.cmap_text.specs.TextFiles.{declares_cid}
 use Rattle.cmap_values.specs.CodeLengths.{length_of}
 use Rattle.cmap_text_writer.specs.Fits.{BeginsFitting, IsOfExtent}
 use Rattle.cmap_text.specs.TextSeen.{extent_seen, kind_seen}
-use Rattle.cmap_text_writer.specs.Told.{TellsSections}
-use Rattle.cmap_text_writer.proofs.SectionsTold.{done_more, sections_joined}
+use Rattle.cmap_text_writer.specs.Told.{TellsAnyway}
+use Rattle.cmap_text_writer.proofs.SectionsTold.{anyway_joined, done_more, done_none, no_sections_anyway}
 use Rattle.cmap_text_writer.proofs.Walked.{all_here}
 use Rattle.cmap_text_writer.proofs.lists.push_cids.Goals as goal
+
+pub loop-left-init : goal.loop-left-init
+loop-left-init c = done_none (λ (xs : List CidRange). TellsAnyway (map (declares_cid (kind_seen c.args.kind) (length_of c.args.len)) (entries_seen xs))) no_sections_anyway _ _
 
 pub push_cid_section-requires-clause-start : goal.push_cid_section-requires-clause-start
 push_cid_section-requires-clause-start c =
     let left = c.loop-left.left.now in
     let here = c.split_at.result.0.now in
     let later = c.split_at.result.1.now in
-    let count = c.next_section-extent.result.1 in
+    let count = c.next_cid_section-extent.result.1 in
     let cut : left ≡ here ++ later = sym (take-append-drop count left) ∙ ap (λ xs. xs ++ drop count left) (sym c.split_at.ensures.front) ∙ ap (λ xs. here ++ xs) (sym c.split_at.ensures.back) in
     all_here (BeginsFitting (length_of c.args.len)) cid_entry_seen c.args.entries.now c.loop-left.invariant.done left here later c.loop-left.invariant.parts cut c.requires
 
 pub push_cid_section-requires-clause-extent : goal.push_cid_section-requires-clause-extent
 push_cid_section-requires-clause-extent c =
-    let extent = extent_seen c.next_section-extent.result.0 in
-    All-map (λ e. IsOfExtent extent e.start e.end) cid_entry_seen c.split_at.result.0.now (subst (All (λ (e : CidRange). IsOfExtent extent e.range.start e.range.end)) (sym c.split_at.ensures.front) c.next_section-extent.ensures.all)
+    let extent = extent_seen c.next_cid_section-extent.result.0 in
+    All-map (λ e. IsOfExtent extent e.start e.end) cid_entry_seen c.split_at.result.0.now (subst (All (λ (e : CidRange). IsOfExtent extent e.range.start e.range.end)) (sym c.split_at.ensures.front) c.next_cid_section-extent.ensures.all)
 
 pub loop-left-preserved : goal.loop-left-preserved
 loop-left-preserved c =
@@ -33,6 +36,6 @@ loop-left-preserved c =
     let left = c.loop-left.left.now in
     let here = c.split_at.result.0.now in
     let later = c.split_at.result.1.now in
-    let count = c.next_section-extent.result.1 in
+    let count = c.next_cid_section-extent.result.1 in
     let cut : left ≡ here ++ later = sym (take-append-drop count left) ∙ ap (λ xs. xs ++ drop count left) (sym c.split_at.ensures.front) ∙ ap (λ xs. here ++ xs) (sym c.split_at.ensures.back) in
-    done_more (λ (xs : List CidRange). TellsSections (map say (entries_seen xs))) (sections_joined (λ (xs : List CidRange). map say (entries_seen xs)) (λ a b. ap (map say) (map-append cid_entry_seen a b) ∙ map-append say (entries_seen a) (entries_seen b))) c.args.entries.now left here later c.args.out.now.items c.loop-left.out.items c.push_cid_section.new.out.items c.loop-left.invariant cut c.in_ok-push_cid_section.ensures
+    done_more (λ (xs : List CidRange). TellsAnyway (map say (entries_seen xs))) (anyway_joined (λ (xs : List CidRange). map say (entries_seen xs)) (λ a b. ap (map say) (map-append cid_entry_seen a b) ∙ map-append say (entries_seen a) (entries_seen b))) c.args.entries.now left here later c.args.out.now.items c.loop-left.out.items c.push_cid_section.new.out.items c.loop-left.invariant cut c.in_ok-push_cid_section.ensures

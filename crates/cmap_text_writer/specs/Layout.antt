@@ -1,0 +1,74 @@
+-- How a file is laid out as text: each byte, but for where sections end and which texts stand in arrays.
+use Rattle.std.specs.Prelude.{◌≡◌, ℕ, ◌+◌, ◌==◌, ◌&&◌, Bool, not, List, [], ◌∷◌, ◌++◌, codes, flat_map, length, map}
+use Rattle.cmap_values.specs.Files.{BfEntry, ByLength, CidEntry, Codespace, Declaration, File, FileMetadata, Lists}
+use Rattle.cmap_values.specs.ListsByKind.{declarations_of}
+use Rattle.cmap_tokens.specs.Ascii.{space}
+use Rattle.cmap_text.specs.TextFiles.{CidKind, Extent, Section, bf_char, bf_range, codespace_range, declares_cid, range, single}
+use Rattle.cmap_text_writer.specs.FileItems.{collection_text, comments_text, footer_text, from_option, header_text, mode_text, name_text, use_text}
+use Rattle.cmap_text_writer.specs.Spelled.{cid_spelled, closer_spelled, codes_spelled, opener_spelled, space_spelled, text_spelled, units_spelled}
+
+-- ---- lines
+-- a text, by how many bytes its code has
+abbrev pub char_spelled : (ℕ → ℕ) → BfEntry → List ℕ
+char_spelled lengths e = text_spelled (lengths e.start) single e
+
+abbrev pub next_text_spelled : List ℕ → List ℕ
+next_text_spelled units = space ∷ units_spelled units
+
+abbrev pub array_spelled : List (List ℕ) → List ℕ
+array_spelled [] = []
+array_spelled (text ∷ texts) = codes "[" ++ (units_spelled text ++ (flat_map next_text_spelled texts ++ codes "]\n"))
+
+-- a text of a range, or an array of texts for codes from the first one on
+abbrev pub line_spelled : (ℕ → ℕ) → List BfEntry → List ℕ
+line_spelled lengths [] = []
+line_spelled lengths (e ∷ []) = text_spelled (lengths e.start) range e
+line_spelled lengths (e ∷ f ∷ es) = codes_spelled (lengths e.start) e.start (e.start + length (f ∷ es)) range ++ array_spelled (map (λ x. x.units) (e ∷ f ∷ es))
+
+-- ---- sections
+-- a section of a text, by its lines
+pub data Block : Type 0 where
+  spaces : List Codespace → Block
+  -- with how many bytes the codes have
+  declares : CidKind → Extent → ℕ → List CidEntry → Block
+  chars : List BfEntry → Block
+  -- what the texts of each line are: the first, and the others of an array
+  lines : List (BfEntry × List BfEntry) → Block
+
+abbrev pub declared_in : Block → List Declaration
+declared_in (spaces ss) = map Declaration.codespace ss
+declared_in (declares kind extent len es) = map (declares_cid kind len) es
+declared_in (chars es) = map Declaration.bf es
+declared_in (lines ls) = flat_map (λ l. map Declaration.bf (l.0 ∷ l.1)) ls
+
+-- the number of its lines, its first word, its lines and its last word
+abbrev pub section_spelled : {X : Type 0} → Section → (X → List ℕ) → List X → List ℕ
+section_spelled section line xs = opener_spelled (length xs) section ++ (flat_map line xs ++ closer_spelled section)
+
+-- by how many bytes the codes of texts have
+abbrev pub block_spelled : (ℕ → ℕ) → Block → List ℕ
+block_spelled lengths (spaces ss) = section_spelled codespace_range space_spelled ss
+block_spelled lengths (declares kind extent len es) = section_spelled (Section.cids kind extent) (cid_spelled len extent) es
+block_spelled lengths (chars es) = section_spelled bf_char (char_spelled lengths) es
+block_spelled lengths (lines ls) = section_spelled bf_range (λ l. line_spelled lengths (l.0 ∷ l.1)) ls
+
+-- ---- a file
+abbrev pub metadata_text : FileMetadata → List ℕ
+metadata_text m = from_option collection_text m.collection ++ (from_option name_text m.name ++ from_option mode_text m.mode)
+
+abbrev pub has_none : ByLength → Bool
+has_none lists = length lists.one == 0 && length lists.two == 0 && length lists.three == 0 && length lists.four == 0
+
+-- codes have texts alone, and no CIDs
+abbrev pub is_to_unicode : Lists → Bool
+is_to_unicode lists = not (length lists.bfs == 0) && has_none lists.cids && has_none lists.notdefs
+
+-- what stands before the sections
+abbrev pub front_text : File → List ℕ
+front_text file = comments_text file.metadata.name ++ (header_text (is_to_unicode file.lists) ++ (flat_map use_text file.uses ++ metadata_text file.metadata))
+
+-- the text says the file in these sections, where codes of texts have so many bytes
+pub record IsLaidOut (lengths : ℕ → ℕ) (file : File) (text : List ℕ) : Type 0 where
+  pub blocks : List Block
+  pub declared : flat_map declared_in blocks ≡ declarations_of file.lists
+  pub spelled : text ≡ front_text file ++ (flat_map (block_spelled lengths) blocks ++ footer_text)
