@@ -10,11 +10,10 @@ use Rattle.cmap_runs.specs.Stretches.{IsStretch}
 use Rattle.cmap_runs.specs.declared.runs.Range.{Range}
 use Rattle.cmap_values.specs.Files.{CidEntry}
 use Rattle.cmap_layers.specs.Layers.{Layer}
-use Rattle.cmap_layers.specs.declared.stretches.CidStretch.{CidStretch}
 use Rattle.cmap_unicode.specs.Cids.{declared_cid}
 use Rattle.cmap_tidy.specs.Tidy.{AreTidyCids, AreTidyNotdefs}
 use Rattle.cmap_flatten.specs.Chosen.{Chosen, codes_span}
-use Rattle.cmap_flatten.specs.Parts.{AreDeclared, AreDeclaredBelow, IsAdded, IsDeclaredStretch, said, wanted}
+use Rattle.cmap_flatten.specs.Parts.{AreDeclared, AreDeclaredBelow, IsAdded, said, wanted}
 use Rattle.cmap_flatten.specs.declared.codes.Codes.{Codes}
 use Rattle.cmap_flatten.proofs.ListsAdded.{none_added}
 
@@ -42,19 +41,19 @@ module _ (layers : List Layer) (len : ℕ) (table : List Codes) (first last : �
     codes = λ code lt.
         elim (cases_lt code first) [
           | inl old ↦ before.codes code old
-          | inr new ↦ same.here code new (omega arith) ∙ sym (wanted_of table code (declared_cid layers code len) None (none code new (omega arith)))
+          | inr new ↦ same.here code new lt ∙ sym (wanted_of table code (declared_cid layers code len) None (none code new (omega arith)))
         ];
   }
 
   -- it has all of them, and they were added
-  pub added : (stretch : CidStretch) (part : ℕ) (found : Option Codes) (new_cids new_notdefs : List CidEntry) → IsSome found → IsStretch codes_span table first part found → last ≤ part → last ≤ stretch.last → IsDeclaredStretch layers len first stretch
-      → IsAdded cids notdefs (record { start = first; end = last }) stretch.cids new_cids new_notdefs → AreDeclaredBelow layers len table (last + 1) new_cids new_notdefs
-  added stretch part found new_cids new_notdefs some has in_part in_stretch declared now = record {
+  pub added : (found : Option Codes) (new_cids new_notdefs : List CidEntry) → IsSome found → IsStretch codes_span table first last found
+      → IsAdded cids notdefs first (last + 1) (λ code. declared_cid layers code len) new_cids new_notdefs → AreDeclaredBelow layers len table (last + 1) new_cids new_notdefs
+  added found new_cids new_notdefs some has now = record {
     room = now.room;
     codes = λ code lt.
         elim (cases_lt code first) [
           | inl old ↦ now.below code old ∙ before.codes code old
-          | inr new ↦ now.here code new (omega arith) ∙ sym (declared.cids code new (omega arith)) ∙ sym (wanted_some table code (declared_cid layers code len) found some (has code new (omega arith)))
+          | inr new ↦ now.here code new lt ∙ sym (wanted_some table code (declared_cid layers code len) found some (has code new (omega arith)))
         ];
   }
 

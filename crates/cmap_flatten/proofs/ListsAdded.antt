@@ -1,14 +1,13 @@
 -- What two lists declare for a code, after one more declaration.
-use Rattle.std.proofs.Common.{◌≡◌, ℕ, ◌+◌, ◌-◌, ◌<◌, ◌≤◌, List, Option, Some, None, Ok, Err, refl, ap, ◌∙◌, subst, arith}
+use Rattle.std.proofs.Common.{◌≡◌, ℕ, ◌+◌, ◌-◌, ◌<◌, ◌≤◌, List, Option, Some, None, Ok, Err, inl, inr, refl, sym, ap, ◌∙◌, subst, arith}
 use Rattle.std.specs.Prelude.{All, OnOk, Result, IsSome, option_map, unwrap_or}
 use Rattle.std.specs.Option.{option_or}
-use Rattle.std.proofs.lemmas.Bool.{and_from, and_parts, cond-false, cond-true, false_from_ne_true, le-leb, leb-true}
+use Rattle.std.proofs.lemmas.Bool.{and_from, and_parts, cases_lt, cond-false, cond-true, false_from_ne_true, le-leb, leb-true}
 use Rattle.std.proofs.lemmas.List.Elements.{All-weaker}
 use Rattle.cmap_runs.specs.Ranges.{Span, last_of}
 use Rattle.cmap_runs.specs.declared.runs.Range.{Range}
 use Rattle.cmap_values.specs.Files.{CidEntry}
 use Rattle.cmap_layers.specs.Lookups.{cid_at, cid_span}
-use Rattle.cmap_layers.specs.declared.stretches.Cids.TheVariants.{Absent, Same, CountOn}
 use Rattle.cmap_tidy.specs.Tidy.{AreTidyCids, AreTidyNotdefs, cid_said, notdef_said, said_with}
 use Rattle.cmap_flatten.specs.Parts.{IsAdded, IsRoom}
 use Rattle.cmap_flatten.proofs.ChosenCodes.{has_any}
@@ -54,7 +53,7 @@ module _ (cids notdefs : List CidEntry) (range : Range) (room : IsRoom cids notd
   no_notdef : (code : ℕ) → range.start ≤ code → notdef_said notdefs code ≡ None
   no_notdef code le = ap (option_map (λ e. e.cid)) (past_ends cid_span notdefs range.start code room.notdefs_end le)
 
-  pub none_added : IsAdded cids notdefs range Absent cids notdefs
+  pub none_added : IsAdded cids notdefs range.start (range.end + 1) (λ code. None) cids notdefs
   none_added = record {
     room = record { tidy_cids = room.tidy_cids; tidy_notdefs = room.tidy_notdefs; cids_end = not_yet cids room.cids_end; notdefs_end = not_yet notdefs room.notdefs_end };
     here = λ code le within. ap (λ c. told c (notdef_said notdefs code)) (no_cid code le) ∙ ap (told None) (no_notdef code le);
@@ -62,17 +61,34 @@ module _ (cids notdefs : List CidEntry) (range : Range) (room : IsRoom cids notd
   }
 
   pub cids_added : (cid : ℕ) (new : List CidEntry) → AreTidyCids new → ((code : ℕ) → cid_said new code ≡ said_with range (λ code. Some (cid + (code - range.start))) (cid_said cids) code)
-      → All (λ e. e.end ≤ range.end) new → IsAdded cids notdefs range (CountOn cid) new notdefs
+      → All (λ e. e.end ≤ range.end) new → IsAdded cids notdefs range.start (range.end + 1) (λ code. Some (cid + (code - range.start))) new notdefs
   cids_added cid new tidy now ends = record {
     room = record { tidy_cids = tidy; tidy_notdefs = room.tidy_notdefs; cids_end = to_end new ends; notdefs_end = not_yet notdefs room.notdefs_end };
-    here = λ code le within. ap (λ c. told c (notdef_said notdefs code)) (now code ∙ with_here range (λ code. Some (cid + (code - range.start))) (cid_said cids) code le within);
+    here = λ code le within. ap (λ c. told c (notdef_said notdefs code)) (now code ∙ with_here range (λ code. Some (cid + (code - range.start))) (cid_said cids) code le (omega arith));
     below = λ code lt. ap (λ c. told c (notdef_said notdefs code)) (now code ∙ with_others range (λ code. Some (cid + (code - range.start))) (cid_said cids) code (λ le within. omega arith));
   }
 
   pub notdefs_added : (cid : ℕ) (new : List CidEntry) → AreTidyNotdefs new → ((code : ℕ) → notdef_said new code ≡ said_with range (λ code. cid) (notdef_said notdefs) code)
-      → All (λ e. e.end ≤ range.end) new → IsAdded cids notdefs range (Same cid) cids new
+      → All (λ e. e.end ≤ range.end) new → IsAdded cids notdefs range.start (range.end + 1) (λ code. Some cid) cids new
   notdefs_added cid new tidy now ends = record {
     room = record { tidy_cids = room.tidy_cids; tidy_notdefs = tidy; cids_end = not_yet cids room.cids_end; notdefs_end = to_end new ends };
-    here = λ code le within. ap (λ c. told c (notdef_said new code)) (no_cid code le) ∙ ap (told None) (now code ∙ with_here range (λ code. cid) (notdef_said notdefs) code le within);
+    here = λ code le within. ap (λ c. told c (notdef_said new code)) (no_cid code le) ∙ ap (told None) (now code ∙ with_here range (λ code. cid) (notdef_said notdefs) code le (omega arith));
     below = λ code lt. ap (told (cid_said cids code)) (now code ∙ with_others range (λ code. cid) (notdef_said notdefs) code (λ le within. omega arith));
   }
+
+-- ---- part after part
+pub AreAdded-none : (cids notdefs : List CidEntry) (first : ℕ) (cid : ℕ → Option ℕ) → IsRoom cids notdefs first → IsAdded cids notdefs first first cid cids notdefs
+AreAdded-none cids notdefs first cid room = record { room = room; here = λ code le lt. absurd (omega (arith, le, lt)); below = λ code lt. refl }
+
+-- the codes up to the next one were added, and then more
+pub AreAdded-more : (cids notdefs : List CidEntry) (first next limit : ℕ) (cid part : ℕ → Option ℕ) (mid_cids mid_notdefs new_cids new_notdefs : List CidEntry) → first ≤ next → IsAdded cids notdefs first next cid mid_cids mid_notdefs
+    → IsAdded mid_cids mid_notdefs next limit part new_cids new_notdefs → ((code : ℕ) → next ≤ code → code < limit → cid code ≡ part code) → IsAdded cids notdefs first limit cid new_cids new_notdefs
+AreAdded-more cids notdefs first next limit cid part mid_cids mid_notdefs new_cids new_notdefs le before now same = record {
+  room = now.room;
+  here = λ code from lt.
+      elim (cases_lt code next) [
+        | inl old ↦ now.below code old ∙ before.here code from old
+        | inr new ↦ now.here code new lt ∙ sym (same code new lt)
+      ];
+  below = λ code lt. now.below code (omega arith) ∙ before.below code lt;
+}

@@ -2,7 +2,6 @@
 use Rattle.std.specs.Prelude.{◌≡◌, ◌↔◌, ℕ, ◌+◌, ◌-◌, ◌<◌, ◌≤◌, ◌^◌, List, [], All, Contains, Option, Some, None, option_and_then, option_map, unwrap_or}
 use Rattle.std.specs.Option.{option_or}
 use Rattle.cmap_runs.specs.Ranges.{last_of}
-use Rattle.cmap_runs.specs.declared.runs.Range.{Range}
 use Rattle.cmap_values.specs.CodeLengths.{length_of}
 use Rattle.cmap_values.specs.Files.{BfEntry, CidEntry, File, Lists}
 use Rattle.cmap_values.specs.declared.code_length.CodeLength.{CodeLength}
@@ -68,22 +67,22 @@ pub record AreTextsBelow (layers : List Layer) (table : List Codes) (limit : ℕ
   pub room : IsTextRoom texts limit
   pub codes : (code : ℕ) → code < limit → text_said texts code ≡ wanted table code (bf_of layers code)
 
--- codes with these texts are added to a list, and for all others it declares what it did
-pub record AreTextsAdded (texts : List BfEntry) (range : Range) (text : ℕ → Option (List ℕ)) (new : List BfEntry) : Type 0 where
-  pub room : IsTextRoom new (range.end + 1)
-  pub here : (code : ℕ) → range.start ≤ code → code ≤ range.end → text_said new code ≡ text code
-  pub below : (code : ℕ) → code < range.start → text_said new code ≡ text_said texts code
+-- the codes from the first one up to the limit are added to a list with these texts, and for those before them it declares what it did
+pub record AreTextsAdded (texts : List BfEntry) (first limit : ℕ) (text : ℕ → Option (List ℕ)) (new : List BfEntry) : Type 0 where
+  pub room : IsTextRoom new limit
+  pub here : (code : ℕ) → first ≤ code → code < limit → text_said new code ≡ text code
+  pub below : (code : ℕ) → code < first → text_said new code ≡ text_said texts code
 
 -- a tidy list of the texts of the layers for the chosen numbers, and for no others
 pub record AreTexts (layers : List Layer) (chosen : List Codes) (texts : List BfEntry) : Type 0 where
   pub tidy : AreTidyTexts texts
   pub codes : (code : ℕ) → code < 2 ^ 32 → AnswersOnly (ChosenNumber chosen code) (bf_of layers code) (text_said texts code)
 
--- codes with these CIDs are added to two lists, and for all others these declare what they did
-pub record IsAdded (cids notdefs : List CidEntry) (range : Range) (these : Cids) (new_cids new_notdefs : List CidEntry) : Type 0 where
-  pub room : IsRoom new_cids new_notdefs (range.end + 1)
-  pub here : (code : ℕ) → range.start ≤ code → code ≤ range.end → said new_cids new_notdefs code ≡ cid_after these (code - range.start)
-  pub below : (code : ℕ) → code < range.start → said new_cids new_notdefs code ≡ said cids notdefs code
+-- the codes from the first one up to the limit are added to two lists with these CIDs, and for those before them the lists declare what they did
+pub record IsAdded (cids notdefs : List CidEntry) (first limit : ℕ) (cid : ℕ → Option ℕ) (new_cids new_notdefs : List CidEntry) : Type 0 where
+  pub room : IsRoom new_cids new_notdefs limit
+  pub here : (code : ℕ) → first ≤ code → code < limit → said new_cids new_notdefs code ≡ cid code
+  pub below : (code : ℕ) → code < first → said new_cids new_notdefs code ≡ said cids notdefs code
 
 -- two tidy lists that declare what the layers do for the chosen codes of len bytes, and for no others
 pub record AreDeclared (layers : List Layer) (chosen : List Codes) (len : ℕ) (cids notdefs : List CidEntry) : Type 0 where
@@ -124,3 +123,7 @@ IsFound layers chosen at = (at.code < 2 ^ 32) × IsContradiction layers chosen a
 -- the CIDs of a map are those that one file can give to the chosen codes
 abbrev pub HasCidsOfOne : List Layer → List Codes → List Layer → Type 0
 HasCidsOfOne layers chosen flat = (code : ℕ) (len : CodeLength) → code < 2 ^ 32 → Chosen chosen code (length_of len) → cid_of flat code (length_of len) ≡ cid_of_one layers code (length_of len)
+
+-- two maps have the same CIDs for the codes from the first one up to the limit
+abbrev pub HaveSameCids : List Layer → List Layer → ℕ → ℕ → ℕ → Type 0
+HaveSameCids one other len first limit = (code : ℕ) → first ≤ code → code < limit → cid_of one code len ≡ cid_of other code len
