@@ -122,8 +122,9 @@ is_subset layers chosen file are kept =
       metadata = are.metadata;
       uses = are.uses;
       spaces = λ space.
-          let (into, back) = any_range space layers in let (kept, found) = lists.spaces space in
+          let (into, back) = any_range space layers in let (kept, found) = lists.spaces.same space in
           (λ own. into (found own), λ any. kept (back any));
+      spaces_once = lists.spaces.once;
       declared = λ code count small few.
           let (len, is) = of_count count few in
           subst (λ count. AnswersOnly (Chosen chosen code count) (declared_cid layers code count) (declared_cid (layer ∷ []) code count)) is
@@ -142,6 +143,7 @@ is_flat layers chosen file all is = record {
   metadata = is.metadata;
   uses = is.uses;
   spaces = is.spaces;
+  spaces_once = is.spaces_once;
   declared = λ code len small few. (λ _. (is.declared code len small few).0 (all code len small few), λ none. absurd (none tt));
   texts = λ code small. (λ _. (is.texts code small).0 (chosen_number chosen code 1 (all code 1 small (omega arith, omega arith))), λ none. absurd (none tt));
   answers = λ code len small few _. is.answers code len small few (all code len small few);
@@ -182,6 +184,7 @@ all_subset layers chosen file all is = record {
   metadata = is.metadata;
   uses = is.uses;
   spaces = is.spaces;
+  spaces_once = is.spaces_once;
   declared = λ code len small few. (λ _. (is.declared code len small few).0 tt, λ none. absurd (none (all code len small few)));
   texts = λ code small. (λ _. (is.texts code small).0 tt, λ none. absurd (none (chosen_number chosen code 1 (all code 1 small (omega arith, omega arith)))));
   answers = λ code len small few _. is.answers code len small few tt;

@@ -1,5 +1,5 @@
 -- Private aid: what is declared for codes in a row, and the lists so far.
-use Rattle.std.specs.Prelude.{◌≡◌, ◌↔◌, ℕ, ◌+◌, ◌-◌, ◌<◌, ◌≤◌, ◌^◌, List, [], All, Contains, Option, Some, None, option_and_then, option_map, unwrap_or}
+use Rattle.std.specs.Prelude.{◌≡◌, ◌≢◌, ◌↔◌, ℕ, ◌+◌, ◌-◌, ◌<◌, ◌≤◌, ◌^◌, List, [], All, AllPairs, Contains, Option, Some, None, option_and_then, option_map, unwrap_or}
 use Rattle.std.specs.Option.{option_or}
 use Rattle.cmap_runs.specs.Ranges.{last_of}
 use Rattle.cmap_values.specs.CodeLengths.{length_of}
@@ -93,6 +93,11 @@ pub record AreDeclared (layers : List Layer) (chosen : List Codes) (len : ℕ) (
 abbrev pub HasSame : {A : Type 0} → List A → List A → Type 0
 HasSame {A} xs ys = (x : A) → Contains xs x ↔ Contains ys x
 
+-- a list has the elements of another, each once
+pub record AreEachOnce {A : Type 0} (all kept : List A) : Type 0 where
+  pub same : HasSame all kept
+  pub once : AllPairs (λ x later. x ≢ later) kept
+
 -- the lists of one file: what the layers declare for the chosen codes, and their codespace ranges
 pub record AreLists (layers : List Layer) (chosen : List Codes) (lists : Lists) : Type 0 where
   pub one : AreDeclared layers chosen 1 lists.cids.one lists.notdefs.one
@@ -100,7 +105,7 @@ pub record AreLists (layers : List Layer) (chosen : List Codes) (lists : Lists) 
   pub three : AreDeclared layers chosen 3 lists.cids.three lists.notdefs.three
   pub four : AreDeclared layers chosen 4 lists.cids.four lists.notdefs.four
   pub texts : AreTexts layers chosen lists.bfs
-  pub spaces : HasSame (ranges_of layers) lists.spaces
+  pub spaces : AreEachOnce (ranges_of layers) lists.spaces
 
 -- the file of the top layer's metadata and of such lists
 pub record IsFileOf (layers : List Layer) (chosen : List Codes) (file : File) : Type 0 where

@@ -1,5 +1,5 @@
 -- One file with the answers of a map of several layers, for all codes or for those that are chosen.
-use Rattle.std.specs.Prelude.{◌≡◌, ◌↔◌, ℕ, ◌<◌, ◌^◌, List, [], ◌∷◌, Any, Option, Some, None}
+use Rattle.std.specs.Prelude.{◌≡◌, ◌≢◌, ◌↔◌, ℕ, ◌<◌, ◌^◌, List, [], ◌∷◌, AllPairs, Any, Option, Some, None}
 use Rattle.std.specs.List.{Contains}
 use Rattle.std.specs.Option.{option_or}
 use Rattle.cmap_tokens.specs.Texts.{only_character}
@@ -32,6 +32,8 @@ pub record AnswersAs (IsChosen : ℕ → ℕ → Type 0) (IsChosenNumber : ℕ �
   pub uses : file.uses ≡ []
   -- a codespace range is one of the file just if it is one of some layer, so strings are cut alike
   pub spaces : (space : Codespace) → (Contains file.lists.spaces space ↔ Any (λ layer. Contains layer.lists.spaces space) layers)
+  -- each of them stands once
+  pub spaces_once : AllPairs (λ space later. space ≢ later) file.lists.spaces
   -- for each chosen code it declares the CID that the layers do
   pub declared : (code len : ℕ) → code < 2 ^ 32 → IsCodeLength len → AnswersOnly (IsChosen code len) (declared_cid layers code len) (declared_cid (layer_of file ∷ []) code len)
   -- and it gives the text that they give
