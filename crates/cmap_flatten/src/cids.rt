@@ -3,9 +3,8 @@
 ghost use Rattle.std.specs.Prelude.{◌+◌, ◌-◌, ◌≤◌, ◌^◌, IfOk, OnOk};
 ghost use Rattle.cmap_values.specs.CodeLengths.{length_of};
 ghost use Rattle.cmap_values.specs.DeclarationsSeen.{entries_seen};
-ghost use Rattle.cmap_layers.specs.CodeStretches.{cid_after};
-ghost use Rattle.cmap_unicode.specs.Cids.{declared_cid};
-ghost use Rattle.cmap_flatten.specs.Parts.{AreDeclared, AreDeclaredBelow, Fits, IsAdded, IsRoom};
+ghost use Rattle.cmap_flatten.specs.Kinds.{given};
+ghost use Rattle.cmap_flatten.specs.Parts.{AreDeclared, AreDeclaredBelow, Fits, IsAdded, IsRoom, given_after};
 
 use crate::codes::{Codes, codes_of_length};
 use crate::declared::declared_stretch;
@@ -36,7 +35,7 @@ impl Declared {
             (entries_seen self.now.notdefs.items) range.start }
         requires range { range.start ≤ range.end }
         ensures { OnOk result (IsAdded (entries_seen self.old.cids.items) (entries_seen self.old.notdefs.items)
-            range.start (range.end + 1) (λ code. declared_cid layers.now code (length_of len))
+            range.start (range.end + 1) (λ code. given layers.now code (length_of len))
             (entries_seen self.new.cids.items) (entries_seen self.new.notdefs.items)) }
     {
         let end = u64::from(range.end);
@@ -54,14 +53,14 @@ impl Declared {
         Ok(())
     }
 
-    /// Adds codes with these CIDs, after all others.
+    /// Adds codes with these CIDs, after all others: those that count on as CIDs, and one for all as a notdef.
     fn add(&mut self, cids: Cids, range: Range) -> Result<(), AllocError>
         requires room { IsRoom (entries_seen self.now.cids.items)
             (entries_seen self.now.notdefs.items) range.start }
         requires range { range.start ≤ range.end }
         requires fits { Fits cids (range.end - range.start) }
         ensures { OnOk result (IsAdded (entries_seen self.old.cids.items) (entries_seen self.old.notdefs.items)
-            range.start (range.end + 1) (λ code. cid_after cids (code - range.start))
+            range.start (range.end + 1) (λ code. given_after cids (code - range.start))
             (entries_seen self.new.cids.items) (entries_seen self.new.notdefs.items)) }
     {
         match cids {
@@ -72,8 +71,8 @@ impl Declared {
     }
 }
 
-/// The declarations for the chosen codes of this length: they give to each the CID that the layers
-/// declare.
+/// The declarations for the chosen codes of this length: they give to each what the layers declare, a CID
+/// or a notdef.
 pub(crate) fn declared_of(
     alloc: Global,
     layers: &Layers,
