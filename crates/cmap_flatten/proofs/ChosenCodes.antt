@@ -7,6 +7,7 @@ use Rattle.std.proofs.lemmas.List.{take_more}
 use Rattle.std.proofs.lemmas.List.Quantifiers.{Any-push}
 use Rattle.std.proofs.lemmas.Option.{get_or_from_slice_get, none-some, same_Some, slice_get-get_or, slice_get-map, slice_get_within}
 use Rattle.cmap_runs.specs.Ranges.{Span, contains, last_index, last_of}
+use Rattle.cmap_runs.specs.Stretches.{IsStretch}
 use Rattle.cmap_runs.proofs.LastIndex.{IsLast, is_last}
 use Rattle.cmap_values.specs.CodeLengths.{length_of}
 use Rattle.cmap_values.specs.contracts.code_length.CodeLength.{the_type}
@@ -96,3 +97,7 @@ module _ {A : Type 0} (span : A → Span) (xs : List A) (code : ℕ) (x : A) whe
 
   pub found_one : last_of span xs code ≡ Some x → Any (λ y. (y ≡ x) × Holds span xs code y) xs
   found_one is = one_at (last_index (map span xs) code) (is_last (map span xs) code) is
+
+-- ---- a stretch of a table, by the table that is walked and the code that comes next
+pub stretch_of : {A : Type 0} (span : A → Span) (walked table : List A) (from next last : ℕ) (found : Option A) → walked ≡ table → from ≡ next → IsStretch span walked from last found → IsStretch span table next last found
+stretch_of span walked table from next last found same starts is = subst (λ n. IsStretch span table n last found) starts (subst (λ xs. IsStretch span xs from last found) same is)

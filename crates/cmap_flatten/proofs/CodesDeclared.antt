@@ -10,11 +10,10 @@ use Rattle.cmap_runs.specs.Stretches.{IsStretch}
 use Rattle.cmap_runs.specs.declared.runs.Range.{Range}
 use Rattle.cmap_values.specs.Files.{CidEntry}
 use Rattle.cmap_layers.specs.Layers.{Layer}
-use Rattle.cmap_layers.specs.declared.stretches.CidStretch.{CidStretch}
-use Rattle.cmap_unicode.specs.Cids.{declared_cid}
-use Rattle.cmap_tidy.specs.Tidy.{AreTidyCids, AreTidyNotdefs}
+use Rattle.cmap_tidy.specs.Tidy.{AreTidyCids, AreTidyNotdefs, notdef_said}
 use Rattle.cmap_flatten.specs.Chosen.{Chosen, codes_span}
-use Rattle.cmap_flatten.specs.Parts.{AreDeclared, AreDeclaredBelow, IsAdded, IsDeclaredStretch, said, wanted}
+use Rattle.cmap_flatten.specs.Kinds.{Given, cid_given, cid_listed, given, notdef_given}
+use Rattle.cmap_flatten.specs.Parts.{AreDeclared, AreDeclaredBelow, IsAdded, parts, wanted}
 use Rattle.cmap_flatten.specs.declared.codes.Codes.{Codes}
 use Rattle.cmap_flatten.proofs.ListsAdded.{none_added}
 
@@ -34,6 +33,12 @@ pub only_wanted : {A : Type 0} (IsChosen : Type 0) (found : Option Codes) (whole
 only_wanted IsChosen None whole answer has is = (λ chosen. absurd (true≢false (sym (has.1 chosen))), λ other. is)
 only_wanted IsChosen (Some one) whole answer has is = (λ chosen. is, λ other. absurd (other (has.0 refl)))
 
+-- of what is declared, the CID or the notdef
+only_part : (IsChosen : Type 0) (part : Option Given → Option ℕ) → part None ≡ None → (found : Option Codes) (whole : Option Given) (answer : Option ℕ) → (IsSome found ↔ IsChosen) → answer ≡ part (option_and_then (λ one. whole) found)
+    → (IsChosen → answer ≡ part whole) × ((IsChosen → ⊥) → answer ≡ None)
+only_part IsChosen part none None whole answer has is = (λ chosen. absurd (true≢false (sym (has.1 chosen))), λ other. is ∙ none)
+only_part IsChosen part none (Some one) whole answer has is = (λ chosen. is, λ other. absurd (other (has.0 refl)))
+
 module _ (layers : List Layer) (len : ℕ) (table : List Codes) (first last : ℕ) (cids notdefs : List CidEntry) (before : AreDeclaredBelow layers len table first cids notdefs) (le : first ≤ last) where
   -- the table has none of the codes
   pub passed_over : IsStretch codes_span table first last None → AreDeclaredBelow layers len table (last + 1) cids notdefs
@@ -42,19 +47,19 @@ module _ (layers : List Layer) (len : ℕ) (table : List Codes) (first last : �
     codes = λ code lt.
         elim (cases_lt code first) [
           | inl old ↦ before.codes code old
-          | inr new ↦ same.here code new (omega arith) ∙ sym (wanted_of table code (declared_cid layers code len) None (none code new (omega arith)))
+          | inr new ↦ same.here code new lt ∙ ap parts (sym (wanted_of table code (given layers code len) None (none code new (omega arith))))
         ];
   }
 
   -- it has all of them, and they were added
-  pub added : (stretch : CidStretch) (part : ℕ) (found : Option Codes) (new_cids new_notdefs : List CidEntry) → IsSome found → IsStretch codes_span table first part found → last ≤ part → last ≤ stretch.last → IsDeclaredStretch layers len first stretch
-      → IsAdded cids notdefs (record { start = first; end = last }) stretch.cids new_cids new_notdefs → AreDeclaredBelow layers len table (last + 1) new_cids new_notdefs
-  added stretch part found new_cids new_notdefs some has in_part in_stretch declared now = record {
+  pub added : (found : Option Codes) (new_cids new_notdefs : List CidEntry) → IsSome found → IsStretch codes_span table first last found
+      → IsAdded cids notdefs first (last + 1) (λ code. given layers code len) new_cids new_notdefs → AreDeclaredBelow layers len table (last + 1) new_cids new_notdefs
+  added found new_cids new_notdefs some has now = record {
     room = now.room;
     codes = λ code lt.
         elim (cases_lt code first) [
           | inl old ↦ now.below code old ∙ before.codes code old
-          | inr new ↦ now.here code new (omega arith) ∙ sym (declared.cids code new (omega arith)) ∙ sym (wanted_some table code (declared_cid layers code len) found some (has code new (omega arith)))
+          | inr new ↦ now.here code new lt ∙ ap parts (sym (wanted_some table code (given layers code len) found some (has code new (omega arith))))
         ];
   }
 
@@ -70,5 +75,6 @@ pub AreDeclared-all : (layers : List Layer) (chosen table : List Codes) (len : �
     → AreDeclaredBelow layers len table (2 ^ 32) cids notdefs → AreDeclared layers chosen len cids notdefs
 AreDeclared-all layers chosen table len cids notdefs has below = record {
   tidy = (below.room.tidy_cids, below.room.tidy_notdefs);
-  codes = λ code lt. only_wanted (Chosen chosen code len) (last_of codes_span table code) (declared_cid layers code len) (said cids notdefs code) (has code) (below.codes code lt);
+  cids = λ code lt. only_part (Chosen chosen code len) cid_given refl (last_of codes_span table code) (given layers code len) (cid_listed cids code) (has code) (ap (λ (both : Option ℕ × Option ℕ). both.0) (below.codes code lt));
+  notdefs = λ code lt. only_part (Chosen chosen code len) notdef_given refl (last_of codes_span table code) (given layers code len) (notdef_said notdefs code) (has code) (ap (λ (both : Option ℕ × Option ℕ). both.1) (below.codes code lt));
 }

@@ -6,6 +6,7 @@ pub mod LengthsTried
 pub mod ListsAdded
 pub mod OneFile
 pub mod SameElements
+pub mod SpacesOrdered
 pub mod TextsAdded
 pub mod TextsDeclared
 pub mod TidyLists

@@ -1,16 +1,15 @@
 -- What two lists declare for a code, after one more declaration.
-use Rattle.std.proofs.Common.{◌≡◌, ℕ, ◌+◌, ◌-◌, ◌<◌, ◌≤◌, List, Option, Some, None, Ok, Err, refl, ap, ◌∙◌, subst, arith}
+use Rattle.std.proofs.Common.{◌≡◌, ℕ, ◌+◌, ◌-◌, ◌<◌, ◌≤◌, List, Option, Some, None, Ok, Err, inl, inr, refl, sym, ap, ◌∙◌, subst, arith}
 use Rattle.std.specs.Prelude.{All, OnOk, Result, IsSome, option_map, unwrap_or}
-use Rattle.std.specs.Option.{option_or}
-use Rattle.std.proofs.lemmas.Bool.{and_from, and_parts, cond-false, cond-true, false_from_ne_true, le-leb, leb-true}
+use Rattle.std.proofs.lemmas.Bool.{and_from, and_parts, cases_lt, cond-false, cond-true, false_from_ne_true, le-leb, leb-true}
 use Rattle.std.proofs.lemmas.List.Elements.{All-weaker}
 use Rattle.cmap_runs.specs.Ranges.{Span, last_of}
 use Rattle.cmap_runs.specs.declared.runs.Range.{Range}
 use Rattle.cmap_values.specs.Files.{CidEntry}
 use Rattle.cmap_layers.specs.Lookups.{cid_at, cid_span}
-use Rattle.cmap_layers.specs.declared.stretches.Cids.TheVariants.{Absent, Same, CountOn}
 use Rattle.cmap_tidy.specs.Tidy.{AreTidyCids, AreTidyNotdefs, cid_said, notdef_said, said_with}
-use Rattle.cmap_flatten.specs.Parts.{IsAdded, IsRoom}
+use Rattle.cmap_flatten.specs.Kinds.{Given, as_cid, as_notdef, cid_listed}
+use Rattle.cmap_flatten.specs.Parts.{IsAdded, IsRoom, parts}
 use Rattle.cmap_flatten.proofs.ChosenCodes.{has_any}
 
 pub none_of : {A : Type 0} (o : Option A) → (IsSome o → ⊥) → o ≡ None
@@ -31,9 +30,8 @@ module _ {X : Type 0} (range : Range) (here : ℕ → X) (before : ℕ → Optio
   pub with_others : (range.start ≤ code → code ≤ range.end → ⊥) → said_with range here before code ≡ before code
   with_others outside = cond-false _ (Some (here code)) (before code) (false_from_ne_true _ (λ both. let parts = and_parts _ _ both in outside (leb-true _ _ parts.0) (leb-true _ _ parts.1)))
 
--- what a CID declaration says, or else what a notdef does
-abbrev pub told : Option (Option ℕ) → Option ℕ → Option ℕ
-told cid notdef = unwrap_or (option_or cid (option_map (λ cid. Some cid) notdef)) None
+abbrev pub both : Option ℕ → Option ℕ → Option ℕ × Option ℕ
+both cid notdef = (cid, notdef)
 
 -- three facts of a success
 pub on_ok_all : {T E P Q R S : Type 0} (r : Result T E) → (P → Q → R → S) → OnOk r P → OnOk r Q → OnOk r R → OnOk r S
@@ -54,25 +52,44 @@ module _ (cids notdefs : List CidEntry) (range : Range) (room : IsRoom cids notd
   no_notdef : (code : ℕ) → range.start ≤ code → notdef_said notdefs code ≡ None
   no_notdef code le = ap (option_map (λ e. e.cid)) (past_ends cid_span notdefs range.start code room.notdefs_end le)
 
-  pub none_added : IsAdded cids notdefs range Absent cids notdefs
+  pub none_added : IsAdded cids notdefs range.start (range.end + 1) (λ code. None) cids notdefs
   none_added = record {
     room = record { tidy_cids = room.tidy_cids; tidy_notdefs = room.tidy_notdefs; cids_end = not_yet cids room.cids_end; notdefs_end = not_yet notdefs room.notdefs_end };
-    here = λ code le within. ap (λ c. told c (notdef_said notdefs code)) (no_cid code le) ∙ ap (told None) (no_notdef code le);
+    here = λ code le within. ap (λ c. both (unwrap_or c None) (notdef_said notdefs code)) (no_cid code le) ∙ ap (both None) (no_notdef code le);
     below = λ code lt. refl;
   }
 
   pub cids_added : (cid : ℕ) (new : List CidEntry) → AreTidyCids new → ((code : ℕ) → cid_said new code ≡ said_with range (λ code. Some (cid + (code - range.start))) (cid_said cids) code)
-      → All (λ e. e.end ≤ range.end) new → IsAdded cids notdefs range (CountOn cid) new notdefs
+      → All (λ e. e.end ≤ range.end) new → IsAdded cids notdefs range.start (range.end + 1) (λ code. Some (as_cid (cid + (code - range.start)))) new notdefs
   cids_added cid new tidy now ends = record {
     room = record { tidy_cids = tidy; tidy_notdefs = room.tidy_notdefs; cids_end = to_end new ends; notdefs_end = not_yet notdefs room.notdefs_end };
-    here = λ code le within. ap (λ c. told c (notdef_said notdefs code)) (now code ∙ with_here range (λ code. Some (cid + (code - range.start))) (cid_said cids) code le within);
-    below = λ code lt. ap (λ c. told c (notdef_said notdefs code)) (now code ∙ with_others range (λ code. Some (cid + (code - range.start))) (cid_said cids) code (λ le within. omega arith));
+    here = λ code le within.
+        ap (λ c. both (unwrap_or c None) (notdef_said notdefs code)) (now code ∙ with_here range (λ code. Some (cid + (code - range.start))) (cid_said cids) code le (omega arith))
+        ∙ ap (both (Some (cid + (code - range.start)))) (no_notdef code le);
+    below = λ code lt. ap (λ c. both (unwrap_or c None) (notdef_said notdefs code)) (now code ∙ with_others range (λ code. Some (cid + (code - range.start))) (cid_said cids) code (λ le within. omega arith));
   }
 
   pub notdefs_added : (cid : ℕ) (new : List CidEntry) → AreTidyNotdefs new → ((code : ℕ) → notdef_said new code ≡ said_with range (λ code. cid) (notdef_said notdefs) code)
-      → All (λ e. e.end ≤ range.end) new → IsAdded cids notdefs range (Same cid) cids new
+      → All (λ e. e.end ≤ range.end) new → IsAdded cids notdefs range.start (range.end + 1) (λ code. Some (as_notdef cid)) cids new
   notdefs_added cid new tidy now ends = record {
     room = record { tidy_cids = room.tidy_cids; tidy_notdefs = tidy; cids_end = not_yet cids room.cids_end; notdefs_end = to_end new ends };
-    here = λ code le within. ap (λ c. told c (notdef_said new code)) (no_cid code le) ∙ ap (told None) (now code ∙ with_here range (λ code. cid) (notdef_said notdefs) code le within);
-    below = λ code lt. ap (told (cid_said cids code)) (now code ∙ with_others range (λ code. cid) (notdef_said notdefs) code (λ le within. omega arith));
+    here = λ code le within. ap (λ c. both (unwrap_or c None) (notdef_said new code)) (no_cid code le) ∙ ap (both None) (now code ∙ with_here range (λ code. cid) (notdef_said notdefs) code le (omega arith));
+    below = λ code lt. ap (both (cid_listed cids code)) (now code ∙ with_others range (λ code. cid) (notdef_said notdefs) code (λ le within. omega arith));
   }
+
+-- ---- part after part
+pub AreAdded-none : (cids notdefs : List CidEntry) (first : ℕ) (declared : ℕ → Option Given) → IsRoom cids notdefs first → IsAdded cids notdefs first first declared cids notdefs
+AreAdded-none cids notdefs first declared room = record { room = room; here = λ code le lt. absurd (omega (arith, le, lt)); below = λ code lt. refl }
+
+-- the codes up to the next one were added, and then more
+pub AreAdded-more : (cids notdefs : List CidEntry) (first next limit : ℕ) (declared part : ℕ → Option Given) (mid_cids mid_notdefs new_cids new_notdefs : List CidEntry) → first ≤ next → IsAdded cids notdefs first next declared mid_cids mid_notdefs
+    → IsAdded mid_cids mid_notdefs next limit part new_cids new_notdefs → ((code : ℕ) → next ≤ code → code < limit → declared code ≡ part code) → IsAdded cids notdefs first limit declared new_cids new_notdefs
+AreAdded-more cids notdefs first next limit declared part mid_cids mid_notdefs new_cids new_notdefs le before now same = record {
+  room = now.room;
+  here = λ code from lt.
+      elim (cases_lt code next) [
+        | inl old ↦ now.below code old ∙ before.here code from old
+        | inr new ↦ now.here code new lt ∙ ap parts (sym (same code new lt))
+      ];
+  below = λ code lt. now.below code (omega arith) ∙ before.below code lt;
+}

@@ -18,30 +18,18 @@ use Rattle.cmap_layers.specs.StringCodes.{ranges_of}
 use Rattle.cmap_layers.specs.declared.layer.Layer as declared
 use Rattle.cmap_layers.proofs.LayerStretches.{has_code_length}
 use Rattle.cmap_unicode.specs.Cids.{declared_cid}
-use Rattle.cmap_unicode.specs.LayersTried.{declared_by, declared_in}
-use Rattle.cmap_tidy.specs.Tidy.{AreTidyCids, notdef_at}
+use Rattle.cmap_tidy.specs.Tidy.{AreTidyCids, notdef_at, notdef_said}
 use Rattle.cmap_flatten.specs.Chosen.{Chosen, ChosenNumber}
-use Rattle.cmap_flatten.specs.Parts.{AreAllKept, AreDeclared, AreLists, HasCidsOfOne, IsFileOf, said, text_said}
+use Rattle.cmap_flatten.specs.Kinds.{as_cid, cid_given, cid_listed, given, given_by, notdef_given}
+use Rattle.cmap_flatten.specs.Parts.{AreAllKept, AreDeclared, AreLists, HasCidsOfOne, IsFileOf, text_said}
 use Rattle.cmap_flatten.specs.Subsets.{AnswersOnly, AreAllTidy, IsContradiction, IsFlat, IsSubset}
 use Rattle.cmap_flatten.specs.declared.answers.Contradiction.{Contradiction}
 use Rattle.cmap_flatten.specs.declared.codes.Codes.{Codes}
 use Rattle.cmap_flatten.proofs.AnyElements.{Any-nil}
 use Rattle.cmap_flatten.proofs.ChosenCodes.{found_one}
-use Rattle.cmap_flatten.proofs.DeclaredStretches.{declared_in_turn, layer_declares}
-use Rattle.cmap_flatten.proofs.ListsAdded.{told}
+use Rattle.cmap_flatten.proofs.DeclaredStretches.{declared_is, number}
 
 -- ---- a map of one layer
-said_is : (code : ℕ) (cid notdef : Option CidEntry) → unwrap_or (declared_by code cid notdef) None ≡ told (option_map (λ e. cid_at e code) cid) (option_map (λ e. notdef_at e code) notdef)
-said_is code (Some e) notdef = refl
-said_is code None (Some e) = refl
-said_is code None None = refl
-
-pub one_declared : (layer : Layer) (code : ℕ) (len : CodeLength)
-    → declared_cid (layer ∷ []) code (length_of len) ≡ said (of_length layer.lists.cids (length_of len)) (of_length layer.lists.notdefs (length_of len)) code
-one_declared layer code len =
-    declared_in_turn (layer ∷ []) code len ∙ layer_declares layer [] code (length_of len) (declared_in layer code (length_of len)) refl
-    ∙ said_is code (last_cid (of_length layer.lists.cids (length_of len)) code) (last_cid (of_length layer.lists.notdefs (length_of len)) code)
-
 decided_is : (code : ℕ) (found : Option BfEntry) → decided_text code found None ≡ option_and_then (λ e. bf_at e code) found
 decided_is code None = refl
 decided_is code (Some e) = refl
@@ -58,19 +46,37 @@ fits entries code e tidy is =
     let small : e.cid + (code - e.start) < 2 ^ 32 = omega (arith, row, held) in
     cond-true _ (Some (e.cid + (code - e.start))) None (grind (arith, nat_tests))
 
-combined : (code : ℕ) (cid notdef : Option CidEntry) (character : Option ℕ) → ((e : CidEntry) → cid ≡ Some e → cid_at e code ≡ Some (e.cid + (code - e.start)))
-    → decided_cid code cid notdef character None ≡ option_or (told (option_map (λ e. cid_at e code) cid) (option_map (λ e. notdef_at e code) notdef)) character
-combined code (Some e) notdef character fit = fit e refl ∙ sym (ap (λ cid. option_or cid character) (fit e refl))
+-- what is said of the code by the one declaration or the other
+abbrev listed : ℕ → Option CidEntry → Option CidEntry → Option ℕ
+listed code cid notdef = option_or (unwrap_or (option_map (λ e. cid_at e code) cid) None) (option_map (λ e. notdef_at e code) notdef)
+
+only : (code : ℕ) (cid notdef : Option CidEntry) (fit : (e : CidEntry) → cid ≡ Some e → cid_at e code ≡ Some (e.cid + (code - e.start))) → number (unwrap_or (given_by code cid notdef) None) ≡ listed code cid notdef
+only code (Some e) notdef fit = ap (λ cid. number (option_map as_cid cid)) (fit e refl) ∙ sym (ap (λ cid. option_or cid (option_map (λ e. notdef_at e code) notdef)) (fit e refl))
+only code None (Some e) fit = refl
+only code None None fit = refl
+
+combined : (code : ℕ) (cid notdef : Option CidEntry) (character : Option ℕ) (fit : (e : CidEntry) → cid ≡ Some e → cid_at e code ≡ Some (e.cid + (code - e.start))) → decided_cid code cid notdef character None ≡ option_or (listed code cid notdef) character
+combined code (Some e) notdef character fit = fit e refl ∙ sym (ap (λ cid. option_or (option_or cid (option_map (λ e. notdef_at e code) notdef)) character) (fit e refl))
 combined code None (Some e) character fit = refl
 combined code None None (Some c) fit = refl
 combined code None None None fit = refl
 
-pub one_cid : (layer : Layer) (code : ℕ) (len : CodeLength) → AreTidyCids (of_length layer.lists.cids (length_of len))
-    → cid_of (layer ∷ []) code (length_of len) ≡ option_or (said (of_length layer.lists.cids (length_of len)) (of_length layer.lists.notdefs (length_of len)) code) (only_character (text_said layer.lists.bfs code))
-one_cid layer code len tidy =
-    let cids = of_length layer.lists.cids (length_of len) in
-    has_code_length (layer ∷ []) code len
-    ∙ combined code (last_cid cids code) (last_cid (of_length layer.lists.notdefs (length_of len)) code) (only_character (text_said layer.lists.bfs code)) (λ e is. fits cids code e tidy is)
+-- the CID that its two lists give
+abbrev pub said_by : Lists → ℕ → ℕ → Option ℕ
+said_by lists code len = option_or (cid_listed (of_length lists.cids len) code) (notdef_said (of_length lists.notdefs len) code)
+
+module _ (layer : Layer) (code : ℕ) (len : CodeLength) (tidy : AreTidyCids (of_length layer.lists.cids (length_of len))) where
+  abbrev cid : Option CidEntry
+  cid = last_cid (of_length layer.lists.cids (length_of len)) code
+
+  abbrev notdef : Option CidEntry
+  notdef = last_cid (of_length layer.lists.notdefs (length_of len)) code
+
+  pub one_declared : declared_cid (layer ∷ []) code (length_of len) ≡ said_by layer.lists code (length_of len)
+  one_declared = declared_is (layer ∷ []) code len ∙ only code cid notdef (λ e is. fits (of_length layer.lists.cids (length_of len)) code e tidy is)
+
+  pub one_cid : cid_of (layer ∷ []) code (length_of len) ≡ option_or (said_by layer.lists code (length_of len)) (only_character (text_said layer.lists.bfs code))
+  one_cid = has_code_length (layer ∷ []) code len ∙ combined code cid notdef (only_character (text_said layer.lists.bfs code)) (λ e is. fits (of_length layer.lists.cids (length_of len)) code e tidy is)
 
 -- ---- the lists of one file
 pub chosen_number : (chosen : List Codes) (code len : ℕ) → Chosen chosen code len → ChosenNumber chosen code
@@ -83,11 +89,20 @@ module _ (layers : List Layer) (chosen : List Codes) (lists : Lists) (are : AreL
   of_each Three = are.three
   of_each Four = are.four
 
+  -- a CID or a notdef, and so the CID that is declared
+  pub declared_as : (len : CodeLength) (code : ℕ) → code < 2 ^ 32 → AnswersOnly (Chosen chosen code (length_of len)) (declared_cid layers code (length_of len)) (said_by lists code (length_of len))
+  declared_as len code small =
+      let n = length_of len in let cids = (of_each len).cids code small in let notdefs = (of_each len).notdefs code small in
+      subst (λ whole. AnswersOnly (Chosen chosen code n) whole (said_by lists code n)) (sym (declared_is layers code len)) (
+        λ is. ap (λ cid. option_or cid (notdef_said (of_length lists.notdefs n) code)) (cids.0 is) ∙ ap (option_or (cid_given (given layers code n))) (notdefs.0 is),
+        λ none. ap (λ cid. option_or cid (notdef_said (of_length lists.notdefs n) code)) (cids.1 none) ∙ ap (option_or None) (notdefs.1 none),
+      )
+
   pub cids_of_one : (metadata : FileMetadata) → HasCidsOfOne layers chosen (record { metadata = metadata; lists = lists } ∷ [])
   cids_of_one metadata code len small is =
       let layer : Layer = record { metadata = metadata; lists = lists } in
       one_cid layer code len (of_each len).tidy.0
-      ∙ ap (λ cid. option_or cid (only_character (text_said lists.bfs code))) (((of_each len).codes code small).0 is)
+      ∙ ap (λ cid. option_or cid (only_character (text_said lists.bfs code))) ((declared_as len code small).0 is)
       ∙ ap (λ text. option_or (declared_cid layers code (length_of len)) (only_character text)) ((are.texts.codes code small).0 (chosen_number chosen code (length_of len) is))
 
 -- the codespace ranges of all layers
@@ -122,12 +137,19 @@ is_subset layers chosen file are kept =
       metadata = are.metadata;
       uses = are.uses;
       spaces = λ space.
-          let (into, back) = any_range space layers in let (kept, found) = lists.spaces space in
+          let (into, back) = any_range space layers in let (kept, found) = lists.spaces.same space in
           (λ own. into (found own), λ any. kept (back any));
+      spaces_once = lists.spaces.once;
       declared = λ code count small few.
           let (len, is) = of_count count few in
           subst (λ count. AnswersOnly (Chosen chosen code count) (declared_cid layers code count) (declared_cid (layer ∷ []) code count)) is
-          (subst (AnswersOnly (Chosen chosen code (length_of len)) (declared_cid layers code (length_of len))) (sym (one_declared layer code len)) ((of_each layers chosen file.lists lists len).codes code small));
+          (subst (AnswersOnly (Chosen chosen code (length_of len)) (declared_cid layers code (length_of len))) (sym (one_declared layer code len (of_each layers chosen file.lists lists len).tidy.0)) (declared_as layers chosen file.lists lists len code small));
+      cids = λ code count small few.
+          let (len, is) = of_count count few in
+          subst (λ count. AnswersOnly (Chosen chosen code count) (cid_given (given layers code count)) (cid_listed (of_length file.lists.cids count) code)) is ((of_each layers chosen file.lists lists len).cids code small);
+      notdefs = λ code count small few.
+          let (len, is) = of_count count few in
+          subst (λ count. AnswersOnly (Chosen chosen code count) (notdef_given (given layers code count)) (notdef_said (of_length file.lists.notdefs count) code)) is ((of_each layers chosen file.lists lists len).notdefs code small);
       texts = λ code small. subst (AnswersOnly (ChosenNumber chosen code) (bf_of layers code)) (sym (one_text layer code)) (lists.texts.codes code small);
       answers = λ code count small few.
           let (len, is) = of_count count few in
@@ -142,7 +164,10 @@ is_flat layers chosen file all is = record {
   metadata = is.metadata;
   uses = is.uses;
   spaces = is.spaces;
+  spaces_once = is.spaces_once;
   declared = λ code len small few. (λ _. (is.declared code len small few).0 (all code len small few), λ none. absurd (none tt));
+  cids = λ code len small few. (λ _. (is.cids code len small few).0 (all code len small few), λ none. absurd (none tt));
+  notdefs = λ code len small few. (λ _. (is.notdefs code len small few).0 (all code len small few), λ none. absurd (none tt));
   texts = λ code small. (λ _. (is.texts code small).0 (chosen_number chosen code 1 (all code 1 small (omega arith, omega arith))), λ none. absurd (none tt));
   answers = λ code len small few _. is.answers code len small few (all code len small few);
   tidy = is.tidy;
@@ -171,7 +196,7 @@ tidy_cids lists tidy Four = tidy.four.0
 pub no_subset : (layers : List Layer) (chosen : List Codes) (at : Contradiction) (file : File) → at.code < 2 ^ 32 → IsContradiction layers chosen at → IsSubset layers chosen file → ⊥
 no_subset layers chosen at file small refused is =
     let layer = layer_of file in let code = at.code in let len = length_of at.len in let few = some_bytes at.len in
-    let declared = sym (one_declared layer code at.len) ∙ (is.declared code len small few).0 refused.0 in
+    let declared = sym (one_declared layer code at.len (tidy_cids file.lists is.tidy at.len)) ∙ (is.declared code len small few).0 refused.0 in
     let text = sym (one_text layer code) ∙ (is.texts code small).0 (chosen_number chosen code len refused.0) in
     refused.1 (sym (is.answers code len small few refused.0) ∙ one_cid layer code at.len (tidy_cids file.lists is.tidy at.len)
     ∙ ap (λ cid. option_or cid (only_character (text_said file.lists.bfs code))) declared ∙ ap (λ text. option_or (declared_cid layers code len) (only_character text)) text)
@@ -182,7 +207,10 @@ all_subset layers chosen file all is = record {
   metadata = is.metadata;
   uses = is.uses;
   spaces = is.spaces;
+  spaces_once = is.spaces_once;
   declared = λ code len small few. (λ _. (is.declared code len small few).0 tt, λ none. absurd (none (all code len small few)));
+  cids = λ code len small few. (λ _. (is.cids code len small few).0 tt, λ none. absurd (none (all code len small few)));
+  notdefs = λ code len small few. (λ _. (is.notdefs code len small few).0 tt, λ none. absurd (none (all code len small few)));
   texts = λ code small. (λ _. (is.texts code small).0 tt, λ none. absurd (none (chosen_number chosen code 1 (all code 1 small (omega arith, omega arith)))));
   answers = λ code len small few _. is.answers code len small few tt;
   tidy = is.tidy;

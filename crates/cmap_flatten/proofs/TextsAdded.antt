@@ -55,16 +55,16 @@ module _ (texts : List BfEntry) (range : Range) (room : IsTextRoom texts range.s
   pub no_text : (code : ℕ) → range.start ≤ code → text_said texts code ≡ None
   no_text code le = text_spelled texts code ∙ ap spelled (no_units code le)
 
-  pub none_added : (text : ℕ → Option (List ℕ)) → ((code : ℕ) → range.start ≤ code → code ≤ range.end → text code ≡ None) → AreTextsAdded texts range text texts
+  pub none_added : (text : ℕ → Option (List ℕ)) → ((code : ℕ) → range.start ≤ code → code ≤ range.end → text code ≡ None) → AreTextsAdded texts range.start (range.end + 1) text texts
   none_added text none = record {
     room = record { tidy = room.tidy; ends = All-weaker (λ e. e.end < range.start) (λ e. e.end < range.end + 1) (λ e before. omega arith) texts room.ends };
-    here = λ code le within. no_text code le ∙ sym (none code le within);
+    here = λ code le within. no_text code le ∙ sym (none code le (omega arith));
     below = λ code lt. refl;
   }
 
   pub units_added : (units : List ℕ) (end : ℕ) (new : List BfEntry) → 0 < length units → end ≤ range.end → ((code : ℕ) → end < code → code ≤ range.end → 2 ^ 16 ≤ last_unit units + (code - range.start)) → AreTidyTexts new
       → ((code : ℕ) → units_said new code ≡ said_with (record { start = range.start; end = end }) (λ code. shifted units (code - range.start)) (units_said texts) code)
-      → All (λ e. e.end ≤ end) new → AreTextsAdded texts range (λ code. text_at units (code - range.start)) new
+      → All (λ e. e.end ≤ end) new → AreTextsAdded texts range.start (range.end + 1) (λ code. text_at units (code - range.start)) new
   units_added units end new some within past tidy now ends =
       let part : Range = record { start = range.start; end = end } in
       record {
@@ -72,16 +72,32 @@ module _ (texts : List BfEntry) (range : Range) (room : IsTextRoom texts range.s
         here = λ code le upto.
             elim (cases_lt end code) [
               | inl after ↦ text_spelled new code ∙ ap spelled (now code ∙ with_others part (λ code. shifted units (code - range.start)) (units_said texts) code (λ le in_part. omega arith) ∙ no_units code le)
-                  ∙ sym (ap (option_and_then characters) (passed units (code - range.start) some (past code after upto)))
+                  ∙ sym (ap (option_and_then characters) (passed units (code - range.start) some (past code after (omega arith))))
               | inr here ↦ text_spelled new code ∙ ap spelled (now code ∙ with_here part (λ code. shifted units (code - range.start)) (units_said texts) code le here)
             ];
         below = λ code lt.
             text_spelled new code ∙ ap spelled (now code ∙ with_others part (λ code. shifted units (code - range.start)) (units_said texts) code (λ le in_part. omega arith)) ∙ sym (text_spelled texts code);
       }
 
--- the same texts
-pub same_texts : (texts new : List BfEntry) (range : Range) (text other : ℕ → Option (List ℕ)) → ((code : ℕ) → range.start ≤ code → code ≤ range.end → text code ≡ other code) → AreTextsAdded texts range text new → AreTextsAdded texts range other new
-same_texts texts new range text other same added = record { room = added.room; here = λ code le within. added.here code le within ∙ same code le within; below = added.below }
+-- ---- part after part
+pub same_texts : (texts new : List BfEntry) (first limit : ℕ) (text other : ℕ → Option (List ℕ)) → ((code : ℕ) → first ≤ code → code < limit → text code ≡ other code) → AreTextsAdded texts first limit text new → AreTextsAdded texts first limit other new
+same_texts texts new first limit text other same added = record { room = added.room; here = λ code le lt. added.here code le lt ∙ same code le lt; below = added.below }
+
+pub AreTextsAdded-none : (texts : List BfEntry) (first : ℕ) (text : ℕ → Option (List ℕ)) → IsTextRoom texts first → AreTextsAdded texts first first text texts
+AreTextsAdded-none texts first text room = record { room = room; here = λ code le lt. absurd (omega (arith, le, lt)); below = λ code lt. refl }
+
+-- the codes up to the next one were added, and then more
+pub AreTextsAdded-more : (texts mid new : List BfEntry) (first next limit : ℕ) (text part : ℕ → Option (List ℕ)) → first ≤ next → AreTextsAdded texts first next text mid → AreTextsAdded mid next limit part new
+    → ((code : ℕ) → next ≤ code → code < limit → text code ≡ part code) → AreTextsAdded texts first limit text new
+AreTextsAdded-more texts mid new first next limit text part le before now same = record {
+  room = now.room;
+  here = λ code from lt.
+      elim (cases_lt code next) [
+        | inl old ↦ now.below code old ∙ before.here code from old
+        | inr new ↦ now.here code new lt ∙ sym (same code new lt)
+      ];
+  below = λ code lt. now.below code (omega arith) ∙ before.below code lt;
+}
 
 -- ---- the texts of a declaration, from a code on
 module _ (e : BfEntry) (first code : ℕ) (begun : e.start ≤ first) (le : first ≤ code) where

@@ -1,15 +1,14 @@
 -- What a list of texts declares for the codes of a table, stretch by stretch.
 use Rattle.std.proofs.Common.{ℕ, ◌+◌, ◌<◌, ◌≤◌, ◌^◌, List, [], Option, None, inl, inr, refl, sym, ◌∙◌, arith}
-use Rattle.std.specs.Prelude.{◌↔◌, IsSome, option_and_then}
+use Rattle.std.specs.Prelude.{◌↔◌, IsSome}
 use Rattle.std.proofs.lemmas.Bool.{cases_lt}
 use Rattle.std.proofs.lemmas.List.Elements.{All-nil}
 use Rattle.cmap_runs.specs.Ranges.{last_of}
 use Rattle.cmap_runs.specs.Stretches.{IsStretch}
 use Rattle.cmap_runs.specs.declared.runs.Range.{Range}
 use Rattle.cmap_values.specs.Files.{BfEntry}
-use Rattle.cmap_layers.specs.CodeStretches.{IsTextStretch}
 use Rattle.cmap_layers.specs.Layers.{Layer}
-use Rattle.cmap_layers.specs.Lookups.{bf_at, bf_of}
+use Rattle.cmap_layers.specs.Lookups.{bf_of}
 use Rattle.cmap_flatten.specs.Chosen.{ChosenNumber, codes_span}
 use Rattle.cmap_flatten.specs.Parts.{AreTexts, AreTextsAdded, AreTextsBelow, text_said}
 use Rattle.cmap_flatten.specs.declared.codes.Codes.{Codes}
@@ -32,14 +31,13 @@ module _ (layers : List Layer) (table : List Codes) (first last : ℕ) (texts : 
       }
 
   -- it has all of them, and their texts were added
-  pub added : (declaration : Option BfEntry) (part far : ℕ) (found : Option Codes) (new : List BfEntry) → IsSome found → IsStretch codes_span table first part found → last ≤ part → last ≤ far → IsTextStretch layers first far declaration
-      → AreTextsAdded texts (record { start = first; end = last }) (λ code. option_and_then (λ e. bf_at e code) declaration) new → AreTextsBelow layers table (last + 1) new
-  added declaration part far found new some has in_part in_stretch of_layers now = record {
+  pub added : (found : Option Codes) (new : List BfEntry) → IsSome found → IsStretch codes_span table first last found → AreTextsAdded texts first (last + 1) (λ code. bf_of layers code) new → AreTextsBelow layers table (last + 1) new
+  added found new some has now = record {
     room = now.room;
     codes = λ code lt.
         elim (cases_lt code first) [
           | inl old ↦ now.below code old ∙ before.codes code old
-          | inr new ↦ now.here code new (omega arith) ∙ sym (of_layers.texts code new (omega arith)) ∙ sym (wanted_some table code (bf_of layers code) found some (has code new (omega arith)))
+          | inr new ↦ now.here code new lt ∙ sym (wanted_some table code (bf_of layers code) found some (has code new (omega arith)))
         ];
   }
 

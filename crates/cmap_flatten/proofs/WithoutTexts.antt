@@ -13,7 +13,10 @@ use Rattle.cmap_layers.specs.LayersSeen.{layer_seen, layers_seen}
 use Rattle.cmap_layers.specs.Lookups.{bf_of, cid_of, decided_text, last_bf}
 use Rattle.cmap_layers.specs.declared.layer.Layer as declared
 use Rattle.cmap_unicode.specs.Cids.{declared_cid, without_texts}
+use Rattle.cmap_flatten.specs.Parts.{AreTexts}
 use Rattle.cmap_flatten.specs.Subsets.{IsKept}
+use Rattle.cmap_flatten.specs.declared.codes.Codes.{Codes}
+use Rattle.cmap_flatten.proofs.TidyLists.{no_texts as no_entries}
 
 same_layer : (layer : Layer) → layer.lists.bfs ≡ [] → without_texts layer ≡ layer
 same_layer layer none = sym (ap (λ bfs. record layer { lists = record layer.lists { bfs = bfs } }) none)
@@ -39,6 +42,10 @@ pub is_kept : (layers : List Layer) (code len : ℕ) → All (λ layer. layer.li
 is_kept layers code len none =
     sym (ap (λ layers. cid_of layers code len) (same_layers layers none)) ∙ sym (or_none (declared_cid layers code len))
     ∙ sym (ap (λ text. option_or (declared_cid layers code len) (only_character text)) (no_text layers code none))
+
+-- there are no texts to declare
+pub AreTexts-none : (layers : List Layer) (chosen : List Codes) → All (λ layer. layer.lists.bfs ≡ []) layers → AreTexts layers chosen []
+AreTexts-none layers chosen none = record { tidy = no_entries; codes = λ code small. (λ is. sym (no_text layers code none), λ other. refl) }
 
 -- ---- layer by layer
 pub no_texts : (table : List BfRange) (bfs : List BfEntry) → length table ≤ 0 → map bf_entry_seen table ≡ bfs → bfs ≡ []

@@ -1,3 +1,4 @@
 pub mod Chosen
+pub mod Kinds
 pub mod Subsets
 pub mod Parts

@@ -1,23 +1,20 @@
 -- Private aid: what is declared for codes in a row, and the lists so far.
-use Rattle.std.specs.Prelude.{◌≡◌, ◌↔◌, ℕ, ◌+◌, ◌-◌, ◌<◌, ◌≤◌, ◌^◌, List, [], All, Contains, Option, Some, None, option_and_then, option_map, unwrap_or}
-use Rattle.std.specs.Option.{option_or}
+use Rattle.std.specs.Prelude.{◌≡◌, ◌≢◌, ◌↔◌, ℕ, ◌+◌, ◌-◌, ◌<◌, ◌≤◌, ◌^◌, List, [], All, AllPairs, Contains, Option, Some, None, option_and_then, option_map}
 use Rattle.cmap_runs.specs.Ranges.{last_of}
-use Rattle.cmap_runs.specs.declared.runs.Range.{Range}
 use Rattle.cmap_values.specs.CodeLengths.{length_of}
 use Rattle.cmap_values.specs.Files.{BfEntry, CidEntry, File, Lists}
 use Rattle.cmap_values.specs.declared.code_length.CodeLength.{CodeLength}
-use Rattle.cmap_layers.specs.CodeStretches.{cid_after}
 use Rattle.cmap_layers.specs.Layers.{Layer, top_metadata}
 use Rattle.cmap_layers.specs.Lookups.{bf_at, bf_of, cid_of, last_bf}
 use Rattle.cmap_layers.specs.StringCodes.{ranges_of}
 use Rattle.cmap_layers.specs.declared.stretches.Cids.{Cids}
-use Rattle.cmap_layers.specs.declared.stretches.Cids.TheVariants.{CountOn}
+use Rattle.cmap_layers.specs.declared.stretches.Cids.TheVariants.{Absent, CountOn, Same}
 use Rattle.cmap_layers.specs.declared.stretches.CidStretch.{CidStretch}
-use Rattle.cmap_unicode.specs.Cids.{declared_cid}
 use Rattle.cmap_flatten.specs.Chosen.{Chosen, ChosenNumber, codes_span}
+use Rattle.cmap_flatten.specs.Kinds.{Given, as_cid, as_notdef, cid_given, cid_listed, given, notdef_given}
 use Rattle.cmap_flatten.specs.Subsets.{AnswersOnly, IsContradiction, IsKept, cid_of_one}
 use Rattle.cmap_flatten.specs.declared.answers.Contradiction.{Contradiction}
-use Rattle.cmap_tidy.specs.Tidy.{AreTidyCids, AreTidyNotdefs, AreTidyTexts, cid_said, notdef_said}
+use Rattle.cmap_tidy.specs.Tidy.{AreTidyCids, AreTidyNotdefs, AreTidyTexts, notdef_said}
 use Rattle.cmap_flatten.specs.declared.codes.Codes.{Codes}
 
 -- the CIDs that count on are numbers of 32 bits up to this many codes after the first
@@ -25,18 +22,28 @@ abbrev pub Fits : Cids → ℕ → Type 0
 Fits (CountOn cid) more = cid + more < 2 ^ 32
 Fits _ more = Unit {0}
 
--- of the codes from the first to the last one a layer decides that they have these CIDs, or it decides nothing
-abbrev pub Decides : (ℕ → Option (Option ℕ)) → ℕ → ℕ → Option Cids → Type 0
-Decides decision first last cids = (code : ℕ) → first ≤ code → code ≤ last → decision code ≡ option_map (λ these. cid_after these (code - first)) cids
+-- CIDs that count on are declared as CIDs, and one CID for all codes as a notdef
+abbrev pub given_after : Cids → ℕ → Option Given
+given_after Absent k = None
+given_after (Same cid) k = Some (as_notdef cid)
+given_after (CountOn cid) k = Some (as_cid (cid + k))
 
--- the CIDs that are declared for codes of len bytes from the first one on
+-- of the codes from the first to the last one a layer decides that these are declared, or it decides nothing
+abbrev pub Decides : (ℕ → Option (Option Given)) → ℕ → ℕ → Option Cids → Type 0
+Decides decision first last cids = (code : ℕ) → first ≤ code → code ≤ last → decision code ≡ option_map (λ these. given_after these (code - first)) cids
+
+-- what is declared for codes of len bytes from the first one on
 pub record IsDeclaredStretch (layers : List Layer) (len first : ℕ) (stretch : CidStretch) : Type 0 where
-  pub cids : (code : ℕ) → first ≤ code → code ≤ stretch.last → declared_cid layers code len ≡ cid_after stretch.cids (code - first)
+  pub cids : (code : ℕ) → first ≤ code → code ≤ stretch.last → given layers code len ≡ given_after stretch.cids (code - first)
   pub fit : Fits stretch.cids (stretch.last - first)
 
--- the CID that two lists declare for a code: that of a CID declaration, or else of a notdef
-abbrev pub said : List CidEntry → List CidEntry → ℕ → Option ℕ
-said cids notdefs code = unwrap_or (option_or (cid_said cids code) (option_map (λ cid. Some cid) (notdef_said notdefs code))) None
+-- the CID and the notdef that two lists give to a code
+abbrev pub said : List CidEntry → List CidEntry → ℕ → Option ℕ × Option ℕ
+said cids notdefs code = (cid_listed cids code, notdef_said notdefs code)
+
+-- those that are declared
+abbrev pub parts : Option Given → Option ℕ × Option ℕ
+parts declared = (cid_given declared, notdef_given declared)
 
 -- what the answer for a code is to be: that of the whole where the table has the code
 abbrev pub wanted : {A : Type 0} → List Codes → ℕ → Option A → Option A
@@ -52,7 +59,7 @@ pub record IsRoom (cids notdefs : List CidEntry) (limit : ℕ) : Type 0 where
 -- they declare what the layers do for the codes below the limit that the table has, and for no others
 pub record AreDeclaredBelow (layers : List Layer) (len : ℕ) (table : List Codes) (limit : ℕ) (cids notdefs : List CidEntry) : Type 0 where
   pub room : IsRoom cids notdefs limit
-  pub codes : (code : ℕ) → code < limit → said cids notdefs code ≡ wanted table code (declared_cid layers code len)
+  pub codes : (code : ℕ) → code < limit → said cids notdefs code ≡ parts (wanted table code (given layers code len))
 
 -- the text that a list declares for a code
 abbrev pub text_said : List BfEntry → ℕ → Option (List ℕ)
@@ -68,31 +75,37 @@ pub record AreTextsBelow (layers : List Layer) (table : List Codes) (limit : ℕ
   pub room : IsTextRoom texts limit
   pub codes : (code : ℕ) → code < limit → text_said texts code ≡ wanted table code (bf_of layers code)
 
--- codes with these texts are added to a list, and for all others it declares what it did
-pub record AreTextsAdded (texts : List BfEntry) (range : Range) (text : ℕ → Option (List ℕ)) (new : List BfEntry) : Type 0 where
-  pub room : IsTextRoom new (range.end + 1)
-  pub here : (code : ℕ) → range.start ≤ code → code ≤ range.end → text_said new code ≡ text code
-  pub below : (code : ℕ) → code < range.start → text_said new code ≡ text_said texts code
+-- the codes from the first one up to the limit are added to a list with these texts, and for those before them it declares what it did
+pub record AreTextsAdded (texts : List BfEntry) (first limit : ℕ) (text : ℕ → Option (List ℕ)) (new : List BfEntry) : Type 0 where
+  pub room : IsTextRoom new limit
+  pub here : (code : ℕ) → first ≤ code → code < limit → text_said new code ≡ text code
+  pub below : (code : ℕ) → code < first → text_said new code ≡ text_said texts code
 
 -- a tidy list of the texts of the layers for the chosen numbers, and for no others
 pub record AreTexts (layers : List Layer) (chosen : List Codes) (texts : List BfEntry) : Type 0 where
   pub tidy : AreTidyTexts texts
   pub codes : (code : ℕ) → code < 2 ^ 32 → AnswersOnly (ChosenNumber chosen code) (bf_of layers code) (text_said texts code)
 
--- codes with these CIDs are added to two lists, and for all others these declare what they did
-pub record IsAdded (cids notdefs : List CidEntry) (range : Range) (these : Cids) (new_cids new_notdefs : List CidEntry) : Type 0 where
-  pub room : IsRoom new_cids new_notdefs (range.end + 1)
-  pub here : (code : ℕ) → range.start ≤ code → code ≤ range.end → said new_cids new_notdefs code ≡ cid_after these (code - range.start)
-  pub below : (code : ℕ) → code < range.start → said new_cids new_notdefs code ≡ said cids notdefs code
+-- the codes from the first one up to the limit are added to two lists with what is declared for them, and for those before them the lists declare what they did
+pub record IsAdded (cids notdefs : List CidEntry) (first limit : ℕ) (declared : ℕ → Option Given) (new_cids new_notdefs : List CidEntry) : Type 0 where
+  pub room : IsRoom new_cids new_notdefs limit
+  pub here : (code : ℕ) → first ≤ code → code < limit → said new_cids new_notdefs code ≡ parts (declared code)
+  pub below : (code : ℕ) → code < first → said new_cids new_notdefs code ≡ said cids notdefs code
 
 -- two tidy lists that declare what the layers do for the chosen codes of len bytes, and for no others
-pub record AreDeclared (layers : List Layer) (chosen : List Codes) (len : ℕ) (cids notdefs : List CidEntry) : Type 0 where
-  pub tidy : AreTidyCids cids × AreTidyNotdefs notdefs
-  pub codes : (code : ℕ) → code < 2 ^ 32 → AnswersOnly (Chosen chosen code len) (declared_cid layers code len) (said cids notdefs code)
+pub record AreDeclared (layers : List Layer) (chosen : List Codes) (len : ℕ) (cid_list notdef_list : List CidEntry) : Type 0 where
+  pub tidy : AreTidyCids cid_list × AreTidyNotdefs notdef_list
+  pub cids : (code : ℕ) → code < 2 ^ 32 → AnswersOnly (Chosen chosen code len) (cid_given (given layers code len)) (cid_listed cid_list code)
+  pub notdefs : (code : ℕ) → code < 2 ^ 32 → AnswersOnly (Chosen chosen code len) (notdef_given (given layers code len)) (notdef_said notdef_list code)
 
 -- two lists have the same elements, in whatever order and however often
 abbrev pub HasSame : {A : Type 0} → List A → List A → Type 0
 HasSame {A} xs ys = (x : A) → Contains xs x ↔ Contains ys x
+
+-- a list has the elements of another, each once
+pub record AreEachOnce {A : Type 0} (all kept : List A) : Type 0 where
+  pub same : HasSame all kept
+  pub once : AllPairs (λ x later. x ≢ later) kept
 
 -- the lists of one file: what the layers declare for the chosen codes, and their codespace ranges
 pub record AreLists (layers : List Layer) (chosen : List Codes) (lists : Lists) : Type 0 where
@@ -101,7 +114,7 @@ pub record AreLists (layers : List Layer) (chosen : List Codes) (lists : Lists) 
   pub three : AreDeclared layers chosen 3 lists.cids.three lists.notdefs.three
   pub four : AreDeclared layers chosen 4 lists.cids.four lists.notdefs.four
   pub texts : AreTexts layers chosen lists.bfs
-  pub spaces : HasSame (ranges_of layers) lists.spaces
+  pub spaces : AreEachOnce (ranges_of layers) lists.spaces
 
 -- the file of the top layer's metadata and of such lists
 pub record IsFileOf (layers : List Layer) (chosen : List Codes) (file : File) : Type 0 where
@@ -124,3 +137,7 @@ IsFound layers chosen at = (at.code < 2 ^ 32) × IsContradiction layers chosen a
 -- the CIDs of a map are those that one file can give to the chosen codes
 abbrev pub HasCidsOfOne : List Layer → List Codes → List Layer → Type 0
 HasCidsOfOne layers chosen flat = (code : ℕ) (len : CodeLength) → code < 2 ^ 32 → Chosen chosen code (length_of len) → cid_of flat code (length_of len) ≡ cid_of_one layers code (length_of len)
+
+-- two maps have the same CIDs for the codes from the first one up to the limit
+abbrev pub HaveSameCids : List Layer → List Layer → ℕ → ℕ → ℕ → Type 0
+HaveSameCids one other len first limit = (code : ℕ) → first ≤ code → code < limit → cid_of one code len ≡ cid_of other code len

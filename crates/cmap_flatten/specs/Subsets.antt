@@ -1,15 +1,16 @@
 -- One file with the answers of a map of several layers, for all codes or for those that are chosen.
-use Rattle.std.specs.Prelude.{◌≡◌, ◌↔◌, ℕ, ◌<◌, ◌^◌, List, [], ◌∷◌, Any, Option, Some, None}
+use Rattle.std.specs.Prelude.{◌≡◌, ◌≢◌, ◌↔◌, ℕ, ◌<◌, ◌^◌, List, [], ◌∷◌, AllPairs, Any, Option, Some, None}
 use Rattle.std.specs.List.{Contains}
 use Rattle.std.specs.Option.{option_or}
 use Rattle.cmap_tokens.specs.Texts.{only_character}
 use Rattle.cmap_values.specs.CodeLengths.{IsCodeLength, length_of}
-use Rattle.cmap_values.specs.Files.{Codespace, File, Lists}
+use Rattle.cmap_values.specs.Files.{Codespace, File, Lists, of_length}
 use Rattle.cmap_layers.specs.Layers.{Layer, layer_of, top_metadata}
 use Rattle.cmap_layers.specs.Lookups.{bf_of, cid_of}
 use Rattle.cmap_unicode.specs.Cids.{declared_cid}
 use Rattle.cmap_flatten.specs.Chosen.{Chosen, ChosenNumber}
-use Rattle.cmap_tidy.specs.Tidy.{AreTidyCids, AreTidyNotdefs, AreTidyTexts}
+use Rattle.cmap_flatten.specs.Kinds.{cid_given, cid_listed, given, notdef_given}
+use Rattle.cmap_tidy.specs.Tidy.{AreTidyCids, AreTidyNotdefs, AreTidyTexts, notdef_said}
 use Rattle.cmap_flatten.specs.declared.codes.Codes.{Codes}
 use Rattle.cmap_flatten.specs.declared.answers.Contradiction.{Contradiction}
 
@@ -32,8 +33,13 @@ pub record AnswersAs (IsChosen : ℕ → ℕ → Type 0) (IsChosenNumber : ℕ �
   pub uses : file.uses ≡ []
   -- a codespace range is one of the file just if it is one of some layer, so strings are cut alike
   pub spaces : (space : Codespace) → (Contains file.lists.spaces space ↔ Any (λ layer. Contains layer.lists.spaces space) layers)
+  -- each of them stands once
+  pub spaces_once : AllPairs (λ space later. space ≢ later) file.lists.spaces
   -- for each chosen code it declares the CID that the layers do
   pub declared : (code len : ℕ) → code < 2 ^ 32 → IsCodeLength len → AnswersOnly (IsChosen code len) (declared_cid layers code len) (declared_cid (layer_of file ∷ []) code len)
+  -- a CID stands there as a CID, and a notdef as a notdef
+  pub cids : (code len : ℕ) → code < 2 ^ 32 → IsCodeLength len → AnswersOnly (IsChosen code len) (cid_given (given layers code len)) (cid_listed (of_length file.lists.cids len) code)
+  pub notdefs : (code len : ℕ) → code < 2 ^ 32 → IsCodeLength len → AnswersOnly (IsChosen code len) (notdef_given (given layers code len)) (notdef_said (of_length file.lists.notdefs len) code)
   -- and it gives the text that they give
   pub texts : (code : ℕ) → code < 2 ^ 32 → AnswersOnly (IsChosenNumber code) (bf_of layers code) (bf_of (layer_of file ∷ []) code)
   -- a lookup, which falls back on the text, gives the same CID

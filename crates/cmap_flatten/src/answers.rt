@@ -1,20 +1,20 @@
 //! The codes for which no file has all answers of a map.
 
-ghost use Rattle.std.specs.Prelude.{◌≡◌, ◌≢◌, ℕ, ◌+◌, ◌-◌, ◌<◌, ◌≤◌, ◌^◌, All, IfOk, IsSome, MatchOption, [], false};
+ghost use Rattle.std.specs.Prelude.{◌≡◌, ◌≢◌, ℕ, ◌+◌, ◌-◌, ◌<◌, ◌≤◌, ◌^◌, IfOk, IsSome, MatchOption};
 ghost use Rattle.cmap_runs.specs.Ranges.{last_of};
 ghost use Rattle.cmap_values.specs.CodeLengths.{length_of};
 ghost use Rattle.cmap_layers.specs.CodeStretches.{cid_after};
 ghost use Rattle.cmap_layers.specs.Lookups.{cid_of};
 ghost use Rattle.cmap_flatten.specs.Chosen.{codes_span};
-ghost use Rattle.cmap_flatten.specs.Parts.{AreAllKept, AreKept, HasCidsOfOne, IsFound};
+ghost use Rattle.cmap_flatten.specs.Parts.{AreAllKept, AreKept, HasCidsOfOne, HaveSameCids, IsFound};
 
 use crate::codes::{Codes, codes_of_length};
 use crate::lists::lists_of;
-use crate::stretch::{CODE_COUNT, stretch_of};
+use crate::texts::declare_texts;
 use cmap_layers::layer::Layer;
 use cmap_layers::layers::Layers;
 use cmap_layers::stretches::Cids;
-use cmap_runs::runs::Table;
+use cmap_runs::runs::{Looks, Range, Table};
 use cmap_values::code_length::CodeLength;
 use cmap_values::metadata::Metadata;
 use cmap_values::names::Cid;
@@ -45,19 +45,6 @@ pub(crate) fn find_contradiction(
     }
     let flat = flat_layers(alloc, layers, codes)?;
     contradiction_with(alloc, layers, &flat, codes)
-}
-
-/// Whether some layer declares texts.
-fn declare_texts(layers: &Layers) -> bool
-    ensures { result ≡ false → All (λ layer. layer.lists.bfs ≡ []) layers.now }
-{
-    let layers = layers.as_slice();
-    for layer in layers {
-        if layer.texts().decl_count() > 0 {
-            return true;
-        }
-    }
-    false
 }
 
 /// A map of one layer that has the declarations of all layers for the chosen codes.
@@ -128,53 +115,46 @@ fn difference(one: &Layers, other: &Layers, chosen: &Table<Codes>, len: CodeLeng
         (λ code. (code < 2 ^ 32) × IsSome (last_of codes_span chosen.now code)
         × (cid_of one.now code (length_of len) ≢ cid_of other.now code (length_of len))) }
 {
-    let mut next = 0;
-    while next < CODE_COUNT {
-        let part = compared_from(one, other, chosen, next as u32, len);
-        if part.difference.is_some() {
-            return part.difference;
+    let mut looks = Looks::new();
+    let mut stretches = chosen.stretches(0, &mut looks);
+    let mut next: u64 = 0;
+    while let Some(stretch) = stretches.next(&mut looks) {
+        if stretch.declaration.is_some() {
+            let range = Range {
+                start: next as u32,
+                end: stretch.last,
+            };
+            let found = difference_in(one, other, range, len);
+            if found.is_some() {
+                return found;
+            }
         }
-        next = u64::from(part.last) + 1;
+        next = u64::from(stretch.last) + 1;
     }
     None
 }
 
-/// Codes in a row, and the first of them for which two maps have different CIDs.
-#[derive(Clone, Copy)]
-struct Compared {
-    difference: Option<u32>,
-    last: u32,
-}
-
-/// What codes of a table from `first` on have in two maps.
-fn compared_from(
-    one: &Layers,
-    other: &Layers,
-    chosen: &Table<Codes>,
-    first: u32,
-    len: CodeLength,
-) -> Compared
-    ensures within { first ≤ result.last }
-    ensures difference { MatchOption result.difference
-        ((code : ℕ) → first ≤ code → code ≤ result.last → IsSome (last_of codes_span chosen.now code)
-        → cid_of one.now code (length_of len) ≡ cid_of other.now code (length_of len))
-        (λ code. (code < 2 ^ 32) × IsSome (last_of codes_span chosen.now code)
+/// The first code of a range for which two maps have different CIDs.
+fn difference_in(one: &Layers, other: &Layers, range: Range, len: CodeLength) -> Option<u32>
+    requires { range.start ≤ range.end }
+    ensures { MatchOption result (HaveSameCids one.now other.now (length_of len) range.start (range.end + 1))
+        (λ code. (range.start ≤ code) × (code ≤ range.end)
         × (cid_of one.now code (length_of len) ≢ cid_of other.now code (length_of len))) }
 {
-    let part = stretch_of(chosen, first);
-    if part.declaration.is_none() {
-        return Compared {
-            difference: None,
-            last: part.last,
-        };
+    let end = u64::from(range.end);
+    let mut next = u64::from(range.start);
+    while next <= end {
+        let start = next as u32;
+        let mine = one.cid_stretch(start, len);
+        let theirs = other.cid_stretch(start, len);
+        let last = mine.last.min(theirs.last).min(range.end);
+        let found = first_difference(mine.cids, theirs.cids, start, last);
+        if found.is_some() {
+            return found;
+        }
+        next = u64::from(last) + 1;
     }
-    let mine = one.cid_stretch(first, len);
-    let theirs = other.cid_stretch(first, len);
-    let last = part.last.min(mine.last).min(theirs.last);
-    Compared {
-        difference: first_difference(mine.cids, theirs.cids, first, last),
-        last,
-    }
+    None
 }
 
 /// The first of the codes from `first` to `last` for which these CIDs differ.

@@ -3,14 +3,14 @@
 ghost use Rattle.std.specs.Prelude.{◌+◌, ◌-◌, ◌≤◌, ◌^◌, IfOk, OnOk};
 ghost use Rattle.cmap_values.specs.CodeLengths.{length_of};
 ghost use Rattle.cmap_values.specs.DeclarationsSeen.{entries_seen};
-ghost use Rattle.cmap_flatten.specs.Parts.{AreDeclared, AreDeclaredBelow, Fits, IsAdded, IsRoom};
+ghost use Rattle.cmap_flatten.specs.Kinds.{given};
+ghost use Rattle.cmap_flatten.specs.Parts.{AreDeclared, AreDeclaredBelow, Fits, IsAdded, IsRoom, given_after};
 
 use crate::codes::{Codes, codes_of_length};
 use crate::declared::declared_stretch;
-use crate::stretch::{CODE_COUNT, stretch_of};
 use cmap_layers::layers::Layers;
 use cmap_layers::stretches::Cids;
-use cmap_runs::runs::{Range, Table};
+use cmap_runs::runs::{Looks, Range, Table};
 use cmap_tidy::{push_cids, push_notdefs};
 use cmap_values::code_length::CodeLength;
 use cmap_values::declarations::CidRange;
@@ -24,14 +24,44 @@ pub(crate) struct Declared {
 }
 
 impl Declared {
-    /// Adds codes with these CIDs, after all others.
+    /// Adds what the layers declare for the codes of a range, after all others.
+    fn add_codes(
+        &mut self,
+        layers: &Layers,
+        range: Range,
+        len: CodeLength,
+    ) -> Result<(), AllocError>
+        requires room { IsRoom (entries_seen self.now.cids.items)
+            (entries_seen self.now.notdefs.items) range.start }
+        requires range { range.start ≤ range.end }
+        ensures { OnOk result (IsAdded (entries_seen self.old.cids.items) (entries_seen self.old.notdefs.items)
+            range.start (range.end + 1) (λ code. given layers.now code (length_of len))
+            (entries_seen self.new.cids.items) (entries_seen self.new.notdefs.items)) }
+    {
+        let end = u64::from(range.end);
+        let mut next = u64::from(range.start);
+        while next <= end {
+            let start = next as u32;
+            let declared = declared_stretch(layers, start, len);
+            let part = Range {
+                start,
+                end: declared.last.min(range.end),
+            };
+            next = u64::from(part.end) + 1;
+            self.add(declared.cids, part)?;
+        }
+        Ok(())
+    }
+
+    /// Adds codes with these CIDs, after all others: those that count on as CIDs, and one for all as a notdef.
     fn add(&mut self, cids: Cids, range: Range) -> Result<(), AllocError>
         requires room { IsRoom (entries_seen self.now.cids.items)
             (entries_seen self.now.notdefs.items) range.start }
         requires range { range.start ≤ range.end }
         requires fits { Fits cids (range.end - range.start) }
         ensures { OnOk result (IsAdded (entries_seen self.old.cids.items) (entries_seen self.old.notdefs.items)
-            range cids (entries_seen self.new.cids.items) (entries_seen self.new.notdefs.items)) }
+            range.start (range.end + 1) (λ code. given_after cids (code - range.start))
+            (entries_seen self.new.cids.items) (entries_seen self.new.notdefs.items)) }
     {
         match cids {
             Cids::Absent => Ok(()),
@@ -41,8 +71,8 @@ impl Declared {
     }
 }
 
-/// The declarations for the chosen codes of this length: they give to each the CID that the layers
-/// declare.
+/// The declarations for the chosen codes of this length: they give to each what the layers declare, a CID
+/// or a notdef.
 pub(crate) fn declared_of(
     alloc: Global,
     layers: &Layers,
@@ -70,40 +100,18 @@ fn declared_in(
         cids: Vec::new(alloc),
         notdefs: Vec::new(alloc),
     };
-    let mut next = 0;
-    while next < CODE_COUNT {
-        let last = add_stretch(&mut made, layers, chosen, next as u32, len)?;
-        next = u64::from(last) + 1;
+    let mut looks = Looks::new();
+    let mut stretches = chosen.stretches(0, &mut looks);
+    let mut next: u64 = 0;
+    while let Some(stretch) = stretches.next(&mut looks) {
+        if stretch.declaration.is_some() {
+            let range = Range {
+                start: next as u32,
+                end: stretch.last,
+            };
+            made.add_codes(layers, range, len)?;
+        }
+        next = u64::from(stretch.last) + 1;
     }
     Ok(made)
-}
-
-/// Adds declarations for codes from `first` on, and gives the last of these codes.
-fn add_stretch(
-    made: &mut Declared,
-    layers: &Layers,
-    chosen: &Table<Codes>,
-    first: u32,
-    len: CodeLength,
-) -> Result<u32, AllocError>
-    requires { AreDeclaredBelow layers.now (length_of len) chosen.now first
-        (entries_seen made.now.cids.items) (entries_seen made.now.notdefs.items) }
-    ensures within { IfOk result (λ last. first ≤ last) }
-    ensures added { IfOk result (λ last. AreDeclaredBelow layers.now (length_of len) chosen.now (last + 1)
-        (entries_seen made.new.cids.items) (entries_seen made.new.notdefs.items)) }
-{
-    let part = stretch_of(chosen, first);
-    if part.declaration.is_none() {
-        return Ok(part.last);
-    }
-    let declared = declared_stretch(layers, first, len);
-    let last = part.last.min(declared.last);
-    made.add(
-        declared.cids,
-        Range {
-            start: first,
-            end: last,
-        },
-    )?;
-    Ok(last)
 }

@@ -5,9 +5,8 @@ ghost use Rattle.std.specs.Option.{option_copied};
 ghost use Rattle.cmap_values.specs.CodeLengths.{length_of};
 ghost use Rattle.cmap_values.specs.DeclarationsSeen.{cid_entry_seen};
 ghost use Rattle.cmap_layers.specs.LayersSeen.{layer_seen};
-ghost use Rattle.cmap_layers.specs.Lookups.{cid_at};
 ghost use Rattle.cmap_layers.specs.declared.stretches.Cids.TheVariants.{Same};
-ghost use Rattle.cmap_unicode.specs.LayersTried.{declared_in};
+ghost use Rattle.cmap_flatten.specs.Kinds.{given_at, given_in};
 ghost use Rattle.cmap_flatten.specs.Parts.{Decides, Fits, IsDeclaredStretch};
 
 use crate::stretch::stretch_of;
@@ -48,7 +47,7 @@ pub(crate) fn declared_stretch(layers: &Layers, first: u32, len: CodeLength) -> 
 /// What a layer declares for codes from `first` on.
 fn stretch_in(layer: &Layer, first: u32, len: CodeLength) -> LayerStretch
     ensures within { first ≤ result.last }
-    ensures cids { Decides (λ code. declared_in (layer_seen layer.now) code (length_of len))
+    ensures cids { Decides (λ code. given_in (layer_seen layer.now) code (length_of len))
         first result.last result.cids }
     ensures fit { IfSome result.cids (λ cids. Fits cids (result.last - first)) }
 {
@@ -76,7 +75,7 @@ fn counted_on(declaration: &CidRange, first: u32, last: u32) -> LayerStretch
     requires start { declaration.now.range.start ≤ first }
     requires last { first ≤ last }
     ensures within { (first ≤ result.last) × (result.last ≤ last) }
-    ensures cids { Decides (λ code. Some (cid_at (cid_entry_seen declaration.now) code))
+    ensures cids { Decides (λ code. Some (given_at (cid_entry_seen declaration.now) code))
         first result.last result.cids }
     ensures fit { IfSome result.cids (λ cids. Fits cids (result.last - first)) }
 {

@@ -1,10 +1,10 @@
 //! The declarations of one file for the chosen codes.
 
-ghost use Rattle.std.specs.Prelude.{◌≡◌, ◌++◌, ◌∷◌, [], Contains, IfOk, IsTrue, List, OnOk, map};
-ghost use Rattle.cmap_values.specs.Files as files;
+ghost use Rattle.std.specs.Prelude.{◌≡◌, IfOk, map};
+ghost use Rattle.cmap_values.specs.CodeLengths.{length_of};
 ghost use Rattle.cmap_values.specs.DeclarationsSeen.{codespace_seen, lists_seen};
 ghost use Rattle.cmap_layers.specs.StringCodes.{ranges_of};
-ghost use Rattle.cmap_flatten.specs.Parts.{AreLists, HasSame};
+ghost use Rattle.cmap_flatten.specs.Parts.{AreEachOnce, AreLists};
 
 use crate::cids::declared_of;
 use crate::codes::Codes;
@@ -47,44 +47,19 @@ pub(crate) fn lists_of(alloc: Global, layers: &Layers, codes: &[Codes]) -> Resul
 
 /// The codespace ranges of all layers, each once, those with the fewest bytes first.
 fn spaces_of(alloc: Global, layers: &Layers) -> Result<Vec<Codespace>, AllocError>
-    ensures { IfOk result (λ spaces. HasSame (ranges_of layers.now) (map codespace_seen spaces.items)) }
+    ensures { IfOk result (λ spaces. AreEachOnce (ranges_of layers.now) (map codespace_seen spaces.items)) }
 {
     let mut spaces = all_spaces(alloc, layers)?;
-    spaces.sort_unstable_by_key(|space| (space.len.count(), space.low, space.high));
-    each_once(alloc, &spaces)
+    spaces.sort_unstable_by_key(|space| order_of(space));
+    spaces.dedup_by_key(|space| order_of(space));
+    Ok(spaces)
 }
 
-/// Codespace ranges, of those that are the same and follow each other one.
-fn each_once(alloc: Global, spaces: &[Codespace]) -> Result<Vec<Codespace>, AllocError>
-    ensures { IfOk result (λ once. HasSame (map codespace_seen spaces.now) (map codespace_seen once.items)) }
+/// By what codespace ranges are put in order.
+fn order_of(space: &Codespace) -> (u8, u32, u32)
+    ensures { result ≡ (length_of space.now.len, space.now.low, space.now.high) }
 {
-    let mut once = Vec::new(alloc);
-    for space in spaces {
-        add_once(&mut once, *space)?;
-    }
-    Ok(once)
-}
-
-/// Adds a codespace range to a list, unless it is the last one there.
-fn add_once(once: &mut Vec<Codespace>, space: Codespace) -> Result<(), AllocError>
-    ensures { OnOk result ((spaces : List files.Codespace)
-        → HasSame spaces (map codespace_seen once.old.items)
-        → HasSame (spaces ++ codespace_seen space ∷ []) (map codespace_seen once.new.items)) }
-{
-    if !is_last(once, space) {
-        once.push(space)?;
-    }
-    Ok(())
-}
-
-/// Whether a codespace range is the last of a list.
-fn is_last(spaces: &[Codespace], space: Codespace) -> bool
-    ensures { IsTrue result → Contains (map codespace_seen spaces.now) (codespace_seen space) }
-{
-    match spaces.last() {
-        Some(last) => last.len == space.len && last.low == space.low && last.high == space.high,
-        None => false,
-    }
+    (space.len.count(), space.low, space.high)
 }
 
 /// The codespace ranges of all layers.

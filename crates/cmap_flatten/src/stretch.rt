@@ -6,9 +6,6 @@ ghost use Rattle.cmap_runs.specs.Stretches.{IsStretch};
 
 use cmap_runs::runs::{HasRange, Looks, Stretch, Table};
 
-/// How many codes there are of 32 bits.
-pub(crate) const CODE_COUNT: u64 = 1 << 32;
-
 /// The codes of a table from `first` on.
 pub(crate) fn stretch_of<T: HasRange>(table: &Table<T>, first: u32) -> Stretch<'_, T>
     ensures within { first ≤ result.last }

@@ -1,15 +1,14 @@
 //! The declarations of texts for the chosen codes.
 
-ghost use Rattle.std.specs.Prelude.{◌≡◌, ◌+◌, ◌-◌, ◌≤◌, ◌^◌, IfOk, OnOk, map, option_map};
+ghost use Rattle.std.specs.Prelude.{◌≡◌, ◌+◌, ◌-◌, ◌≤◌, ◌^◌, All, IfOk, OnOk, [], false, map, option_map};
 ghost use Rattle.cmap_tokens.specs.Texts.{shifted, text_at};
 ghost use Rattle.cmap_values.specs.DeclarationsSeen.{bf_entry_seen};
-ghost use Rattle.cmap_layers.specs.Lookups.{bf_at};
+ghost use Rattle.cmap_layers.specs.Lookups.{bf_at, bf_of};
 ghost use Rattle.cmap_flatten.specs.Parts.{AreTexts, AreTextsAdded, AreTextsBelow, IsTextRoom};
 
 use crate::codes::{Codes, numbers_of};
-use crate::stretch::{CODE_COUNT, stretch_of};
 use cmap_layers::layers::Layers;
-use cmap_runs::runs::{Range, Table};
+use cmap_runs::runs::{Looks, Range, Table};
 use cmap_tidy::push_texts;
 use cmap_values::declarations::BfRange;
 use std::alloc::{AllocError, Global};
@@ -22,8 +21,24 @@ pub(crate) fn texts_of(
 ) -> Result<Vec<BfRange>, AllocError>
     ensures { IfOk result (λ texts. AreTexts layers.now codes.now (map bf_entry_seen texts.items)) }
 {
+    if !declare_texts(layers) {
+        return Ok(Vec::new(alloc));
+    }
     let chosen = numbers_of(alloc, codes)?;
     texts_in(alloc, layers, &chosen)
+}
+
+/// Whether some layer declares texts.
+pub(crate) fn declare_texts(layers: &Layers) -> bool
+    ensures { result ≡ false → All (λ layer. layer.lists.bfs ≡ []) layers.now }
+{
+    let layers = layers.as_slice();
+    for layer in layers {
+        if layer.texts().decl_count() > 0 {
+            return true;
+        }
+    }
+    false
 }
 
 /// The declarations for the codes of a table.
@@ -36,41 +51,49 @@ fn texts_in(
         (map bf_entry_seen texts.items)) }
 {
     let mut texts = Vec::new(alloc);
-    let mut next = 0;
-    while next < CODE_COUNT {
-        let last = add_stretch(alloc, &mut texts, layers, chosen, next as u32)?;
-        next = u64::from(last) + 1;
+    let mut looks = Looks::new();
+    let mut stretches = chosen.stretches(0, &mut looks);
+    let mut next: u64 = 0;
+    while let Some(stretch) = stretches.next(&mut looks) {
+        if stretch.declaration.is_some() {
+            let range = Range {
+                start: next as u32,
+                end: stretch.last,
+            };
+            add_texts(alloc, &mut texts, layers, range)?;
+        }
+        next = u64::from(stretch.last) + 1;
     }
     Ok(texts)
 }
 
-/// Adds declarations for codes from `first` on, and gives the last of these codes.
-fn add_stretch(
+/// Adds the texts that the layers give to the codes of a range, after all others.
+fn add_texts(
     alloc: Global,
     texts: &mut Vec<BfRange>,
     layers: &Layers,
-    chosen: &Table<Codes>,
-    first: u32,
-) -> Result<u32, AllocError>
-    requires { AreTextsBelow layers.now chosen.now first (map bf_entry_seen texts.now.items) }
-    ensures within { IfOk result (λ last. first ≤ last) }
-    ensures added { IfOk result (λ last. AreTextsBelow layers.now chosen.now (last + 1)
-        (map bf_entry_seen texts.new.items)) }
+    range: Range,
+) -> Result<(), AllocError>
+    requires room { IsTextRoom (map bf_entry_seen texts.now.items) range.start }
+    requires range { range.start ≤ range.end }
+    ensures { OnOk result (AreTextsAdded (map bf_entry_seen texts.old.items) range.start (range.end + 1)
+        (λ code. bf_of layers.now code) (map bf_entry_seen texts.new.items)) }
 {
-    let part = stretch_of(chosen, first);
-    if part.declaration.is_none() {
-        return Ok(part.last);
-    }
-    let stretch = layers.text_stretch(first);
-    let last = part.last.min(stretch.last);
-    if let Some(declaration) = stretch.declaration {
-        let range = Range {
-            start: first,
-            end: last,
+    let end = u64::from(range.end);
+    let mut next = u64::from(range.start);
+    while next <= end {
+        let start = next as u32;
+        let stretch = layers.text_stretch(start);
+        let part = Range {
+            start,
+            end: stretch.last.min(range.end),
         };
-        add_declared(alloc, texts, declaration, range)?;
+        next = u64::from(part.end) + 1;
+        if let Some(declaration) = stretch.declaration {
+            add_declared(alloc, texts, declaration, part)?;
+        }
     }
-    Ok(last)
+    Ok(())
 }
 
 /// Adds the texts that a declaration gives to codes that it contains, after all others.
@@ -83,7 +106,7 @@ fn add_declared(
     requires room { IsTextRoom (map bf_entry_seen texts.now.items) range.start }
     requires range { range.start ≤ range.end }
     requires start { declaration.now.range.start ≤ range.start }
-    ensures { OnOk result (AreTextsAdded (map bf_entry_seen texts.old.items) range
+    ensures { OnOk result (AreTextsAdded (map bf_entry_seen texts.old.items) range.start (range.end + 1)
         (λ code. bf_at (bf_entry_seen declaration.now) code) (map bf_entry_seen texts.new.items)) }
 {
     let offset = range.start - declaration.range.start;
@@ -102,7 +125,7 @@ fn add_units(
 ) -> Result<(), AllocError>
     requires room { IsTextRoom (map bf_entry_seen texts.now.items) range.start }
     requires range { range.start ≤ range.end }
-    ensures { OnOk result (AreTextsAdded (map bf_entry_seen texts.old.items) range
+    ensures { OnOk result (AreTextsAdded (map bf_entry_seen texts.old.items) range.start (range.end + 1)
         (λ code. text_at units.now (code - range.start)) (map bf_entry_seen texts.new.items)) }
 {
     let Some(last) = units.last() else {

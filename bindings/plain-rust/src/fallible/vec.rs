@@ -119,6 +119,11 @@ impl<T> Vec<T> {
         Ok(())
     }
 
+    /// Of items of equal keys that follow each other the first one stays.
+    pub fn dedup_by_key<K: PartialEq>(&mut self, key: impl FnMut(&mut T) -> K) {
+        self.0.dedup_by_key(key);
+    }
+
     /// Gives memory back, where more than half of it isn't used. That takes a copy, since `shrink_to_fit` of `alloc`
     /// ends the program where memory runs out; where there is none for the copy, the list stays as it is.
     pub fn shrink_to_fit(&mut self) {

@@ -9,6 +9,8 @@ use Rattle.cmap_flatten.proofs.answers.difference.Given as goal
 -- both maps have the same CIDs so far
 abbrev pub invariant-loop-next : goal.invariant-loop-next
 invariant-loop-next l = record {
+  declarations : l.stretches.declarations ≡ l.chosen;
+  next : l.stretches.next ≡ l.next;
   within : l.next ≤ 2 ^ 32;
   same : (code : ℕ) → code < l.next → IsSome (last_of codes_span l.chosen code) → cid_of l.one code (length_of l.len) ≡ cid_of l.other code (length_of l.len);
 }

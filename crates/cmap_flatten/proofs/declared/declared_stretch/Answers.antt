@@ -1,12 +1,11 @@
-use Rattle.std.proofs.Common.{◌+◌, ◌-◌, None, Some, ap, drop, map, ◌∙◌, sym, arith}
+use Rattle.std.proofs.Common.{◌+◌, ◌-◌, None, Some, ap, drop, ◌∙◌, sym, arith}
 use Rattle.std.proofs.lemmas.List.{drop_all}
 use Rattle.cmap_values.specs.CodeLengths.{length_of}
-use Rattle.cmap_layers.specs.CodeStretches.{cid_after}
 use Rattle.cmap_layers.specs.LayersSeen.{layer_seen, layers_seen}
-use Rattle.cmap_layers.specs.Lookups.{cid_in}
 use Rattle.cmap_layers.proofs.LayersSearched.{drop_next}
-use Rattle.cmap_unicode.specs.Cids.{declared_cid, without_texts}
-use Rattle.cmap_flatten.proofs.DeclaredStretches.{declared_in_turn, fewer_fit, layer_declares}
+use Rattle.cmap_flatten.specs.Kinds.{given}
+use Rattle.cmap_flatten.specs.Parts.{given_after}
+use Rattle.cmap_flatten.proofs.DeclaredStretches.{fewer_fit, layer_gives}
 use Rattle.cmap_flatten.proofs.declared.declared_stretch.Goals as goal
 
 pub loop-layer-preserved : goal.loop-layer-preserved
@@ -16,7 +15,7 @@ loop-layer-preserved c = let len = length_of c.args.len in record {
       let next = ap layers_seen (drop_next c.as_slice-layers.result.now c.loop-layer.layer-index c.layer-item.result c.loop-layer-test.true c.layer-item.is) in
       let below = layers_seen (drop (c.loop-layer.layer-index + 1) c.as_slice-layers.result.now) in
       let none = rw c.in_default.is at (c.stretch_in-stretch.ensures.cids code le (omega arith)) in
-      c.loop-layer.invariant.passed code le (omega arith) ∙ ap (λ rest. cid_in (map without_texts rest) code len) next ∙ layer_declares (layer_seen c.layer-item.result) below code len None none;
+      c.loop-layer.invariant.passed code le (omega arith) ∙ ap (λ rest. given rest code len) next ∙ layer_gives (layer_seen c.layer-item.result) below code len None none;
 }
 
 pub returns-in-Some-clause-cids : goal.returns-in-Some-clause-cids
@@ -28,9 +27,9 @@ returns-in-Some-clause-cids c =
     record {
       cids = λ code le lt.
           let some = rw c.in-Some.is at (c.stretch_in-stretch.ensures.cids code le (omega arith)) in
-          ap (λ layers. declared_cid layers code len) (sym same) ∙ declared_in_turn (layers_seen layers) code c.args.len
-          ∙ c.loop-layer.invariant.passed code le (omega arith) ∙ ap (λ rest. cid_in (map without_texts rest) code len) next
-          ∙ layer_declares (layer_seen c.layer-item.result) below code len (Some (cid_after cids (code - first))) some;
+          ap (λ layers. given layers code len) (sym same)
+          ∙ c.loop-layer.invariant.passed code le (omega arith) ∙ ap (λ rest. given rest code len) next
+          ∙ layer_gives (layer_seen c.layer-item.result) below code len (Some (given_after cids (code - first))) some;
       fit = fewer_fit cids (c.stretch_in-stretch.result.last - first) (c.min-last.result - first) (omega arith) (rw c.in-Some.is at c.stretch_in-stretch.ensures.fit);
     }
 
@@ -39,7 +38,7 @@ returns-clause-cids c =
     let len = length_of c.args.len in let layers = c.as_slice-layers.result.now in let same = c.as_slice-layers.ensures.layers in
     record {
       cids = λ code le lt.
-          ap (λ layers. declared_cid layers code len) (sym same) ∙ declared_in_turn (layers_seen layers) code c.args.len
-          ∙ c.loop-layer.invariant.passed code le lt ∙ ap (λ rest. cid_in (map without_texts (layers_seen rest)) code len) (drop_all c.loop-layer.layer-index layers (omega arith));
+          ap (λ layers. given layers code len) (sym same)
+          ∙ c.loop-layer.invariant.passed code le lt ∙ ap (λ rest. given (layers_seen rest) code len) (drop_all c.loop-layer.layer-index layers (omega arith));
       fit = tt;
     }

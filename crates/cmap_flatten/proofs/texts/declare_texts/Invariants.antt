@@ -1,7 +1,7 @@
 use Rattle.std.proofs.Common.{◌≡◌, [], take}
 use Rattle.std.specs.Prelude.{All}
 use Rattle.cmap_layers.specs.LayersSeen.{layers_seen}
-use Rattle.cmap_flatten.proofs.answers.declare_texts.Given as goal
+use Rattle.cmap_flatten.proofs.texts.declare_texts.Given as goal
 
 -- no layer so far declares texts
 abbrev pub invariant-loop-layer : goal.invariant-loop-layer

@@ -4,7 +4,7 @@ use Rattle.std.proofs.lemmas.List.{take_all}
 use Rattle.std.proofs.lemmas.List.Elements.{All-nil}
 use Rattle.cmap_layers.specs.LayersSeen.{layer_seen, layers_seen}
 use Rattle.cmap_flatten.proofs.WithoutTexts.{no_texts, one_more}
-use Rattle.cmap_flatten.proofs.answers.declare_texts.Goals as goal
+use Rattle.cmap_flatten.proofs.texts.declare_texts.Goals as goal
 
 pub loop-layer-init : goal.loop-layer-init
 loop-layer-init c = All-nil (λ layer. layer.lists.bfs ≡ [])
