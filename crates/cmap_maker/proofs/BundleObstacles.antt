@@ -20,13 +20,13 @@ use Rattle.cmap_packed.specs.Bundles.{PrefixTables}
 use Rattle.cmap_packed.specs.PrefixWords.{CodeWord}
 use Rattle.cmap_maker.specs.Bundled.{HaveSymbols, files_seen}
 use Rattle.cmap_maker.specs.Gathered.{counts_in, deltas_in, segments_in, slot_segments}
-use Rattle.cmap_maker.specs.Slots.{AreSlotsFor, AreSlotsOf, IsSlotFor, is_index, source_at}
+use Rattle.cmap_maker.specs.Slots.{AllHavePlaces, AreSlotsFor, AreSlotsOf, IsSlotFor, is_index, source_at}
 use Rattle.cmap_maker.specs.Tables.{HasManyNumbers, IsTableFor}
 use Rattle.cmap_writer.specs.Obstacles.{HasNoWord, IsLarge, IsObstacle, IsPreparedObstacle}
 use Rattle.cmap_writer.specs.PreparedFiles.{IsPrepared}
 use Rattle.cmap_writer.specs.Segments.{DeclareEach}
 use Rattle.cmap_writer.specs.Spelled.{IsNoSymbol}
-use Rattle.cmap_maker.specs.Unwritables.{AllHavePlaces, AreSound, HasLongSlot, IsBundleObstacle, IsObstacleOf, IsPlaceless, IsSlotObstacle, IsSlotsObstacle, IsSound, IsTablesObstacle, IsUnwritable, IsUnwritableAs, IsUnwritableAt, IsUnwritableOf, IsWholeObstacle}
+use Rattle.cmap_maker.specs.Unwritables.{AreSound, HasLongSlot, IsBundleObstacle, IsObstacleOf, IsPlaceless, IsSlotObstacle, IsSlotsObstacle, IsSound, IsTablesObstacle, IsUnwritable, IsUnwritableAs, IsUnwritableAt, IsUnwritableOf, IsWholeObstacle}
 use Rattle.cmap_maker.specs.WordsMissing.{IsNoWordIf}
 use Rattle.cmap_maker.proofs.BundlesWritten.{is_index_tested}
 use Rattle.cmap_writer.proofs.ObstaclesMet.{not_large}
@@ -69,7 +69,7 @@ sound_slot None slot.Absent is = All-nil IsSound
 sound_slot None (slot.File p) is = absurd is
 sound_slot None (slot.Text t) is = absurd is
 sound_slot (Some source) slot.Absent is = absurd is
-sound_slot (Some source) (slot.File p) is = sound_prepared (file_seen source.file.now) p is.0
+sound_slot (Some source) (slot.File p) is = sound_prepared (file_seen source.file.now) p is.says
 sound_slot (Some source) (slot.Text t) is = All-nil IsSound
 
 pub sound_for : (sources : List Source) (slots : List Slot) (count : ℕ) → AreSlotsFor sources slots count → AreSound slots
@@ -79,7 +79,7 @@ sound_of : (files : List File) (slots : List Slot) → AreSlotsOf files slots �
 sound_of [] [] each = All-nil IsSound
 sound_of [] (s ∷ slots) each = absurd each
 sound_of (f ∷ files) [] each = absurd each
-sound_of (f ∷ files) (slot.File p ∷ slots) (first, each) = All-append IsSound p.segments.items (segments_in slots) (sound_prepared f p first.0) (sound_of files slots each)
+sound_of (f ∷ files) (slot.File p ∷ slots) (first, each) = All-append IsSound p.segments.items (segments_in slots) (sound_prepared f p first.says) (sound_of files slots each)
 sound_of (f ∷ files) (slot.Text t ∷ slots) each = absurd each
 sound_of (f ∷ files) (slot.Absent ∷ slots) each = absurd each
 

@@ -61,7 +61,8 @@ binary_begins tables bytes file (body, contents, (front, ignored, (size, after, 
 module _ (given : Option PrefixTables) (tables : PrefixTables) (free : ArePrefixFree tables) (source : Source) (read : IsRead source) where
   stands_for : (stored : List ℕ) → IsFileFor tables (Some source) stored → Stands given tables read.text.now stored
   stands_for stored is = elim is [
-    | inl written ↦
+    | inl stands ↦
+        let written = stands.written in
         let (rest, begins) = binary_begins tables stored written.made written.is in
         let marked : IsMarkedBinary stored = (1 ∷ rest, begins) in record {
           there = λ file means. let same = read.only.alone file (unmarked_means given read.text.now read.unmarked file means) in (written.made, inl (marked, written.is), subst (λ f. Keeps f written.made) (sym same) written.keeps);
@@ -84,7 +85,8 @@ module _ (given : Option PrefixTables) (tables : PrefixTables) (free : ArePrefix
   -- it isn't what stands for a file that isn't there
   is_present : (stored : List ℕ) → IsFileFor tables (Some source) stored → stored ≢ no_file_bytes
   is_present stored is none = elim is [
-    | inl written ↦
+    | inl stands ↦
+        let written = stands.written in
         let (rest, begins) = binary_begins tables stored written.made written.is in
         let same : magic ++ (1 ∷ rest) ≡ no_file_bytes = sym begins ∙ none in
         let version : 1 ≡ 0 = ap (λ l. get_or l 5 0) same in

@@ -14,9 +14,9 @@ use Rattle.cmap_values.specs.declared.file.File.{File as HeldFile}
 use Rattle.cmap_packed.specs.TableFronts.{TableAt}
 use Rattle.cmap_packed.specs.Bundles.{HoldsTables, IsBundle, PrefixTables, no_file_bytes}
 use Rattle.cmap_packed.specs.Fronts.{FramedAt, SizedAt}
-use Rattle.cmap_maker.specs.Bundled.{HaveSymbols, IsBundleOf, AreWritten, files_seen}
-use Rattle.cmap_writer.specs.Arranged.{IsPreparedFor}
-use Rattle.cmap_maker.specs.Slots.{AreSlotsFor, AreSlotsOf, AreSlotsWritten, IsBundleOfSlots, IsFileFor, IsNamedBundle, IsSlotFor, IsSlotWritten, is_index, places, source_at}
+use Rattle.cmap_maker.specs.Bundled.{HaveSymbols, IsBundleOf, IsFileWritten, AreWritten, files_seen}
+use Rattle.cmap_writer.specs.Obstacles.{IsPreparedFor}
+use Rattle.cmap_maker.specs.Slots.{AllHavePlaces, AreSlotsFor, AreSlotsOf, AreSlotsWritten, IsBundleOfSlots, IsFileFor, IsNamedBundle, IsSlotFor, IsSlotWritten, is_index, places, source_at}
 use Rattle.cmap_writer.specs.Written.{Appends, Writes, WritesAll, IsFramedFile}
 use Rattle.cmap_writer.specs.declared.prepared.Prepared.{Prepared}
 use Rattle.cmap_maker.specs.declared.slots.Slot.{Slot}
@@ -63,13 +63,16 @@ file_slots_more files i d now prepared within each here =
     let seen : files_seen (take (i + 1) files) ≡ files_seen (take i files) ++ file ∷ [] = ap files_seen (take_more files i d within) ∙ map-append file_seen (take i files) (get_or files i d ∷ []) in
     subst (λ fs. AreSlotsOf fs (now ++ slot.File prepared ∷ [])) (sym seen) (slots_more (files_seen (take i files)) now file prepared each here)
 
+file_written : (tables : PrefixTables) (file : File) (p : Prepared) (text : List ℕ) → IsPreparedFor file p → IsSlotWritten tables (slot.File p) text → IsFileWritten tables file text
+file_written tables file p text is written = record { encoded = (p, is, written.0); written = written.2 file is.says }
+
 each_written : (tables : PrefixTables) (files : List File) (slots : List Slot) (texts : List (List ℕ)) → AreSlotsOf files slots → AreSlotsWritten tables slots texts → AreWritten tables files texts
 each_written tables [] [] [] each written = tt
 each_written tables [] [] (t ∷ texts) each written = absurd written
 each_written tables [] (s ∷ slots) texts each written = absurd each
 each_written tables (f ∷ files) [] texts each written = absurd each
 each_written tables (f ∷ files) (slot.File p ∷ slots) [] each written = absurd written
-each_written tables (f ∷ files) (slot.File p ∷ slots) (t ∷ texts) (first, each) (here, written) = (here.1 f first.0, each_written tables files slots texts each written)
+each_written tables (f ∷ files) (slot.File p ∷ slots) (t ∷ texts) (first, each) (here, written) = (file_written tables f p t first here, each_written tables files slots texts each written)
 each_written tables (f ∷ files) (slot.Text x ∷ slots) texts each written = absurd each
 each_written tables (f ∷ files) (slot.Absent ∷ slots) texts each written = absurd each
 
@@ -82,7 +85,7 @@ for_source tables None slot.Absent text is written = written
 for_source tables None (slot.File p) text is written = absurd is
 for_source tables None (slot.Text t) text is written = absurd is
 for_source tables (Some source) slot.Absent text is written = absurd is
-for_source tables (Some source) (slot.File p) text is written = inl (written.1 (file_seen source.file.now) is.0)
+for_source tables (Some source) (slot.File p) text is written = inl (file_written tables (file_seen source.file.now) p text is written)
 for_source tables (Some source) (slot.Text t) text (unsayable, is) written = inr (unsayable, (t, is, written))
 
 slots_length : (tables : PrefixTables) (slots : List Slot) (texts : List (List ℕ)) → AreSlotsWritten tables slots texts → length texts ≡ length slots
@@ -97,8 +100,9 @@ slot_written tables (s ∷ slots) [] i d e written within = absurd written
 slot_written tables (s ∷ slots) (t ∷ texts) zero d e (here, written) within = here
 slot_written tables (s ∷ slots) (t ∷ texts) (suc i) d e (here, written) within = slot_written tables slots texts i d e written (omega arith)
 
-pub bundle_of_sources : (sources : List Source) (slots : List Slot) (bytes : List ℕ) → AreSlotsFor sources slots places → IsBundleOfSlots slots bytes → IsNamedBundle sources bytes
-bundle_of_sources sources slots bytes (count, each) (tables, texts, is, written) = record {
+pub bundle_of_sources : (sources : List Source) (slots : List Slot) (bytes : List ℕ) → AllHavePlaces sources → AreSlotsFor sources slots places → IsBundleOfSlots slots bytes → IsNamedBundle sources bytes
+bundle_of_sources sources slots bytes named (count, each) (tables, texts, is, written) = record {
+  named = named;
   tables = tables;
   texts = texts;
   is = is;
@@ -121,7 +125,7 @@ no_file_framed : IsFramedFile no_file_bytes
 no_file_framed rest = FramedAt-written (codes "bcmap" ++ 0 ∷ []) [] no_file_bytes rest (record { bytes_are = refl; small = omega arith })
 
 slot_framed : (tables : PrefixTables) (s : Slot) (text : List ℕ) → IsSlotWritten tables s text → IsFramedFile text
-slot_framed tables (slot.File p) text written = written.0
+slot_framed tables (slot.File p) text written = written.1
 slot_framed tables (slot.Text t) text (size, spaces, is, small, blank, framed) = framed
 slot_framed tables slot.Absent text written = subst IsFramedFile (sym written) no_file_framed
 

@@ -1,4 +1,4 @@
--- Files have one list of deltas only.
+-- Sources and files have one list of deltas only.
 use Rattle.std.proofs.Common.{◌≡◌, ℕ, suc, ◌<◌, List, [], ◌∷◌, ◌++◌, Option, Some, None, get_or, length, map, refl, ap, ◌∙◌, sym, arith}
 use Rattle.std.specs.List.{flat_map}
 use Rattle.std.proofs.lemmas.List.{map-append}
@@ -17,25 +17,20 @@ use Rattle.cmap_maker.specs.declared.source.Source.{Source}
 abbrev pub slot_seen : Slot → List SegmentSeen
 slot_seen s = map segment_seen (slot_segments s)
 
--- both are files, or neither is
-abbrev pub AreOfOneKind : Slot → Slot → Type 0
-AreOfOneKind (slot.File p) (slot.File q) = Unit {0}
-AreOfOneKind (slot.File p) other = ⊥
-AreOfOneKind (slot.Text t) (slot.File q) = ⊥
-AreOfOneKind slot.Absent (slot.File q) = ⊥
-AreOfOneKind s t = Unit {0}
-
-one_seen : (source : Option Source) (s t : Slot) → IsSlotFor source s → IsSlotFor source t → AreOfOneKind s t → slot_seen s ≡ slot_seen t
-one_seen None (slot.File p) t first second kind = absurd first
-one_seen (Some source) (slot.File p) (slot.File q) first second kind = arranged_alone (file_seen source.file.now) p q first.1 second.1
-one_seen source (slot.File p) (slot.Text u) first second kind = absurd kind
-one_seen source (slot.File p) slot.Absent first second kind = absurd kind
-one_seen source (slot.Text u) (slot.File q) first second kind = absurd kind
-one_seen source slot.Absent (slot.File q) first second kind = absurd kind
-one_seen source (slot.Text u) (slot.Text v) first second kind = refl
-one_seen source (slot.Text u) slot.Absent first second kind = refl
-one_seen source slot.Absent (slot.Text v) first second kind = refl
-one_seen source slot.Absent slot.Absent first second kind = refl
+-- what stands for a source is said by it: a file just where the binary form can say it
+one_seen : (source : Option Source) (s t : Slot) → IsSlotFor source s → IsSlotFor source t → slot_seen s ≡ slot_seen t
+one_seen None slot.Absent slot.Absent first second = refl
+one_seen None slot.Absent (slot.File q) first second = absurd second
+one_seen None slot.Absent (slot.Text v) first second = absurd second
+one_seen None (slot.File p) t first second = absurd first
+one_seen None (slot.Text u) t first second = absurd first
+one_seen (Some source) (slot.File p) (slot.File q) first second = arranged_alone (file_seen source.file.now) p q first.arranged second.arranged
+one_seen (Some source) (slot.File p) (slot.Text v) first ((obstacle, holds), text) = absurd (first.sayable obstacle holds)
+one_seen (Some source) (slot.File p) slot.Absent first second = absurd second
+one_seen (Some source) (slot.Text u) (slot.File q) ((obstacle, holds), text) second = absurd (second.sayable obstacle holds)
+one_seen (Some source) (slot.Text u) (slot.Text v) first second = refl
+one_seen (Some source) (slot.Text u) slot.Absent first second = absurd second
+one_seen (Some source) slot.Absent t first second = absurd first
 
 all_seen : (a b : List Slot) → length a ≡ length b → ((k : ℕ) (d : Slot) → k < length a → slot_seen (get_or a k d) ≡ slot_seen (get_or b k d)) → map segment_seen (segments_in a) ≡ map segment_seen (segments_in b)
 all_seen [] [] size each = refl
@@ -49,10 +44,10 @@ deltas_seen a b same = sym (flat_map-map (λ (x : SegmentSeen). x.deltas) segmen
 counts_seen : (a b : List Segment) → map segment_seen a ≡ map segment_seen b → counts_in a ≡ counts_in b
 counts_seen a b same = sym (flat_map-map (λ (x : SegmentSeen). x.counts) segment_seen a) ∙ ap (flat_map (λ (x : SegmentSeen). x.counts)) same ∙ flat_map-map (λ (x : SegmentSeen). x.counts) segment_seen b
 
--- sources of which the same stand as files have one list of deltas only, and one of counts
-pub numbers_alone : (sources : List Source) (count : ℕ) (a b : List Slot) → AreSlotsFor sources a count → AreSlotsFor sources b count → ((k : ℕ) (d : Slot) → k < count → AreOfOneKind (get_or a k d) (get_or b k d)) → (deltas_in (segments_in a) ≡ deltas_in (segments_in b)) × (counts_in (segments_in a) ≡ counts_in (segments_in b))
-numbers_alone sources count a b (size, each) (other, all) kinds =
-    let same = all_seen a b (size ∙ sym other) (λ k d within. let below : k < count = omega (arith, within, size) in one_seen (source_at sources k) (get_or a k d) (get_or b k d) (each k d below) (all k d below) (kinds k d below)) in
+-- sources have one list of deltas only, and one of counts
+pub numbers_alone : (sources : List Source) (count : ℕ) (a b : List Slot) → AreSlotsFor sources a count → AreSlotsFor sources b count → (deltas_in (segments_in a) ≡ deltas_in (segments_in b)) × (counts_in (segments_in a) ≡ counts_in (segments_in b))
+numbers_alone sources count a b (size, each) (other, all) =
+    let same = all_seen a b (size ∙ sym other) (λ k d within. let below : k < count = omega (arith, within, size) in one_seen (source_at sources k) (get_or a k d) (get_or b k d) (each k d below) (all k d below)) in
     (deltas_seen (segments_in a) (segments_in b) same, counts_seen (segments_in a) (segments_in b) same)
 
 files_seen_alone : (files : List File) (a b : List Slot) → AreSlotsOf files a → AreSlotsOf files b → map segment_seen (segments_in a) ≡ map segment_seen (segments_in b)
@@ -65,7 +60,7 @@ files_seen_alone (file ∷ files) (slot.Absent ∷ a) b first second = absurd fi
 files_seen_alone (file ∷ files) (slot.File p ∷ a) [] first second = absurd second
 files_seen_alone (file ∷ files) (slot.File p ∷ a) (slot.Text u ∷ b) first second = absurd second
 files_seen_alone (file ∷ files) (slot.File p ∷ a) (slot.Absent ∷ b) first second = absurd second
-files_seen_alone (file ∷ files) (slot.File p ∷ a) (slot.File q ∷ b) (here, first) (there, second) = map-append segment_seen p.segments.items (segments_in a) ∙ ap (λ xs. xs ++ map segment_seen (segments_in a)) (arranged_alone file p q here.1 there.1) ∙ ap (λ xs. map segment_seen q.segments.items ++ xs) (files_seen_alone files a b first second) ∙ sym (map-append segment_seen q.segments.items (segments_in b))
+files_seen_alone (file ∷ files) (slot.File p ∷ a) (slot.File q ∷ b) (here, first) (there, second) = map-append segment_seen p.segments.items (segments_in a) ∙ ap (λ xs. xs ++ map segment_seen (segments_in a)) (arranged_alone file p q here.arranged there.arranged) ∙ ap (λ xs. map segment_seen q.segments.items ++ xs) (files_seen_alone files a b first second) ∙ sym (map-append segment_seen q.segments.items (segments_in b))
 
 -- and files by their indices have one
 pub files_alone : (files : List File) (a b : List Slot) → AreSlotsOf files a → AreSlotsOf files b → (deltas_in (segments_in a) ≡ deltas_in (segments_in b)) × (counts_in (segments_in a) ≡ counts_in (segments_in b))

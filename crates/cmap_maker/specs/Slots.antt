@@ -1,17 +1,18 @@
 -- The files of a bundle, each at the index of its name.
-use Rattle.std.specs.Prelude.{◌≡◌, ◌==◌, ℕ, ◌<◌, ◌⊎◌, Bool, false, List, [], ◌∷◌, ◌++◌, All, Option, Some, None, codes, get_or, length, if◌then◌else◌}
+use Rattle.std.specs.Prelude.{◌≡◌, ◌==◌, ℕ, ◌<◌, ◌⊎◌, Bool, false, List, [], ◌∷◌, ◌++◌, All, IsSome, Option, Some, None, codes, get_or, length, if◌then◌else◌}
 use Rattle.std.specs.Borrow.{Bor}
 use Rattle.cmap_tokens.specs.Gaps.{ends_comment}
 use Rattle.cmap_values.specs.CMapNames.{index_of_name}
 use Rattle.cmap_values.specs.Files.{File}
 use Rattle.cmap_values.specs.FilesSeen.{file_seen}
 use Rattle.cmap_packed.specs.Bundles.{IsBundle, PrefixTables, no_file_bytes}
-use Rattle.cmap_writer.specs.Arranged.{IsPreparedFor}
 use Rattle.cmap_writer.specs.Written.{IsFramedFile}
 use Rattle.cmap_writer.specs.Keeps.{IsWritten}
-use Rattle.cmap_writer.specs.Obstacles.{IsObstacle}
+use Rattle.cmap_writer.specs.Encoded.{IsEncoded}
+use Rattle.cmap_writer.specs.Obstacles.{IsObstacle, IsPreparedFor}
 use Rattle.cmap_writer.specs.PreparedFiles.{IsPrepared}
 use Rattle.cmap_writer.specs.declared.obstacle.Obstacle.{Obstacle}
+use Rattle.cmap_maker.specs.Bundled.{IsFileWritten}
 use Rattle.cmap_maker.specs.declared.slots.Slot.{Slot}
 use Rattle.cmap_maker.specs.declared.slots.Slot.TheVariants as slot
 use Rattle.cmap_maker.specs.declared.source.Source.{Source}
@@ -19,6 +20,10 @@ use Rattle.cmap_maker.specs.declared.source.Source.{Source}
 -- how many names have a place in a bundle
 abbrev pub places : ℕ
 places = 65
+
+-- each name has a place
+abbrev pub AllHavePlaces : List Source → Type 0
+AllHavePlaces sources = All (λ source. IsSome (index_of_name source.name)) sources
 
 abbrev pub is_index : Option ℕ → ℕ → Bool
 is_index None place = false
@@ -37,13 +42,14 @@ IsTextBehind text bytes = (size : List ℕ) × (spaces : List ℕ) × (bytes ≡
 abbrev pub IsUnsayable : File → Type 0
 IsUnsayable file = (obstacle : Obstacle) × IsObstacle file obstacle
 
--- what stands in a bundle for a name: the file of its source in the binary form, or where this can't say it its text; without a source no file
+-- what stands in a bundle for a name: the file of its source in the binary form, just where this can say it, or else its text; without a source no file
 abbrev pub IsFileFor : PrefixTables → Option Source → List ℕ → Type 0
 IsFileFor tables None bytes = bytes ≡ no_file_bytes
-IsFileFor tables (Some source) bytes = IsWritten tables (file_seen source.file.now) bytes ⊎ (IsUnsayable (file_seen source.file.now) × ((text : Bor (List ℕ)) × (source.text ≡ Some text) × IsTextBehind text.now bytes))
+IsFileFor tables (Some source) bytes = IsFileWritten tables (file_seen source.file.now) bytes ⊎ (IsUnsayable (file_seen source.file.now) × ((text : Bor (List ℕ)) × (source.text ≡ Some text) × IsTextBehind text.now bytes))
 
--- the bytes are a bundle which has for each known name, at its index, the file of the first source of this name
+-- each name has a place, and the bytes are a bundle which has for each known name, at its index, the file of the first source of this name
 pub record IsNamedBundle (sources : List Source) (bytes : List ℕ) : Type 0 where
+  pub named : AllHavePlaces sources
   pub tables : PrefixTables
   pub texts : List (List ℕ)
   pub is : IsBundle bytes (record { tables = tables; files = texts })
@@ -69,7 +75,7 @@ AreSlotsOf files slots = ⊥
 -- ---- private aid
 -- these bytes are what is to be written
 abbrev pub IsSlotWritten : PrefixTables → Slot → List ℕ → Type 0
-IsSlotWritten tables (slot.File prepared) bytes = IsFramedFile bytes × ((file : File) → IsPrepared file prepared → IsWritten tables file bytes)
+IsSlotWritten tables (slot.File prepared) bytes = IsEncoded tables prepared bytes × IsFramedFile bytes × ((file : File) → IsPrepared file prepared → IsWritten tables file bytes)
 IsSlotWritten tables (slot.Text text) bytes = IsTextBehind text.now bytes
 IsSlotWritten tables slot.Absent bytes = bytes ≡ no_file_bytes
 

@@ -1,5 +1,5 @@
 -- Why a bundle can't be written, and which source is at fault.
-use Rattle.std.specs.Prelude.{◌≡◌, ℕ, ◌+◌, ◌≤◌, ◌<◌, ◌^◌, ◌⊎◌, List, All, Any, IsSome, Option, Some, None, length, slice_get, take}
+use Rattle.std.specs.Prelude.{◌≡◌, ℕ, ◌+◌, ◌≤◌, ◌<◌, ◌^◌, ◌⊎◌, List, All, Any, Option, Some, None, length, slice_get, take}
 use Rattle.cmap_values.specs.CMapNames.{index_of_name}
 use Rattle.cmap_values.specs.Files.{File}
 use Rattle.cmap_values.specs.FilesSeen.{file_seen}
@@ -10,7 +10,7 @@ use Rattle.cmap_writer.specs.declared.obstacle.Obstacle.TheVariants.{NoPlace, No
 use Rattle.cmap_writer.specs.declared.segments.Segment.{Segment}
 use Rattle.cmap_maker.specs.Bundled.{HaveSymbols}
 use Rattle.cmap_maker.specs.Gathered.{counts_in, deltas_in, segments_in, slot_segments}
-use Rattle.cmap_maker.specs.Slots.{AreSlotsFor, AreSlotsOf, places, source_at}
+use Rattle.cmap_maker.specs.Slots.{AllHavePlaces, AreSlotsFor, AreSlotsOf, places, source_at}
 use Rattle.cmap_maker.specs.Tables.{HasManyNumbers, IsTableFor}
 use Rattle.cmap_maker.specs.declared.slots.Slot.{Slot}
 use Rattle.cmap_maker.specs.declared.slots.Slot.TheVariants as slot
@@ -18,10 +18,6 @@ use Rattle.cmap_maker.specs.declared.unwritable.Unwritable.{Unwritable}
 use Rattle.cmap_maker.specs.declared.source.Source.{Source}
 
 -- ---- one source
--- each name has a place
-abbrev pub AllHavePlaces : List Source → Type 0
-AllHavePlaces sources = All (λ source. IsSome (index_of_name source.name)) sources
-
 -- the first of the sources whose name has no place
 pub record IsPlaceless (sources : List Source) (index : ℕ) : Type 0 where
   pub source : Source

@@ -4,8 +4,8 @@ ghost use Rattle.std.specs.Prelude.{ℕ, IfErr, IfOk, List, Some};
 ghost use Rattle.cmap_values.specs.Outcomes.{RefusesWith};
 ghost use Rattle.cmap_packed.specs.Fronts.{FramedAt};
 ghost use Rattle.cmap_writer.specs.EncodersSeen.{encoders_seen};
-ghost use Rattle.cmap_maker.specs.Slots.{AreSlotsFor, AreSlotsWritten, IsSlotFor, IsSlotWritten, places, source_at};
-ghost use Rattle.cmap_maker.specs.Unwritables.{AllHavePlaces, IsSlotObstacle, IsSlotsObstacle, IsUnwritableAs, IsUnwritableAt, IsUnwritableOf};
+ghost use Rattle.cmap_maker.specs.Slots.{AllHavePlaces, AreSlotsFor, AreSlotsWritten, IsSlotFor, IsSlotWritten, places, source_at};
+ghost use Rattle.cmap_maker.specs.Unwritables.{IsSlotObstacle, IsSlotsObstacle, IsUnwritableAs, IsUnwritableAt, IsUnwritableOf};
 ghost use Rattle.cmap_writer.specs.Written.{Appends, WritesAll};
 
 use crate::behind::push_text;

@@ -20,6 +20,7 @@ use Rattle.cmap_binary.specs.BinaryFiles.{IsSegment, declares}
 use Rattle.cmap_writer.specs.Arranged.{AddsByLength, AddsCidEntries, AddsFull, AddsInTurn, AddsTextEntries, AreEnded, AreFull, AreInOne, CanFollow, HoldsEntries, HoldEach, IsArranged, StandInTurn, lists_by_length, cid_type, count_of, segment_type, shape_of, value_of}
 use Rattle.cmap_writer.specs.EncodersSeen.{shape_seen}
 use Rattle.cmap_writer.specs.Follows.{Follows, HasShapeOf}
+use Rattle.cmap_writer.specs.Fields.{fields_of}
 use Rattle.cmap_writer.specs.Held.{AreHeld, AreInOrder, AreOwnCids, AreShaped, HasShape, counts_by, deltas_of, spans_of}
 use Rattle.cmap_writer.specs.Pieces.{IsShort}
 use Rattle.cmap_writer.specs.Segments.{declared_span}
@@ -248,11 +249,12 @@ by_lengths lists o a b d e (one, one_are, first) (two, two_are, second) (three, 
           (turn_both a b e (says 2 two ∷ []) (says 3 three ∷ says 4 four ∷ []) (turn_one a b (says 2 two) second) (turn_both b d e (says 3 three ∷ []) (says 4 four ∷ []) (turn_one b d (says 3 three) third) (turn_one d e (says 4 four) last))),
     )
 
-pub arranged_is : (file : File) (prepared : Prepared) (some : List Segment) → AddsByLength file.lists.cids [] some → AddsTextEntries file.lists.bfs some prepared.segments.items → IsArranged file prepared
-arranged_is file prepared some (cids, cids_are, turn) (texts, texts_are, full) =
+pub arranged_is : (file : File) (prepared : Prepared) (some : List Segment) → prepared.fields.items ≡ fields_of file → AddsByLength file.lists.cids [] some → AddsTextEntries file.lists.bfs some prepared.segments.items → IsArranged file prepared
+arranged_is file prepared some fields (cids, cids_are, turn) (texts, texts_are, full) =
     let all = prepared.segments.items in
     let (added, is, stand) = turn_both [] some all (lists_by_length cids) (map Declaration.bf texts ∷ []) turn (turn_one some all (map Declaration.bf texts) full) in
     record {
+      fields = fields;
       cids = cids;
       texts = texts;
       cid_entries = cids_are;

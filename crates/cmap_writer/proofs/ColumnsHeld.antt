@@ -8,6 +8,7 @@ use Rattle.cmap_binary.specs.BinaryEntries.{Columns, ColumnsAt, WidthAt, ranges,
 use Rattle.cmap_writer.specs.ColumnsWritten.{HaveSpans, WritesColumn, WritesColumns}
 use Rattle.cmap_writer.specs.Held.{AreInOrder, AreShaped, counts_of, deltas_of}
 use Rattle.cmap_writer.specs.Written.{Appends}
+use Rattle.cmap_writer.proofs.FrontsWritten.{sized_read}
 
 -- how far each span ends after its start, as the counts have it
 HaveWidths : List CodeWord → List Span → Option (List ℕ) → Type 0
@@ -59,7 +60,7 @@ module _ (tables : PrefixTables) (spans : List Span) (order : AreInOrder 0 spans
     second_is ∙ ap (λ bs. bs ++ second) first_is ∙ append_assoc old first second,
     (
       columns (bits deltas) (Some (bits counts)) 0,
-      λ rest. subst (λ bs. ColumnsAt ranges bs (columns (bits deltas) (Some (bits counts)) 0, rest)) (sym (append_assoc first second rest)) (deltas, second ++ rest, sized (second ++ rest), (Some (bits counts), rest, (counts, rest, sized_too rest, refl), refl)),
+      λ rest. subst (λ bs. ColumnsAt ranges bs (columns (bits deltas) (Some (bits counts)) 0, rest)) (sym (append_assoc first second rest)) (deltas, second ++ rest, sized_read deltas first sized (second ++ rest), (Some (bits counts), rest, (counts, rest, sized_read counts second sized_too rest, refl), refl)),
       have_spans tables spans 0 (bits deltas) (Some (bits counts)) order spelled (widths_counted tables.count spans (bits counts) shaped spelled_too),
     ),
   )
@@ -70,7 +71,7 @@ module _ (tables : PrefixTables) (spans : List Span) (order : AreInOrder 0 spans
     first_is,
     (
       columns (bits deltas) None 0,
-      λ rest. (deltas, rest, sized rest, (None, rest, refl, refl)),
+      λ rest. (deltas, rest, sized_read deltas first sized rest, (None, rest, refl, refl)),
       have_spans tables spans 0 (bits deltas) None order spelled (widths_none tables.count spans shaped),
     ),
   )

@@ -1,6 +1,6 @@
 -- Segments in a row, and the file that they make.
-use Rattle.std.proofs.Common.{◌≡◌, ℕ, ◌+◌, ◌<◌, List, [], ◌∷◌, ◌++◌, get_or, length, map, take, refl, ap, ◌∙◌, sym, subst}
-use Rattle.std.proofs.lemmas.List.{append_assoc, append-nil, map-append, take_more}
+use Rattle.std.proofs.Common.{ℕ, List, [], ◌∷◌, ◌++◌, refl, ap, ◌∙◌, sym, subst}
+use Rattle.std.proofs.lemmas.List.{append_assoc, append-nil}
 use Rattle.cmap_packed.specs.Fronts.{AllOf}
 use Rattle.cmap_writer.specs.Written.{Appends, Writes, WritesAll}
 
@@ -24,9 +24,3 @@ module _ {A : Type 0} (item : List ℕ → A × List ℕ → Type 0) where
 
   pub appended_none : (old : List ℕ) → Appends old old (WritesAll item [])
   appended_none old = ([], sym (append-nil old), refl)
-
--- one element more of a list
-pub taken_more : {A X : Type 0} (item : List ℕ → A × List ℕ → Type 0) (seen : X → A) (xs : List X) (i : ℕ) (d : X) (old now new : List ℕ) → i < length xs → Appends old now (WritesAll item (map seen (take i xs))) → Appends now new (Writes item (seen (get_or xs i d))) → Appends old new (WritesAll item (map seen (take (i + 1) xs)))
-taken_more item seen xs i d old now new within all here =
-    let parted : map seen (take (i + 1) xs) ≡ map seen (take i xs) ++ seen (get_or xs i d) ∷ [] = ap (map seen) (take_more xs i d within) ∙ map-append seen (take i xs) (get_or xs i d ∷ []) in
-    subst (λ ys. Appends old new (WritesAll item ys)) (sym parted) (appended_more item old now new (map seen (take i xs)) (seen (get_or xs i d)) all here)

@@ -6,7 +6,7 @@ use Rattle.std.proofs.lemmas.List.{append_assoc, drop_at, length-append, take_at
 use Rattle.cmap_packed.specs.Bundles.{PrefixTables}
 use Rattle.cmap_binary.specs.BinaryFiles.{Content, IsSegment, SegmentAt}
 use Rattle.cmap_packed.specs.Fronts.{BytesAt, FieldAt, FramedAt, RowOf, SizedAt}
-use Rattle.cmap_writer.specs.Written.{bytes_of, Appends, Writes, IsFramed}
+use Rattle.cmap_writer.specs.Written.{bytes_of, Appends, Writes, IsFramed, IsSized}
 use Rattle.cmap_writer.proofs.BytesWritten.{after-written, length-bytes_of, number_at-written}
 
 pub FieldAt-written : (width n : ℕ) (rest : List ℕ) → n < 2 ^ (8 * width) → FieldAt width (bytes_of width n ++ rest) (n, rest)
@@ -36,12 +36,17 @@ pub SizedAt-written : (piece rest : List ℕ) → length piece < 2 ^ 32 → Size
 SizedAt-written piece rest small = (length piece, piece ++ rest, FieldAt-written 4 (length piece) (piece ++ rest) small, BytesAt-written piece rest)
 
 -- a piece after its length
-pub sized_written : (old mid new piece : List ℕ) (size : ℕ) → mid ≡ old ++ bytes_of 4 size → new ≡ mid ++ piece → size ≡ length piece → size < 2 ^ 32 → Appends old new (Writes SizedAt piece)
-sized_written old mid new piece size first second is small = (
+pub sized_written : (old mid new piece : List ℕ) (size : ℕ) → mid ≡ old ++ bytes_of 4 size → new ≡ mid ++ piece → size ≡ length piece → size < 2 ^ 32 → All (λ b. b < 2 ^ 8) piece → Appends old new (IsSized piece)
+sized_written old mid new piece size first second is small are = (
   bytes_of 4 (length piece) ++ piece,
   second ∙ ap (λ bs. bs ++ piece) (first ∙ ap (λ n. old ++ bytes_of 4 n) is) ∙ append_assoc old (bytes_of 4 (length piece)) piece,
-  λ rest. subst (λ bs. SizedAt bs (piece, rest)) (sym (append_assoc (bytes_of 4 (length piece)) piece rest)) (SizedAt-written piece rest (subst (λ n. n < 2 ^ 32) is small)),
+  record { bytes_are = refl; small = subst (λ n. n < 2 ^ 32) is small; are_bytes = are },
 )
+
+pub sized_read : (piece bytes : List ℕ) → IsSized piece bytes → Writes SizedAt piece bytes
+sized_read piece bytes h rest =
+    let parts : bytes ++ rest ≡ bytes_of 4 (length piece) ++ (piece ++ rest) = ap (λ bs. bs ++ rest) h.bytes_are ∙ append_assoc (bytes_of 4 (length piece)) piece rest in
+    subst (λ bs. SizedAt bs (piece, rest)) (sym parts) (SizedAt-written piece rest h.small)
 
 pub framed_written : (old a b new front payload : List ℕ) (size : ℕ) → a ≡ old ++ front → b ≡ a ++ bytes_of 4 size → new ≡ b ++ payload → size ≡ length front + 4 + length payload → size < 2 ^ 32 → Appends old new (IsFramed front payload)
 framed_written old a b new front payload size first second third is small = (

@@ -9,6 +9,7 @@ pub mod ColumnsHeld
 pub mod ColumnsMade
 pub mod Cuts
 pub mod DecidedParts
+pub mod EncodedAlone
 pub mod EntriesAlone
 pub mod EntriesOrdered
 pub mod FileKept
@@ -19,13 +20,14 @@ pub mod MetadataHeld
 pub mod NoneLarge
 pub mod NumbersWritten
 pub mod ObstaclesMet
+pub mod PartsMade
 pub mod PreparedKept
 pub mod RowsAdded
 pub mod RowsWritten
 pub mod RunParts
+pub mod Sayable
 pub mod SegmentNumbers
 pub mod SegmentsAdded
-pub mod SegmentsDone
 pub mod SegmentsMade
 pub mod Spelling
 pub mod TablesWritten

@@ -1,10 +1,10 @@
 -- No file that is prepared has a code with a large CID, or a text that is refused.
 use Rattle.std.proofs.Common.{◌≡◌, ℕ, ◌+◌, ◌-◌, ◌^◌, ◌<◌, ◌≤◌, inl, inr, Bool, true, false, List, [], ◌∷◌, ◌++◌, length, length-append, get_or, take, Some, None, refl, ap, ◌∙◌, subst, arith}
 use Rattle.std.specs.Prelude.{All, IsSome, IsSomeAnd, Option, ◌==◌, nat_lt, option_map, if◌then◌else◌}
-use Rattle.std.proofs.lemmas.Bool.{lt-ltb}
+use Rattle.std.proofs.lemmas.Bool.{cases_Bool, eqb-true, lt-ltb}
 use Rattle.std.proofs.lemmas.Option.{same_Some}
 use Rattle.cmap_runs.specs.declared.runs.Range.{Range}
-use Rattle.cmap_values.specs.Files.{BfEntry, CidEntry, File}
+use Rattle.cmap_values.specs.Files.{BfEntry, ByLength, CidEntry, File}
 use Rattle.cmap_layers.specs.Lookups.{bf_at, bf_span, cid_at, cid_span, last_bf}
 use Rattle.cmap_writer.specs.Arranged.{AreCidEntries, IsArranged}
 use Rattle.cmap_writer.specs.Obstacles.{GivesLargeCid, InSomeList, IsLargeCid, IsObstacle}
@@ -74,14 +74,19 @@ none_given len es made are range (filled, large) =
     let (k, r, within, here, has) = are.said.1 code (there IsLargeCid (cid_told es code) large) in
     one_small r code (at_one CanBeSplit are.ranges k r within here are.small) has (told_small (cid_told es code) (cid_at r code) (at_one (SaysAs cid_span cid_at es) are.ranges k r within here are.said.0 code has) large)
 
-chosen : (P : List CidEntry → Type 0) (b : Bool) (x y : List CidEntry) → (P x → ⊥) → (P y → ⊥) → P (if b then x else y) → ⊥
-chosen P true x y first second h = first h
-chosen P false x y first second h = second h
+chosen : (P : ℕ → List CidEntry → Type 0) (len count : ℕ) (x y : List CidEntry) → (P count x → ⊥) → (P len y → ⊥) → P len (if len == count then x else y) → ⊥
+chosen P len count x y first second h = elim (cases_Bool (len == count)) [
+  | inl is ↦ first (subst (λ n. P n x) (eqb-true len count is) (rw is at h))
+  | inr other ↦ second (rw other at h)
+]
+
+-- what holds of the list for no length, and of no empty one
+pub in_no_list : (lists : ByLength) (P : ℕ → List CidEntry → Type 0) → (P 1 lists.one → ⊥) → (P 2 lists.two → ⊥) → (P 3 lists.three → ⊥) → (P 4 lists.four → ⊥) → ((len : ℕ) → P len [] → ⊥) → InSomeList lists P → ⊥
+in_no_list lists P one two three four none (len, h) = chosen P len 1 lists.one _ one (chosen P len 2 lists.two _ two (chosen P len 3 lists.three _ three (chosen P len 4 lists.four [] four (none len)))) h
 
 -- no code has a large CID
 pub no_large_cid : (file : File) (prepared : Prepared) → IsArranged file prepared → (range : Range) → InSomeList file.lists.cids (λ len es. GivesLargeCid es range) → ⊥
-no_large_cid file prepared is range (len, large) =
-    let P : List CidEntry → Type 0 = λ es. GivesLargeCid es range in
+no_large_cid file prepared is range =
     let lists = file.lists.cids in
     let are = is.cid_entries in
-    chosen P (len == 1) _ _ (none_given 1 lists.one is.cids.one are.one range) (chosen P (len == 2) _ _ (none_given 2 lists.two is.cids.two are.two range) (chosen P (len == 3) _ _ (none_given 3 lists.three is.cids.three are.three range) (chosen P (len == 4) _ [] (none_given 4 lists.four is.cids.four are.four range) (λ h. h.1)))) large
+    in_no_list lists (λ len es. GivesLargeCid es range) (none_given 1 lists.one is.cids.one are.one range) (none_given 2 lists.two is.cids.two are.two range) (none_given 3 lists.three is.cids.three are.three range) (none_given 4 lists.four is.cids.four are.four range) (λ len h. h.1)

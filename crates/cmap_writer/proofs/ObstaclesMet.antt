@@ -1,6 +1,6 @@
 -- Obstacles of parts of a file, and of the whole.
 use Rattle.std.proofs.Common.{◌≡◌, ◌∙◌, ℕ, ◌<◌, ◌≤◌, ◌^◌, ◌⊎◌, inl, inr, List, Ok, Err, ◌++◌, Some, None, get_or, length, map, ap, sym, subst, arith}
-use Rattle.std.specs.Prelude.{All, Any, Contains, IfErr, IsErrAnd, IsSomeAnd, Option, Result, option_map}
+use Rattle.std.specs.Prelude.{All, Any, Contains, IfErr, IfOk, IsErrAnd, IsSomeAnd, Option, Result, option_map}
 use Rattle.std.proofs.lemmas.List.{get_or-map, length-map, map-append}
 use Rattle.std.proofs.lemmas.Option.{none-some, same_Some}
 use Rattle.cmap_values.specs.DeclarationsSeen.{bf_entry_seen, cid_entry_seen, codespace_seen, entries_seen}
@@ -8,7 +8,8 @@ use Rattle.cmap_values.specs.Files as files
 use Rattle.std.proofs.Common.{zero, suc, ◌+◌, ◌*◌, [], ◌∷◌}
 use Rattle.std.proofs.lemmas.Bool.{cases_lt}
 use Rattle.cmap_values.specs.Files.{ByLength, BfEntry, CidEntry, Declaration, File}
-use Rattle.cmap_values.specs.Outcomes.{RefusesWith}
+use Rattle.cmap_values.specs.Outcomes.{Outcome, RefusesWith}
+use Rattle.cmap_values.proofs.Outcomes.{refused_as}
 use Rattle.cmap_values.proofs.ElementsSeen.{any_at}
 use Rattle.cmap_values.specs.declared.declarations.BfRange.{BfRange}
 use Rattle.cmap_values.specs.declared.declarations.CidRange.{CidRange}
@@ -19,8 +20,7 @@ use Rattle.cmap_values.specs.Metadata.{Collection, FileMetadata}
 use Rattle.cmap_values.specs.Names.{ordering_of, registry_of}
 use Rattle.cmap_layers.specs.Lookups.{bf_span, last_bf}
 use Rattle.cmap_packed.specs.Bundles.{PrefixTables}
-use Rattle.cmap_writer.specs.Arranged.{IsPreparedFor}
-use Rattle.cmap_writer.specs.Obstacles.{GivesLargeCid, HasLongText, HasManyTexts, IsCidListsObstacle, IsCidObstacle, IsCodeObstacle, IsCollectionObstacle, IsColumnObstacle, IsFamilyObstacle, IsGivenCollectionObstacle, IsLarge, IsLargeEnd, IsLargeNotdef, IsMetadataObstacle, IsNotdefListsObstacle, IsNotdefObstacle, IsNotdefsObstacle, IsObstacle, IsPreparedObstacle, IsSegmentObstacle, IsSegmentsObstacle, IsSpaceObstacle, IsSpacesObstacle, IsTerminatedObstacle, IsTextObstacle, IsWriteObstacle}
+use Rattle.cmap_writer.specs.Obstacles.{GivesLargeCid, HasLongText, HasManyTexts, IsCidListsObstacle, IsCidObstacle, IsCodeObstacle, IsCollectionObstacle, IsColumnObstacle, IsFamilyObstacle, IsGivenCollectionObstacle, IsLarge, IsLargeEnd, IsLargeNotdef, IsLongName, IsMetadataObstacle, IsNotdefListsObstacle, IsNotdefObstacle, IsNotdefsObstacle, IsObstacle, IsPreparedFor, IsPreparedObstacle, IsSegmentObstacle, IsSegmentsObstacle, IsSpaceObstacle, IsSpacesObstacle, IsTerminatedObstacle, IsTextObstacle, IsWriteObstacle}
 use Rattle.cmap_writer.specs.Failures.{IsTooLongIf}
 use Rattle.cmap_writer.specs.EncodersSeen.{shape_seen}
 use Rattle.cmap_writer.specs.Segments.{DeclareEach, IsSegmentOf, declared_span}
@@ -150,9 +150,15 @@ by_segments tables prepared other h = absurd h
 
 pub unspelled : (tables : PrefixTables) (file : File) (prepared : Prepared) → IsPreparedFor file prepared → (o : Obstacle) → IsPreparedObstacle tables prepared o → IsWriteObstacle tables file o
 unspelled tables file prepared is NoWord h = (prepared, is, h)
-unspelled tables file prepared is TooLong (inl large) = absurd (none_large prepared.segments.items is.0.parts is.0.segments large)
+unspelled tables file prepared is TooLong (inl large) = absurd (none_large prepared.segments.items is.says.parts is.says.segments large)
 unspelled tables file prepared is TooLong (inr long) = inr (prepared, is, long)
 unspelled tables file prepared is other h = absurd h
+
+-- what stops a file
+pub by_file : (tables : PrefixTables) (file : File) (o : Obstacle) → IsObstacle file o → IsWriteObstacle tables file o
+by_file tables file NoWord h = absurd h
+by_file tables file TooLong h = inl h
+by_file tables file other h = h
 
 -- ---- a column of a segment
 -- a delta without a code word is an obstacle of the segment
@@ -198,6 +204,10 @@ by_given m CustomFamily h = h
 by_given m (Supplement n) h = h
 by_given m other h = absurd h
 
+-- and so is what is wrong with the name
+pub by_name : (m : FileMetadata) (o : Obstacle) → (o ≡ TooLong) × IsSomeAnd m.name IsLongName → IsMetadataObstacle m o
+by_name m o (is, long) = rw is (inr long)
+
 -- ---- parts of a file
 -- an obstacle of the metadata is one of the file
 pub by_metadata : (file : File) (o : Obstacle) → IsMetadataObstacle file.metadata o → IsObstacle file o
@@ -207,7 +217,11 @@ by_metadata file (Supplement n) h = h
 by_metadata file TooLong h = inl h
 by_metadata file other h = absurd h
 
--- so is one of its codespace ranges
+-- so is a name of a file that it uses
+pub by_uses : (file : File) (names : List (List ℕ)) → names ≡ file.uses → (o : Obstacle) → (o ≡ TooLong) × Any IsLongName names → IsObstacle file o
+by_uses file names same o (is, long) = rw is (inr (subst (Any IsLongName) same long))
+
+-- and one of its codespace ranges
 pub by_spaces : (file : File) (spaces : List files.Codespace) → spaces ≡ file.lists.spaces → (o : Obstacle) → IsSpacesObstacle spaces o → IsObstacle file o
 by_spaces file spaces is (LargeCode code) h = inl (subst (Any (λ space. IsLargeEnd code space.len space.low space.high)) is h)
 by_spaces file spaces is other h = absurd h
@@ -264,8 +278,36 @@ too_long_of long P (Err (Refused TooLong)) h p = p h
 too_long_of long P (Err (Refused other)) h p = absurd h
 too_long_of long P (Err Memory) h p = tt
 
+-- ---- what a call comes to
+pub both_ok : {A E : Type 0} {P Q S : A → Type 0} (result : Result A E) → IfOk result P → IfOk result Q → ((x : A) → P x → Q x → S x) → IfOk result S
+both_ok (Ok x) first second both = both x first second
+both_ok (Err error) first second both = tt
+
+-- a result that is handed on
+pub handed_on : {A R : Type 0} {S T : A → Type 0} {P Q : R → Type 0} (result : Result A (Fault R)) → Outcome S P result → ((x : A) → S x → T x) → ((o : R) → P o → Q o) → Outcome T Q result
+handed_on (Ok x) done more gives = (more x done.0, tt)
+handed_on (Err fault) done more gives = (tt, refused_as fault done.1 gives)
+
+-- one that is refused only as too long
+pub long_handed_on : {A : Type 0} (long : Type 0) {S T : A → Type 0} (Q : Obstacle → Type 0) (result : Result A (Fault Obstacle)) → IfOk result S → IfErr result (IsTooLongIf long) → ((x : A) → S x → T x) → (long → Q TooLong) → Outcome T Q result
+long_handed_on long Q (Ok x) done refused more gives = (more x done, tt)
+long_handed_on long Q (Err (Refused TooLong)) done refused more gives = (tt, gives refused)
+long_handed_on long Q (Err (Refused other)) done refused more gives = absurd refused
+long_handed_on long Q (Err Memory) done refused more gives = (tt, tt)
+
+-- and its error, passed on by `?`
+pub long_passed_on : {A : Type 0} (long : Type 0) (T : A → Type 0) (Q : Obstacle → Type 0) (result : Result A (Fault Obstacle)) (fault : Fault Obstacle) → IsErrAnd result (λ e. e ≡ fault) → IsTooLongIf long fault → (long → Q TooLong) → Outcome T Q result
+long_passed_on long T Q (Ok x) fault is refused gives = absurd is
+long_passed_on long T Q (Err error) (Refused TooLong) is refused gives = (tt, rw is (gives refused))
+long_passed_on long T Q (Err error) (Refused other) is refused gives = absurd refused
+long_passed_on long T Q (Err error) Memory is refused gives = (tt, rw is tt)
+
 -- ---- a want of memory
 -- nor is something too long
 pub memory_long : {A : Type 0} (long : Type 0) (result : Result A (Fault Obstacle)) → IsErrAnd result (λ e. e ≡ Memory) → IfErr result (IsTooLongIf long)
 memory_long long (Ok x) is = absurd is
 memory_long long (Err error) is = rw is tt
+
+pub memory_passed_on : {A R : Type 0} (T : A → Type 0) (Q : R → Type 0) (result : Result A (Fault R)) → IsErrAnd result (λ e. e ≡ Memory) → Outcome T Q result
+memory_passed_on T Q (Ok x) is = absurd is
+memory_passed_on T Q (Err error) is = (tt, rw is tt)

@@ -1,12 +1,13 @@
 -- A file that is prepared, and one that is written.
-use Rattle.std.proofs.Common.{◌≡◌, ℕ, ◌+◌, ◌≤◌, List, [], ◌∷◌, ◌++◌, arith, drop, length, map, take, refl, ap, ◌∙◌, sym, subst}
+use Rattle.std.proofs.Common.{◌≡◌, ℕ, ◌+◌, List, [], ◌∷◌, ◌++◌, arith, drop, length, map, take, refl, ap, ◌∙◌, sym, subst}
 use Rattle.std.specs.List.{flat_map}
 use Rattle.std.proofs.lemmas.List.{append_assoc, append-nil, length-append, length-map, map-append}
 use Rattle.std.proofs.lemmas.List.Concat.{flat_map-append}
 use Rattle.cmap_values.specs.Files.{BfEntry, ByLength, Declaration, File, Lists, lists_of}
-use Rattle.cmap_binary.specs.BinaryFiles.{BodyOf, Content, IsBinaryFile, SegmentAt, declares, file_of, magic}
+use Rattle.cmap_binary.specs.BinaryFiles.{BodyOf, IsBinaryFile, SegmentAt, declares, file_of, magic}
 use Rattle.cmap_binary.specs.BinaryFiles as files
 use Rattle.cmap_packed.specs.Bundles.{PrefixTables}
+use Rattle.cmap_writer.specs.Fields.{FieldsFit, fields_of, metadata_bytes, notdef_lists_bytes, spaces_bytes, uses_bytes}
 use Rattle.cmap_writer.specs.Keeps.{HaveSameCids, HaveSameTexts, IsWritten, KeepLists, Keeps}
 use Rattle.cmap_values.specs.ListsByKind.{by_length}
 use Rattle.cmap_writer.specs.MetadataWritten.{metadata_contents}
@@ -14,11 +15,11 @@ use Rattle.std.specs.Global.{Vec}
 use Rattle.cmap_values.specs.DeclarationsSeen.{entries_seen}
 use Rattle.cmap_values.specs.declared.declarations.ByLength.{ByLength as HeldByLength}
 use Rattle.cmap_values.specs.declared.declarations.CidRange.{CidRange}
-use Rattle.cmap_writer.specs.PreparedFiles.{AddsCidLists, AddsSameCids, IsPrepared, fields_room}
+use Rattle.cmap_writer.specs.PreparedFiles.{AddsCidLists, AddsSameCids, IsPrepared}
 use Rattle.cmap_writer.specs.Segments.{AddsSegments, DeclareEach}
 use Rattle.cmap_layers.specs.Lookups.{bf_span, cid_span}
 use Rattle.cmap_writer.specs.Weights.{AreFew}
-use Rattle.cmap_writer.specs.SegmentsWritten.{DeclareAll, SegmentByAny}
+use Rattle.cmap_writer.specs.SegmentsWritten.{SegmentByAny}
 use Rattle.cmap_writer.specs.Written.{Appends, IsFramed, WritesAll, IsFramedFile}
 use Rattle.cmap_writer.specs.declared.prepared.Prepared.{Prepared}
 use Rattle.cmap_writer.specs.declared.segments.Segment.{Segment}
@@ -26,7 +27,8 @@ use Rattle.cmap_writer.proofs.FileKept.{file_said, head, keeps}
 use Rattle.cmap_writer.proofs.FilesWritten.{AllOf-written, joined}
 use Rattle.cmap_writer.proofs.FrontsWritten.{FramedAt-written, payload-written}
 use Rattle.cmap_values.proofs.KindsMade.{all_kinds}
-use Rattle.cmap_writer.proofs.ListsKept.{all_by_any, declared_both}
+use Rattle.cmap_writer.proofs.ListsKept.{all_by_any, declared_both, notdef_lists_written, spaces_written}
+use Rattle.cmap_writer.proofs.MetadataHeld.{metadata_written, uses_written}
 use Rattle.cmap_writer.proofs.SegmentsAdded.{WrittenWhere, adds_both, adds_four}
 
 -- what is added to none
@@ -43,23 +45,22 @@ length_declared made texts =
     omega (arith, length-append (one ++ (two ++ (three ++ four))) (map Declaration.bf texts), length-append one (two ++ (three ++ four)), length-append two (three ++ four), length-append three four, length-map made.one (Declaration.cid 1), length-map made.two (Declaration.cid 2), length-map made.three (Declaration.cid 3), length-map made.four (Declaration.cid 4), length-map texts Declaration.bf)
 
 module _ (file : File) (prepared : Prepared) (made : ByLength) (texts : List BfEntry) where
-  pub prepared_is : (a b d : List ℕ) (some : List Segment) → Appends [] a (WritesAll SegmentByAny (metadata_contents file.metadata)) → Appends a b (WritesAll SegmentByAny (map files.uses file.uses)) → Appends b d (DeclareAll SegmentByAny (map Declaration.codespace file.lists.spaces))
-      → Appends d prepared.fields.items (DeclareAll SegmentByAny (by_length Declaration.notdef file.lists.notdefs.one file.lists.notdefs.two file.lists.notdefs.three file.lists.notdefs.four)) → AddsSegments [] some (by_length Declaration.cid made.one made.two made.three made.four) → AddsSegments some prepared.segments.items (map Declaration.bf texts)
+  pub prepared_is : (some : List Segment) → FieldsFit file → prepared.fields.items ≡ fields_of file → AddsSegments [] some (by_length Declaration.cid made.one made.two made.three made.four) → AddsSegments some prepared.segments.items (map Declaration.bf texts)
       → HaveSameCids file.lists.cids.one made.one → HaveSameCids file.lists.cids.two made.two → HaveSameCids file.lists.cids.three made.three → HaveSameCids file.lists.cids.four made.four → HaveSameTexts file.lists.bfs texts
-      → AreFew (map cid_span file.lists.cids.one) (length made.one) → AreFew (map cid_span file.lists.cids.two) (length made.two) → AreFew (map cid_span file.lists.cids.three) (length made.three) → AreFew (map cid_span file.lists.cids.four) (length made.four) → AreFew (map bf_span file.lists.bfs) (length texts) → length prepared.fields.items ≤ fields_room file → IsPrepared file prepared
-  prepared_is a b d some first second spaces notdefs cids bfs one_same two_same three_same four_same texts_same one_few two_few three_few four_few texts_few room =
+      → AreFew (map cid_span file.lists.cids.one) (length made.one) → AreFew (map cid_span file.lists.cids.two) (length made.two) → AreFew (map cid_span file.lists.cids.three) (length made.three) → AreFew (map cid_span file.lists.cids.four) (length made.four) → AreFew (map bf_span file.lists.bfs) (length texts) → IsPrepared file prepared
+  prepared_is some fit bytes cids bfs one_same two_same three_same four_same texts_same one_few two_few three_few four_few texts_few =
       let ds = map Declaration.codespace file.lists.spaces in
       let ns = by_length Declaration.notdef file.lists.notdefs.one file.lists.notdefs.two file.lists.notdefs.three file.lists.notdefs.four in
       let cs = by_length Declaration.cid made.one made.two made.three made.four in
       let ts = map Declaration.bf texts in
-      let (meta, a_is, said) = first in
-      let (uses, b_is, said_too) = second in
-      let (rest, rest_is, (fronts, fronts_flat, all)) = declared_both SegmentByAny ds ns b d prepared.fields.items spaces notdefs in
+      let meta = metadata_bytes file.metadata in
+      let uses = uses_bytes file.uses in
+      let rest = spaces_bytes file.lists.spaces ++ notdef_lists_bytes file.lists.notdefs in
+      let (fronts, fronts_flat, all) = declared_both SegmentByAny ds ns (spaces_bytes file.lists.spaces) (notdef_lists_bytes file.lists.notdefs) (spaces_written file.lists.spaces fit.spaces) (notdef_lists_written file.lists.notdefs fit.notdefs) in
       let (parts, each, parts_flat) = from_none prepared.segments.items (cs ++ ts) (adds_both cs ts [] some prepared.segments.items cids bfs) in
       let names = map files.uses file.uses in
       let contents = metadata_contents file.metadata ++ (names ++ map declares fronts) in
-      let written : WritesAll SegmentByAny contents (meta ++ (uses ++ rest)) = joined SegmentByAny (metadata_contents file.metadata) (names ++ map declares fronts) meta (uses ++ rest) said (joined SegmentByAny names (map declares fronts) uses rest said_too all) in
-      let whole : meta ++ (uses ++ rest) ≡ prepared.fields.items = sym (rest_is ∙ ap (λ bs. bs ++ rest) (b_is ∙ ap (λ bs. bs ++ uses) a_is) ∙ simp append_assoc) in
+      let written : WritesAll SegmentByAny contents (meta ++ (uses ++ rest)) = joined SegmentByAny (metadata_contents file.metadata) (names ++ map declares fronts) meta (uses ++ rest) (metadata_written file.metadata fit.metadata) (joined SegmentByAny names (map declares fronts) uses rest (uses_written file.uses fit.uses) all) in
       let flat : flat_map (λ part. part) (fronts ++ parts) ≡ (ds ++ ns) ++ (cs ++ ts) = flat_map-append (λ part. part) fronts parts ∙ ap (λ xs. xs ++ flat_map (λ part. part) parts) fronts_flat ∙ ap (λ xs. (ds ++ ns) ++ xs) parts_flat in
       let all_contents : contents ++ map declares parts ≡ metadata_contents file.metadata ++ (names ++ map declares (fronts ++ parts)) = append_assoc (metadata_contents file.metadata) (names ++ map declares fronts) (map declares parts) ∙ ap (λ cs. metadata_contents file.metadata ++ cs) (append_assoc names (map declares fronts) (map declares parts) ∙ ap (λ cs. names ++ cs) (sym (map-append declares fronts parts))) in
       let lists : Lists = record { cids = made; notdefs = file.lists.notdefs; bfs = texts; spaces = file.lists.spaces } in
@@ -69,10 +70,9 @@ module _ (file : File) (prepared : Prepared) (made : ByLength) (texts : List BfE
       record {
         contents = contents;
         parts = parts;
-        fields = subst (WritesAll SegmentByAny contents) whole written;
+        fields = subst (WritesAll SegmentByAny contents) (sym bytes) written;
         segments = each;
         keeps = subst (Keeps file) (sym says) (keeps file lists kept);
-        room = room;
         few = omega (arith, ap length parts_flat, length_declared made texts, one_few, two_few, three_few, four_few, texts_few);
       }
 

@@ -1,13 +1,17 @@
 -- Fields in a row that are written, and read back.
-use Rattle.std.proofs.Common.{◌≡◌, ℕ, suc, ◌*◌, ◌^◌, ◌<◌, List, [], ◌∷◌, ◌++◌, length, refl, ap, ◌∙◌, sym, subst, arith}
+use Rattle.std.proofs.Common.{◌≡◌, ℕ, zero, suc, ◌+◌, ◌*◌, ◌^◌, ◌<◌, List, [], ◌∷◌, ◌++◌, length, refl, ap, ◌∙◌, sym, subst, arith}
+use Rattle.std.specs.List.{All, flat_map}
 use Rattle.std.proofs.lemmas.List.{append_assoc, append-nil}
+use Rattle.std.proofs.lemmas.List.Elements.{All-head, All-tail}
+use Rattle.std.proofs.lemmas.Nat.{pow-add}
 use Rattle.cmap_values.specs.CodeLengths.{IsCodeLength, length_of}
 use Rattle.cmap_values.specs.Files.{CidEntry, Codespace}
 use Rattle.cmap_values.specs.declared.code_length.CodeLength.{CodeLength}
 use Rattle.cmap_values.specs.declared.code_length.CodeLength.TheVariants.{One, Two, Three, Four}
 use Rattle.cmap_binary.specs.BinaryFiles.{CodespaceAt, CodespacesIn, NotdefAt, NotdefsIn}
 use Rattle.cmap_packed.specs.Fronts.{CodeAt, RowOf}
-use Rattle.cmap_writer.specs.Written.{bytes_of, Appends, Writes, WritesAll}
+use Rattle.cmap_writer.specs.Fields.{CodeFits, NotdefFits, SpaceFits, notdef_bytes, notdefs_payload, space_bytes, spaces_payload}
+use Rattle.cmap_writer.specs.Written.{bytes_of, Writes, WritesAll}
 use Rattle.cmap_writer.proofs.FrontsWritten.{FieldAt-written}
 
 -- things in a row
@@ -23,38 +27,47 @@ is_length Two = (omega arith, omega arith)
 is_length Three = (omega arith, omega arith)
 is_length Four = (omega arith, omega arith)
 
-pub code_written : (len : CodeLength) (code : ℕ) (old new : List ℕ) → new ≡ old ++ bytes_of (length_of len) code → code < 2 ^ (8 * length_of len) → Appends old new (Writes (CodeAt (length_of len)) code)
-code_written len code old new is small = (bytes_of (length_of len) code, is, λ rest. (is_length len, FieldAt-written (length_of len) code rest small))
+pub byte_power : (len : ℕ) → 256 ^ len ≡ 2 ^ (8 * len)
+byte_power zero = omega arith
+byte_power (suc len) =
+    let more : 8 + 8 * len ≡ 8 * suc len = omega arith in
+    let one : suc len ≡ 1 + len = omega arith in
+    ap (λ k. 256 ^ k) one ∙ pow-add 256 1 len ∙ ap (λ n. 256 * n) (byte_power len) ∙ sym (pow-add 2 8 (8 * len)) ∙ ap (λ k. 2 ^ k) more
+
+pub code_written : (len code : ℕ) → CodeFits len code → Writes (CodeAt len) code (bytes_of len code)
+code_written len code fits rest = (fits.length, FieldAt-written len code rest (subst (λ most. code < most) (byte_power len) fits.small))
 
 -- start, end, CID
-pub notdef_written : (width : ℕ) (e : CidEntry) (old a b new : List ℕ) → Appends old a (Writes (CodeAt width) e.start) → Appends a b (Writes (CodeAt width) e.end) → new ≡ b ++ bytes_of 2 e.cid → e.cid < 2 ^ 16 → Appends old new (Writes (NotdefAt width) e)
-notdef_written width e old a b new (first, first_is, start) (second, second_is, end) third small =
-    let cid = bytes_of 2 e.cid in (
-      first ++ (second ++ cid),
-      third ∙ ap (λ bs. bs ++ cid) (second_is ∙ ap (λ bs. bs ++ second) first_is) ∙ simp append_assoc,
-      λ rest.
-          let parts : (first ++ (second ++ cid)) ++ rest ≡ first ++ (second ++ (cid ++ rest)) = simp append_assoc in
-          subst (λ bs. NotdefAt width bs (e, rest)) (sym parts) (e.start, second ++ (cid ++ rest), start (second ++ (cid ++ rest)), (e.end, cid ++ rest, end (cid ++ rest), (e.cid, rest, FieldAt-written 2 e.cid rest small, refl))),
-    )
+pub notdef_written : (len : ℕ) (e : CidEntry) → NotdefFits len e → Writes (NotdefAt len) e (notdef_bytes len e)
+notdef_written len e (start, end, small) rest =
+    let first = bytes_of len e.start in
+    let second = bytes_of len e.end in
+    let cid = bytes_of 2 e.cid in
+    let parts : notdef_bytes len e ++ rest ≡ first ++ (second ++ (cid ++ rest)) = append_assoc first (second ++ cid) rest ∙ ap (λ bs. first ++ bs) (append_assoc second cid rest) in
+    subst (λ bs. NotdefAt len bs (e, rest)) (sym parts) (e.start, second ++ (cid ++ rest), code_written len e.start start (second ++ (cid ++ rest)), (e.end, cid ++ rest, code_written len e.end end (cid ++ rest), (e.cid, rest, FieldAt-written 2 e.cid rest small, refl)))
 
 -- length, low, high
-pub codespace_written : (len : CodeLength) (low high : ℕ) (old a b new : List ℕ) → a ≡ old ++ length_of len ∷ [] → Appends a b (Writes (CodeAt (length_of len)) low) → Appends b new (Writes (CodeAt (length_of len)) high) → Appends old new (Writes CodespaceAt (record { len = length_of len; low = low; high = high }))
-codespace_written len low high old a b new begins (first, first_is, at) (second, second_is, at_too) = (
-  length_of len ∷ (first ++ second),
-  second_is ∙ ap (λ bs. bs ++ second) (first_is ∙ ap (λ bs. bs ++ first) begins) ∙ simp append_assoc,
-  λ rest. subst (λ bs. CodespaceAt (length_of len ∷ bs) (record { len = length_of len; low = low; high = high }, rest)) (sym (append_assoc first second rest)) (length_of len, first ++ (second ++ rest), refl, (low, second ++ rest, at (second ++ rest), (high, rest, at_too rest, refl))),
-)
+pub space_written : (space : Codespace) → SpaceFits space → Writes CodespaceAt space (space_bytes space)
+space_written space (low, high) rest =
+    let len = space.len in
+    let first = bytes_of len space.low in
+    let second = bytes_of len space.high in
+    subst (λ bs. CodespaceAt (len ∷ bs) (space, rest)) (sym (append_assoc first second rest)) (len, first ++ (second ++ rest), refl, (space.low, second ++ rest, code_written len space.low low (second ++ rest), (space.high, rest, code_written len space.high high rest, refl)))
 
--- one more
-pub notdefs_written : (width n : ℕ) (es : List CidEntry) (a b c : List ℕ) → a ≡ width ∷ [] → b ≡ a ++ bytes_of 2 n → n ≡ length es → n < 2 ^ 16 → Appends b c (WritesAll (NotdefAt width) es) → NotdefsIn c (width, es)
-notdefs_written width n es a b c first second size few (bytes, third, all) =
-    let whole : c ≡ width ∷ (bytes_of 2 (length es) ++ bytes) = third ∙ ap (λ bs. bs ++ bytes) (second ∙ ap (λ bs. bs ++ bytes_of 2 n) first) ∙ ap (λ k. width ∷ (bytes_of 2 k ++ bytes)) size in
-    let small : length es < 2 ^ 16 = subst (λ k. k < 2 ^ 16) size few in
-    let row : RowOf (NotdefAt width) (length es) bytes (es, []) = subst (λ bs. RowOf (NotdefAt width) (length es) bs (es, [])) (append-nil bytes) (row_of (NotdefAt width) es bytes [] all) in
-    subst (λ bs. NotdefsIn bs (width, es)) (sym whole) (width, bytes_of 2 (length es) ++ bytes, refl, (length es, bytes, FieldAt-written 2 (length es) bytes small, (es, [], row, refl)))
+-- things in a row, each of which is written so
+pub all_written : {A : Type 0} (item : List ℕ → A × List ℕ → Type 0) (fits : A → Type 0) (bytes : A → List ℕ) → ((x : A) → fits x → Writes item x (bytes x)) → (xs : List A) → All fits xs → WritesAll item xs (flat_map bytes xs)
+all_written item fits bytes one [] all = refl
+all_written item fits bytes one (x ∷ xs) all = (bytes x, flat_map bytes xs, refl, one x (All-head fits x xs all), all_written item fits bytes one xs (All-tail fits x xs all))
 
-pub codespaces_written : (n : ℕ) (spaces : List Codespace) (a b : List ℕ) → a ≡ n ∷ [] → n ≡ length spaces → Appends a b (WritesAll CodespaceAt spaces) → CodespacesIn b spaces
-codespaces_written n spaces a b first size (bytes, second, all) =
-    let whole : b ≡ length spaces ∷ bytes = second ∙ ap (λ bs. bs ++ bytes) first ∙ ap (λ k. k ∷ bytes) size in
-    let row : RowOf CodespaceAt (length spaces) bytes (spaces, []) = subst (λ bs. RowOf CodespaceAt (length spaces) bs (spaces, [])) (append-nil bytes) (row_of CodespaceAt spaces bytes [] all) in
-    subst (λ bs. CodespacesIn bs spaces) (sym whole) (length spaces, bytes, refl, (spaces, [], row, refl))
+-- ---- payloads
+pub notdefs_read : (len : ℕ) (es : List CidEntry) → length es < 2 ^ 16 → All (NotdefFits len) es → NotdefsIn (notdefs_payload len es) (len, es)
+notdefs_read len es few all =
+    let bytes = flat_map (notdef_bytes len) es in
+    let row : RowOf (NotdefAt len) (length es) bytes (es, []) = subst (λ bs. RowOf (NotdefAt len) (length es) bs (es, [])) (append-nil bytes) (row_of (NotdefAt len) es bytes [] (all_written (NotdefAt len) (NotdefFits len) (notdef_bytes len) (notdef_written len) es all)) in
+    (len, bytes_of 2 (length es) ++ bytes, refl, (length es, bytes, FieldAt-written 2 (length es) bytes few, (es, [], row, refl)))
+
+pub spaces_read : (spaces : List Codespace) → All SpaceFits spaces → CodespacesIn (spaces_payload spaces) spaces
+spaces_read spaces all =
+    let bytes = flat_map space_bytes spaces in
+    let row : RowOf CodespaceAt (length spaces) bytes (spaces, []) = subst (λ bs. RowOf CodespaceAt (length spaces) bs (spaces, [])) (append-nil bytes) (row_of CodespaceAt spaces bytes [] (all_written CodespaceAt SpaceFits space_bytes space_written spaces all)) in
+    (length spaces, bytes, refl, (spaces, [], row, refl))

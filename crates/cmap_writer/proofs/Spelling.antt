@@ -60,7 +60,7 @@ number_after-bits_of (suc count) m n =
     let low : d * p + n % p ≡ n % 2 ^ suc count = sym (mod-pow-add n 1 count) ∙ ap (λ k. n % 2 ^ k) e in
     number_after-bits_of count (m * 2 + d) n ∙ stepped m d p (n % p) ∙ ap (λ q. m * q + (d * p + n % p)) whole ∙ ap (λ r. m * 2 ^ suc count + r) low
 
-number-bits_of : (count n : ℕ) → n < 2 ^ count → number_from_digits 2 (bits_of count n) ≡ n
+pub number-bits_of : (count n : ℕ) → n < 2 ^ count → number_from_digits 2 (bits_of count n) ≡ n
 number-bits_of count n small = omega (arith, number_after-bits_of count 0 n, mod-eq_of_lt small)
 
 -- the word that is held at an index

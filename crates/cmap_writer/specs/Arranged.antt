@@ -6,9 +6,9 @@ use Rattle.cmap_values.specs.Files.{BfEntry, ByLength, CidEntry, Declaration, Fi
 use Rattle.cmap_layers.specs.Lookups.{bf_at, bf_span, cid_at, cid_span}
 use Rattle.cmap_binary.specs.BinaryEntries.{Shape, ranges, singles}
 use Rattle.cmap_writer.specs.EncodersSeen.{shape_seen}
+use Rattle.cmap_writer.specs.Fields.{fields_of}
 use Rattle.cmap_writer.specs.Held.{deltas_of}
 use Rattle.cmap_writer.specs.Pieces.{AllSayAs, CanBeSplit, IsShort, IsShortText, SayTheSame}
-use Rattle.cmap_writer.specs.PreparedFiles.{IsPrepared}
 use Rattle.cmap_writer.specs.Segments.{declared_span}
 use Rattle.cmap_writer.specs.TextParts.{units_at}
 use Rattle.cmap_writer.specs.Texts.{destination}
@@ -209,17 +209,14 @@ lists_by_length made = map (Declaration.cid 1) made.one ∷ map (Declaration.cid
 abbrev pub AddsByLength : ByLength → List Segment → List Segment → Type 0
 AddsByLength lists old new = (made : ByLength) × AreByLength lists made × AddsInTurn old new (lists_by_length made)
 
--- the segments are those of the entries of each list of the file, in order: no other segments are so
+-- the fields have these bytes, and the segments are those of the entries of each list of the file, in order: no other segments are so
 pub record IsArranged (file : File) (prepared : Prepared) : Type 0 where
+  pub fields : prepared.fields.items ≡ fields_of file
   pub cids : ByLength
   pub texts : List BfEntry
   pub cid_entries : AreByLength file.lists.cids cids
   pub text_entries : AreTextEntries file.lists.bfs texts
   pub segments : StandInTurn prepared.segments.items (lists_by_length cids ++ map Declaration.bf texts ∷ [])
-
--- what is to be written of a file: what it says, and where it stands
-abbrev pub IsPreparedFor : File → Prepared → Type 0
-IsPreparedFor file prepared = IsPrepared file prepared × IsArranged file prepared
 
 -- ---- private aid
 -- the pieces of a range come after the old ones

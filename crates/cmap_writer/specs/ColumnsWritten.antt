@@ -3,14 +3,13 @@ use Rattle.std.specs.Prelude.{ℕ, List, [], ◌∷◌}
 use Rattle.cmap_runs.specs.Ranges.{Span}
 use Rattle.cmap_binary.specs.BinaryEntries.{Columns, ColumnsAt, Shape, SpanAt}
 use Rattle.cmap_packed.specs.Bundles.{PrefixTables}
-use Rattle.cmap_packed.specs.Fronts.{SizedAt}
 use Rattle.cmap_packed.specs.PrefixWords.{BeginWithWordsOf, CodeWord, bits}
 use Rattle.cmap_writer.specs.Spelled.{IsSpelledIn}
-use Rattle.cmap_writer.specs.Written.{Writes}
+use Rattle.cmap_writer.specs.Written.{IsSized, Writes}
 
--- a sized piece whose bits are the code words of these symbols, and less than a byte
+-- a sized piece whose bits are the code words of these symbols, and zeros that fill its last byte
 abbrev pub WritesColumn : List CodeWord → List ℕ → List ℕ → Type 0
-WritesColumn table symbols bytes = (text : List ℕ) × Writes SizedAt text bytes × BeginWithWordsOf table symbols (bits text) × IsSpelledIn table symbols text
+WritesColumn table symbols bytes = (text : List ℕ) × IsSized text bytes × BeginWithWordsOf table symbols (bits text) × IsSpelledIn table symbols text
 
 -- these spans come next in the columns
 abbrev pub HaveSpans : PrefixTables → List Span → Columns → Type 0

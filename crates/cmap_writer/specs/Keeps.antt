@@ -1,11 +1,6 @@
 -- What a file that is written keeps of the one that was handed in.
 use Rattle.std.specs.Prelude.{◌≡◌, ℕ, List, ◌∷◌, map}
-use Rattle.std.specs.Global.{Vec}
-use Rattle.cmap_values.specs.DeclarationsSeen.{entries_seen}
-use Rattle.cmap_values.specs.Files.{BfEntry, CidEntry, Declaration, File, Lists}
-use Rattle.cmap_values.specs.ListsByKind.{by_length}
-use Rattle.cmap_values.specs.declared.declarations.ByLength.{ByLength}
-use Rattle.cmap_values.specs.declared.declarations.CidRange.{CidRange}
+use Rattle.cmap_values.specs.Files.{BfEntry, CidEntry, File, Lists}
 use Rattle.cmap_unicode.specs.Cids.{declared_cid}
 use Rattle.cmap_layers.specs.Layers.{Layer, layer_of}
 use Rattle.cmap_layers.specs.Lookups.{bf_of, cid_of}
@@ -52,7 +47,3 @@ pub record IsWritten (tables : PrefixTables) (file : File) (bytes : List ℕ) : 
   pub is : IsBinaryFile tables bytes made
   pub keeps : Keeps file made
   pub framed : IsFramedFile bytes
-
--- ---- private aid
-abbrev pub notdefs_declared : ByLength (Vec CidRange) → List Declaration
-notdefs_declared lists = by_length Declaration.notdef (entries_seen lists.one.items) (entries_seen lists.two.items) (entries_seen lists.three.items) (entries_seen lists.four.items)

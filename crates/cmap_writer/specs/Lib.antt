@@ -1,7 +1,9 @@
 pub mod Arranged
 pub mod ColumnsWritten
+pub mod Encoded
 pub mod EncodersSeen
 pub mod Failures
+pub mod Fields
 pub mod Follows
 pub mod Held
 pub mod Keeps

@@ -15,11 +15,3 @@ metadata_contents m = from_option sets_collection m.collection ++ (from_option s
 -- how many bytes name a collection: the registry and the ordering, each with a byte that ends it, and two of the supplement
 abbrev pub collection_len : Collection → ℕ
 collection_len collection = length (registry_of collection.family) + 1 + (length (ordering_of collection.family) + 1) + 2
-
-abbrev pub option_room : {A : Type 0} → (A → ℕ) → Option A → ℕ
-option_room room None = 0
-option_room room (Some x) = room x
-
--- the most bytes that segments of metadata have
-abbrev pub metadata_room : FileMetadata → ℕ
-metadata_room m = option_room (λ collection. 5 + collection_len collection) m.collection + (option_room (λ name. 5 + length name) m.name + 6)

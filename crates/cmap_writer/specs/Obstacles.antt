@@ -8,9 +8,10 @@ use Rattle.cmap_values.specs.Names.{Family, family_of, ordering_of, registry_of}
 use Rattle.cmap_layers.specs.Lookups.{bf_span, last_bf}
 use Rattle.cmap_packed.specs.Bundles.{PrefixTables}
 use Rattle.cmap_packed.specs.PrefixWords.{CodeWord}
-use Rattle.cmap_writer.specs.Arranged.{IsPreparedFor}
+use Rattle.cmap_writer.specs.Arranged.{IsArranged}
 use Rattle.cmap_writer.specs.MetadataWritten.{collection_len}
 use Rattle.cmap_writer.specs.Pieces.{cid_told}
+use Rattle.cmap_writer.specs.PreparedFiles.{IsPrepared}
 use Rattle.cmap_writer.specs.Segments.{AreSegmentBytes}
 use Rattle.cmap_writer.specs.Spelled.{IsNoSymbol}
 use Rattle.cmap_writer.specs.TextParts.{units_at}
@@ -82,6 +83,16 @@ IsObstacle file (Text range) = HasLongText file.lists.bfs range ⊎ HasManyTexts
 IsObstacle file TooLong = HasLongName file
 IsObstacle file NoWord = ⊥
 IsObstacle file NoPlace = ⊥
+
+-- the binary form can say the file
+abbrev pub IsSayable : File → Type 0
+IsSayable file = (obstacle : Obstacle) → IsObstacle file obstacle → ⊥
+
+-- what is to be written of a file: the binary form can say it, what it says, and where it stands
+pub record IsPreparedFor (file : File) (prepared : Prepared) : Type 0 where
+  pub sayable : IsSayable file
+  pub says : IsPrepared file prepared
+  pub arranged : IsArranged file prepared
 
 -- a number of the segment has no code word in its table
 abbrev pub HasNoWord : PrefixTables → Segment → Type 0

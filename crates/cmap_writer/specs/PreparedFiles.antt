@@ -8,8 +8,6 @@ use Rattle.cmap_values.specs.declared.declarations.ByLength.{ByLength}
 use Rattle.cmap_values.specs.declared.declarations.CidRange.{CidRange}
 use Rattle.cmap_writer.specs.Keeps.{HaveSameCids, HaveSameTexts, Keeps}
 use Rattle.cmap_values.specs.ListsByKind.{by_length}
-use Rattle.std.specs.List.{sum_by}
-use Rattle.cmap_writer.specs.MetadataWritten.{metadata_room}
 use Rattle.cmap_writer.specs.Segments.{AddsSegments, DeclareEach}
 use Rattle.cmap_writer.specs.SegmentsWritten.{SegmentByAny}
 use Rattle.cmap_layers.specs.Lookups.{bf_span, cid_span}
@@ -30,12 +28,6 @@ AddsSameTexts es old new = (made : List BfEntry) × AddsSegments old new (map De
 abbrev pub file_weight : File → ℕ
 file_weight file = weight_of (map cid_span file.lists.cids.one) + (weight_of (map cid_span file.lists.cids.two) + (weight_of (map cid_span file.lists.cids.three) + (weight_of (map cid_span file.lists.cids.four) + weight_of (map bf_span file.lists.bfs))))
 
--- the most bytes that a file has beside its CIDs and texts
-abbrev pub fields_room : File → ℕ
-fields_room file =
-    let notdefs = file.lists.notdefs in
-    metadata_room file.metadata + (sum_by (λ name. 5 + length name) file.uses + (15 * length file.lists.spaces + 18 * (length notdefs.one + (length notdefs.two + (length notdefs.three + length notdefs.four)))))
-
 -- segments without columns, and others, which say together what keeps the file
 pub record IsPrepared (file : File) (prepared : Prepared) : Type 0 where
   pub contents : List Content
@@ -43,7 +35,6 @@ pub record IsPrepared (file : File) (prepared : Prepared) : Type 0 where
   pub fields : WritesAll SegmentByAny contents prepared.fields.items
   pub segments : DeclareEach prepared.segments.items parts
   pub keeps : Keeps file (file_of (contents ++ map declares parts))
-  pub room : length prepared.fields.items ≤ fields_room file
   pub few : 256 * length (flat_map (λ part. part) parts) ≤ file_weight file
 
 -- segments by which codes of each length have the CIDs that they have by these lists come after the old ones

@@ -1,5 +1,5 @@
 -- Symbols that bits spell by the code words of a table, with nothing after them.
-use Rattle.std.specs.Prelude.{◌≡◌, ℕ, ◌≤◌, ◌<◌, List, [], ◌∷◌, ◌++◌, All, Option, IfNone, length}
+use Rattle.std.specs.Prelude.{◌≡◌, ℕ, ◌≤◌, ◌<◌, List, [], ◌∷◌, ◌++◌, All, Option, IfNone, length, replicate}
 use Rattle.cmap_packed.specs.PrefixWords.{CodeWord, Decodes, IsWord, bits, bits_of}
 
 -- the code words of these symbols, in order, and no more
@@ -7,9 +7,14 @@ abbrev pub IsSpelled : List CodeWord → List ℕ → List ℕ → Type 0
 IsSpelled table [] stream = stream ≡ []
 IsSpelled table (symbol ∷ symbols) stream = (len : ℕ) × (rest : List ℕ) × Decodes table stream symbol len rest × IsSpelled table symbols rest
 
--- the code words of these symbols, in order, and less than a byte after them
-abbrev pub IsSpelledIn : List CodeWord → List ℕ → List ℕ → Type 0
-IsSpelledIn table symbols bytes = (stream : List ℕ) × (rest : List ℕ) × IsSpelled table symbols stream × (bits bytes ≡ stream ++ rest) × (length rest < 8)
+-- the code words of these symbols, in order, and zeros that fill the last byte
+pub record IsSpelledIn (table : List CodeWord) (symbols bytes : List ℕ) : Type 0 where
+  pub stream : List ℕ
+  pub rest : List ℕ
+  pub spelled : IsSpelled table symbols stream
+  pub bits_are : bits bytes ≡ stream ++ rest
+  pub few : length rest < 8
+  pub zeros : rest ≡ replicate (length rest) 0
 
 -- the last len bits of a number are the code word of this symbol
 pub record HasWord (table : List CodeWord) (symbol len value : ℕ) : Type 0 where

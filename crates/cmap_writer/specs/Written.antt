@@ -1,5 +1,5 @@
 -- Bytes that are written, and what a reader finds in them.
-use Rattle.std.specs.Prelude.{◌≡◌, ℕ, zero, suc, length, ◌+◌, ◌<◌, ◌*◌, ◌/◌, ◌%◌, ◌^◌, List, [], ◌∷◌, ◌++◌}
+use Rattle.std.specs.Prelude.{◌≡◌, ℕ, zero, suc, length, ◌+◌, ◌<◌, ◌*◌, ◌/◌, ◌%◌, ◌^◌, List, [], ◌∷◌, ◌++◌, All}
 use Rattle.cmap_packed.specs.Fronts.{FramedAt}
 
 -- the last count bytes of a number, the high one first
@@ -19,6 +19,12 @@ Writes item x bytes = (rest : List ℕ) → item (bytes ++ rest) (x, rest)
 pub record IsFramed (front payload bytes : List ℕ) : Type 0 where
   pub bytes_are : bytes ≡ (front ++ bytes_of 4 (length front + 4 + length payload)) ++ payload
   pub small : length front + 4 + length payload < 2 ^ 32
+
+-- a piece of bytes after its length, which has four of them
+pub record IsSized (piece bytes : List ℕ) : Type 0 where
+  pub bytes_are : bytes ≡ bytes_of 4 (length piece) ++ piece
+  pub small : length piece < 2 ^ 32
+  pub are_bytes : All (λ b. b < 2 ^ 8) piece
 
 -- whatever follows these bytes, a reader finds these values in order
 abbrev pub WritesAll : {A : Type 0} → (List ℕ → A × List ℕ → Type 0) → List A → List ℕ → Type 0

@@ -1,13 +1,10 @@
 //! Segments of codespace ranges.
 
-ghost use Rattle.std.specs.Prelude.{◌+◌, ◌*◌, ◌<◌, ◌≤◌, ◌^◌, IfErr, IfOk, length, map};
+ghost use Rattle.std.specs.Prelude.{◌≡◌, ◌<◌, ◌^◌, ◌++◌, All, flat_map, length, map};
 ghost use Rattle.cmap_values.specs.DeclarationsSeen.{codespace_seen};
-ghost use Rattle.cmap_values.specs.Files.{Declaration};
-ghost use Rattle.cmap_values.specs.Outcomes.{RefusesWith};
-ghost use Rattle.cmap_binary.specs.BinaryFiles.{CodespaceAt, CodespacesIn};
+ghost use Rattle.cmap_values.specs.Outcomes.{Outcome};
+ghost use Rattle.cmap_writer.specs.Fields.{SpaceFits, space_bytes, spaces_bytes, spaces_payload};
 ghost use Rattle.cmap_writer.specs.Obstacles.{IsSpaceObstacle, IsSpacesObstacle};
-ghost use Rattle.cmap_writer.specs.SegmentsWritten.{DeclareAll, SegmentByAny};
-ghost use Rattle.cmap_writer.specs.Written.{Appends, Writes, WritesAll};
 
 use crate::notdefs::push_code;
 use crate::obstacle::Obstacle;
@@ -28,10 +25,9 @@ pub(crate) fn push_codespaces(
     spaces: &[Codespace],
     out: &mut Vec<u8>,
 ) -> Result<(), Fault<Obstacle>>
-    ensures written { IfOk result (λ _. Appends out.old.items out.new.items
-        (DeclareAll SegmentByAny (map Declaration.codespace (map codespace_seen spaces.now)))) }
-    ensures len { IfOk result (λ _. length out.new.items ≤ length out.old.items + 15 * length spaces.now) }
-    ensures err { IfErr result (RefusesWith (IsSpacesObstacle (map codespace_seen spaces.now))) }
+    ensures { Outcome (λ _. All SpaceFits (map codespace_seen spaces.now)
+        × (out.new.items ≡ out.old.items ++ spaces_bytes (map codespace_seen spaces.now)))
+        (IsSpacesObstacle (map codespace_seen spaces.now)) result }
 {
     let mut left = spaces;
     while !left.is_empty() {
@@ -46,9 +42,9 @@ pub(crate) fn push_codespaces(
 /// The payload of a segment of these codespace ranges.
 fn codespace_payload(alloc: Global, spaces: &[Codespace]) -> Result<Vec<u8>, Fault<Obstacle>>
     requires { length spaces.now < 2 ^ 8 }
-    ensures written { IfOk result (λ payload. CodespacesIn payload.items (map codespace_seen spaces.now)) }
-    ensures len { IfOk result (λ payload. length payload.items ≤ 1 + 9 * length spaces.now) }
-    ensures err { IfErr result (RefusesWith (IsSpacesObstacle (map codespace_seen spaces.now))) }
+    ensures { Outcome (λ payload. All SpaceFits (map codespace_seen spaces.now)
+        × (payload.items ≡ spaces_payload (map codespace_seen spaces.now)))
+        (IsSpacesObstacle (map codespace_seen spaces.now)) result }
 {
     let mut payload = Vec::new(alloc);
     payload.push(spaces.len() as u8)?;
@@ -58,9 +54,9 @@ fn codespace_payload(alloc: Global, spaces: &[Codespace]) -> Result<Vec<u8>, Fau
 
 /// Writes codespace ranges in a row.
 fn push_spaces(out: &mut Vec<u8>, spaces: &[Codespace]) -> Result<(), Fault<Obstacle>>
-    ensures written { IfOk result (λ _. Appends out.old.items out.new.items (WritesAll CodespaceAt (map codespace_seen spaces.now))) }
-    ensures len { IfOk result (λ _. length out.new.items ≤ length out.old.items + 9 * length spaces.now) }
-    ensures err { IfErr result (RefusesWith (IsSpacesObstacle (map codespace_seen spaces.now))) }
+    ensures { Outcome (λ _. All SpaceFits (map codespace_seen spaces.now)
+        × (out.new.items ≡ out.old.items ++ flat_map space_bytes (map codespace_seen spaces.now)))
+        (IsSpacesObstacle (map codespace_seen spaces.now)) result }
 {
     for space in spaces {
         push_space(out, *space)?;
@@ -70,9 +66,8 @@ fn push_spaces(out: &mut Vec<u8>, spaces: &[Codespace]) -> Result<(), Fault<Obst
 
 /// Writes a codespace range: the length of its codes, low, high.
 fn push_space(out: &mut Vec<u8>, space: Codespace) -> Result<(), Fault<Obstacle>>
-    ensures written { IfOk result (λ _. Appends out.old.items out.new.items (Writes CodespaceAt (codespace_seen space))) }
-    ensures len { IfOk result (λ _. length out.new.items ≤ length out.old.items + 9) }
-    ensures err { IfErr result (RefusesWith (IsSpaceObstacle (codespace_seen space))) }
+    ensures { Outcome (λ _. SpaceFits (codespace_seen space) × (out.new.items ≡ out.old.items ++ space_bytes (codespace_seen space)))
+        (IsSpaceObstacle (codespace_seen space)) result }
 {
     out.push(space.len.count())?;
     push_code(out, space.len, space.low)?;

@@ -1,11 +1,14 @@
 //! A file in the binary form.
 
-ghost use Rattle.std.specs.Prelude.{IfErr, IfOk};
+ghost use Rattle.std.specs.Prelude.{◌≡◌, IfOk};
 ghost use Rattle.cmap_values.specs.FilesSeen.{file_seen};
-ghost use Rattle.cmap_values.specs.Outcomes.{RefusesWith};
+ghost use Rattle.cmap_values.specs.Outcomes.{Outcome};
+ghost use Rattle.cmap_writer.specs.Encoded.{HaveOneWordEach, IsEncodedFor};
 ghost use Rattle.cmap_writer.specs.EncodersSeen.{encoders_seen};
 ghost use Rattle.cmap_writer.specs.Keeps.{IsWritten};
 ghost use Rattle.cmap_writer.specs.Obstacles.{IsWriteObstacle};
+ghost use Rattle.cmap_writer.specs.declared.obstacle.Obstacle.{Obstacle};
+ghost use Rattle.cmap_writer.specs.declared.obstacle.Obstacle.TheVariants.{TooLong};
 
 use crate::columns::Encoders;
 use crate::obstacle::Obstacle;
@@ -23,8 +26,13 @@ pub fn write_file(
     tables: &Encoders,
     file: &File<'_>,
 ) -> Result<Vec<u8>, Fault<Obstacle>>
-    ensures written { IfOk result (λ bytes. IsWritten (encoders_seen tables.now) (file_seen file.now) bytes.items) }
-    ensures err { IfErr result (RefusesWith (IsWriteObstacle (encoders_seen tables.now) (file_seen file.now))) }
+    ensures written { Outcome (λ bytes. IsEncodedFor (encoders_seen tables.now) (file_seen file.now) bytes.items
+        × IsWritten (encoders_seen tables.now) (file_seen file.now) bytes.items)
+        (IsWriteObstacle (encoders_seen tables.now) (file_seen file.now)) result }
+
+    // What is written has no obstacle; only where a symbol has two code words it may have another length.
+    ensures none { IfOk result (λ _. (obstacle : Obstacle) → IsWriteObstacle (encoders_seen tables.now) (file_seen file.now) obstacle
+        → (obstacle ≡ TooLong) × (HaveOneWordEach (encoders_seen tables.now) → ⊥)) }
 {
     let prepared = prepare(alloc, file)?;
     prepared.write(alloc, tables)

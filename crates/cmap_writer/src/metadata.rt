@@ -1,20 +1,13 @@
 //! Segments of what a file states about itself, and of the names that it uses.
 
-ghost use Rattle.std.specs.List.{sum_by};
-ghost use Rattle.std.specs.Prelude.{◌≡◌, ◌+◌, ◌<◌, ◌≤◌, ◌^◌, Any, IfErr, IfNone, IfOk, IfSome, IsSomeAnd, Some, length, map, option_map, pos};
+ghost use Rattle.std.specs.Prelude.{◌≡◌, ◌<◌, ◌^◌, ◌++◌, All, Any, IfErr, IfNone, IfOk, IfSome, IsSomeAnd, option_map, pos};
 ghost use Rattle.cmap_values.specs.NamesSeen.{names_seen};
-ghost use Rattle.cmap_values.specs.Metadata.{mode_numbered};
 ghost use Rattle.cmap_values.specs.MetadataSeen.{collection_seen, family_seen, metadata_seen, mode_seen};
 ghost use Rattle.cmap_values.specs.Names.{family_of, ordering_of, registry_of};
-ghost use Rattle.cmap_values.specs.Outcomes.{RefusesWith};
-ghost use Rattle.cmap_binary.specs.BinaryFiles as files;
-ghost use Rattle.cmap_binary.specs.BinaryFiles.{CollectionIn, sets_collection, sets_mode, sets_name};
-ghost use Rattle.cmap_packed.specs.Fronts.{TerminatedAt};
-ghost use Rattle.cmap_writer.specs.Failures.{IsTooLongIf};
-ghost use Rattle.cmap_writer.specs.MetadataWritten.{collection_len, from_option, metadata_contents, metadata_room, option_room};
+ghost use Rattle.cmap_values.specs.Outcomes.{Outcome, RefusesWith};
+ghost use Rattle.cmap_writer.specs.Fields.{CollectionFits, IsSayableCollection, IsUnterminated, MetadataFits, NameFits, collection_bytes, collection_payload, metadata_bytes, mode_bytes, mode_number, name_bytes, terminated_bytes, uses_bytes};
 ghost use Rattle.cmap_writer.specs.Obstacles.{HasWideSupplement, IsCollectionObstacle, IsFamilyObstacle, IsGivenCollectionObstacle, IsLongName, IsMetadataObstacle, IsTerminatedObstacle};
-ghost use Rattle.cmap_writer.specs.SegmentsWritten.{SegmentByAny};
-ghost use Rattle.cmap_writer.specs.Written.{Appends, Writes, WritesAll};
+ghost use Rattle.cmap_writer.specs.declared.obstacle.Obstacle.TheVariants.{TooLong};
 
 use crate::bytes::push_number;
 use crate::obstacle::Obstacle;
@@ -40,9 +33,8 @@ pub(crate) fn push_metadata(
     metadata: &Metadata,
     out: &mut Vec<u8>,
 ) -> Result<(), Fault<Obstacle>>
-    ensures written { IfOk result (λ _. Appends out.old.items out.new.items (WritesAll SegmentByAny (metadata_contents (metadata_seen metadata.now)))) }
-    ensures len { IfOk result (λ _. length out.new.items ≤ length out.old.items + metadata_room (metadata_seen metadata.now)) }
-    ensures err { IfErr result (RefusesWith (IsMetadataObstacle (metadata_seen metadata.now))) }
+    ensures { Outcome (λ _. MetadataFits (metadata_seen metadata.now) × (out.new.items ≡ out.old.items ++ metadata_bytes (metadata_seen metadata.now)))
+        (IsMetadataObstacle (metadata_seen metadata.now)) result }
 {
     push_collection(alloc, &metadata.character_collection, out)?;
     push_name(&metadata.name, out)?;
@@ -51,9 +43,8 @@ pub(crate) fn push_metadata(
 
 /// Writes segments for the names of the files that are used, in order.
 pub(crate) fn push_uses(names: &[&[u8]], out: &mut Vec<u8>) -> Result<(), Fault<Obstacle>>
-    ensures written { IfOk result (λ _. Appends out.old.items out.new.items (WritesAll SegmentByAny (map files.uses (names_seen names.now)))) }
-    ensures len { IfOk result (λ _. length out.new.items ≤ length out.old.items + sum_by (λ name. 5 + length name) (names_seen names.now)) }
-    ensures err { IfErr result (IsTooLongIf (Any IsLongName (names_seen names.now))) }
+    ensures { Outcome (λ _. All NameFits (names_seen names.now) × (out.new.items ≡ out.old.items ++ uses_bytes (names_seen names.now)))
+        (λ o. (o ≡ TooLong) × Any IsLongName (names_seen names.now)) result }
 {
     for name in names {
         push_segment(out, USES, *name)?;
@@ -63,10 +54,9 @@ pub(crate) fn push_uses(names: &[&[u8]], out: &mut Vec<u8>) -> Result<(), Fault<
 
 /// Writes a segment for a name.
 fn push_name(name: &Option<Vec<u8>>, out: &mut Vec<u8>) -> Result<(), Fault<Obstacle>>
-    ensures written { IfOk result (λ _. Appends out.old.items out.new.items
-        (WritesAll SegmentByAny (from_option (λ name. sets_name name.items) name.now))) }
-    ensures len { IfOk result (λ _. length out.new.items ≤ length out.old.items + option_room (λ name. 5 + length name.items) name.now) }
-    ensures err { IfErr result (IsTooLongIf (IsSomeAnd name.now (λ name. IsLongName name.items))) }
+    ensures { Outcome (λ _. IfSome (option_map (λ name. name.items) name.now) NameFits
+        × (out.new.items ≡ out.old.items ++ name_bytes (option_map (λ name. name.items) name.now)))
+        (λ o. (o ≡ TooLong) × IsSomeAnd (option_map (λ name. name.items) name.now) IsLongName) result }
 {
     match name {
         Some(name) => push_segment(out, NAME, name),
@@ -76,10 +66,7 @@ fn push_name(name: &Option<Vec<u8>>, out: &mut Vec<u8>) -> Result<(), Fault<Obst
 
 /// Writes a segment for a writing mode.
 fn push_mode(mode: Option<WritingMode>, out: &mut Vec<u8>) -> Result<(), Fault<Obstacle>>
-    ensures written { IfOk result (λ _. Appends out.old.items out.new.items
-        (WritesAll SegmentByAny (from_option (λ mode. sets_mode (Some (mode_seen mode))) mode))) }
-    ensures len { IfOk result (λ _. length out.new.items ≤ length out.old.items + 6) }
-    ensures err { IfErr result (IsTooLongIf ⊥) }
+    ensures { Outcome (λ _. out.new.items ≡ out.old.items ++ mode_bytes (option_map mode_seen mode)) (λ o. ⊥) result }
 {
     match mode {
         Some(mode) => push_segment(out, MODE, &[mode_number(mode)]),
@@ -89,7 +76,7 @@ fn push_mode(mode: Option<WritingMode>, out: &mut Vec<u8>) -> Result<(), Fault<O
 
 /// The number of a writing mode.
 fn mode_number(mode: WritingMode) -> u8
-    ensures { mode_numbered result ≡ Some (mode_seen mode) }
+    ensures { result ≡ mode_number (mode_seen mode) }
 {
     match mode {
         WritingMode::Horizontal => 0,
@@ -103,11 +90,9 @@ fn push_collection(
     collection: &Option<CharacterCollection>,
     out: &mut Vec<u8>,
 ) -> Result<(), Fault<Obstacle>>
-    ensures written { IfOk result (λ _. Appends out.old.items out.new.items
-        (WritesAll SegmentByAny (from_option (λ collection. sets_collection (collection_seen collection)) collection.now))) }
-    ensures len { IfOk result (λ _. length out.new.items ≤ length out.old.items
-        + option_room (λ collection. 5 + collection_len (collection_seen collection)) collection.now) }
-    ensures err { IfErr result (RefusesWith (IsGivenCollectionObstacle (option_map collection_seen collection.now))) }
+    ensures { Outcome (λ _. IfSome (option_map collection_seen collection.now) CollectionFits
+        × (out.new.items ≡ out.old.items ++ collection_bytes (option_map collection_seen collection.now)))
+        (IsGivenCollectionObstacle (option_map collection_seen collection.now)) result }
 {
     match collection {
         Some(collection) => {
@@ -123,9 +108,9 @@ fn collection_payload(
     alloc: Global,
     collection: &CharacterCollection,
 ) -> Result<Vec<u8>, Fault<Obstacle>>
-    ensures written { IfOk result (λ payload. CollectionIn payload.items (collection_seen collection.now)) }
-    ensures len { IfOk result (λ payload. length payload.items ≡ collection_len (collection_seen collection.now)) }
-    ensures err { IfErr result (RefusesWith (IsCollectionObstacle (collection_seen collection.now))) }
+    ensures { Outcome (λ payload. IsSayableCollection (collection_seen collection.now)
+        × (payload.items ≡ collection_payload (collection_seen collection.now)))
+        (IsCollectionObstacle (collection_seen collection.now)) result }
 {
     let family = &collection.family;
     check_family(alloc, family)?;
@@ -163,9 +148,8 @@ fn check_family(alloc: Global, family: &CidFamily) -> Result<(), Fault<Obstacle>
 
 /// Writes a text and the zero byte that ends it.
 fn push_terminated(out: &mut Vec<u8>, text: &[u8]) -> Result<(), Fault<Obstacle>>
-    ensures written { IfOk result (λ _. Appends out.old.items out.new.items (Writes TerminatedAt text.now)) }
-    ensures len { IfOk result (λ _. length out.new.items ≡ length out.old.items + length text.now + 1) }
-    ensures err { IfErr result (RefusesWith (IsTerminatedObstacle text.now)) }
+    ensures { Outcome (λ _. IsUnterminated text.now × (out.new.items ≡ out.old.items ++ terminated_bytes text.now))
+        (IsTerminatedObstacle text.now) result }
 {
     if text.contains(&0) {
         return Err(Fault::Refused(Obstacle::ZeroByte));

@@ -1,15 +1,12 @@
 //! Segments of notdef declarations.
 
-ghost use Rattle.std.specs.Prelude.{◌≡◌, ◌+◌, ◌*◌, ◌<◌, ◌≤◌, ◌^◌, IfErr, IfOk, length, map};
+ghost use Rattle.std.specs.Prelude.{◌≡◌, ◌+◌, ◌<◌, ◌^◌, ◌++◌, All, flat_map, length};
 ghost use Rattle.cmap_values.specs.CodeLengths.{length_of};
 ghost use Rattle.cmap_values.specs.DeclarationsSeen.{cid_entry_seen, entries_seen};
-ghost use Rattle.cmap_values.specs.Files.{Declaration};
-ghost use Rattle.cmap_values.specs.Outcomes.{RefusesWith};
-ghost use Rattle.cmap_binary.specs.BinaryFiles.{NotdefAt, NotdefsIn};
-ghost use Rattle.cmap_packed.specs.Fronts.{CodeAt};
+ghost use Rattle.cmap_values.specs.Outcomes.{Outcome};
+ghost use Rattle.cmap_writer.specs.Fields.{CodeFits, NotdefFits, notdef_bytes, notdefs_bytes, notdefs_payload};
 ghost use Rattle.cmap_writer.specs.Obstacles.{IsCodeObstacle, IsNotdefObstacle, IsNotdefsObstacle};
-ghost use Rattle.cmap_writer.specs.SegmentsWritten.{DeclareAll, SegmentByAny};
-ghost use Rattle.cmap_writer.specs.Written.{Appends, Writes, WritesAll};
+ghost use Rattle.cmap_writer.specs.Written.{bytes_of};
 
 use crate::bytes::push_number;
 use crate::decided::LARGEST_CID;
@@ -33,10 +30,9 @@ pub(crate) fn push_notdefs(
     entries: &[CidRange],
     out: &mut Vec<u8>,
 ) -> Result<(), Fault<Obstacle>>
-    ensures written { IfOk result (λ _. Appends out.old.items out.new.items
-        (DeclareAll SegmentByAny (map (Declaration.notdef (length_of len)) (entries_seen entries.now)))) }
-    ensures len { IfOk result (λ _. length out.new.items ≤ length out.old.items + 18 * length entries.now) }
-    ensures err { IfErr result (RefusesWith (IsNotdefsObstacle (length_of len) (entries_seen entries.now))) }
+    ensures { Outcome (λ _. All (NotdefFits (length_of len)) (entries_seen entries.now)
+        × (out.new.items ≡ out.old.items ++ notdefs_bytes (length_of len) (entries_seen entries.now)))
+        (IsNotdefsObstacle (length_of len) (entries_seen entries.now)) result }
 {
     let mut left = entries;
     while !left.is_empty() {
@@ -55,9 +51,9 @@ fn notdef_payload(
     entries: &[CidRange],
 ) -> Result<Vec<u8>, Fault<Obstacle>>
     requires { length entries.now < 2 ^ 16 }
-    ensures written { IfOk result (λ payload. NotdefsIn payload.items (length_of len, entries_seen entries.now)) }
-    ensures len { IfOk result (λ payload. length payload.items ≤ 3 + 10 * length entries.now) }
-    ensures err { IfErr result (RefusesWith (IsNotdefsObstacle (length_of len) (entries_seen entries.now))) }
+    ensures { Outcome (λ payload. All (NotdefFits (length_of len)) (entries_seen entries.now)
+        × (payload.items ≡ notdefs_payload (length_of len) (entries_seen entries.now)))
+        (IsNotdefsObstacle (length_of len) (entries_seen entries.now)) result }
 {
     let mut payload = Vec::new(alloc);
     payload.push(len.count())?;
@@ -72,9 +68,9 @@ fn push_entries(
     len: CodeLength,
     entries: &[CidRange],
 ) -> Result<(), Fault<Obstacle>>
-    ensures written { IfOk result (λ _. Appends out.old.items out.new.items (WritesAll (NotdefAt (length_of len)) (entries_seen entries.now))) }
-    ensures len { IfOk result (λ _. length out.new.items ≤ length out.old.items + 10 * length entries.now) }
-    ensures err { IfErr result (RefusesWith (IsNotdefsObstacle (length_of len) (entries_seen entries.now))) }
+    ensures { Outcome (λ _. All (NotdefFits (length_of len)) (entries_seen entries.now)
+        × (out.new.items ≡ out.old.items ++ flat_map (notdef_bytes (length_of len)) (entries_seen entries.now)))
+        (IsNotdefsObstacle (length_of len) (entries_seen entries.now)) result }
 {
     for entry in entries {
         push_notdef(out, len, entry)?;
@@ -84,9 +80,9 @@ fn push_entries(
 
 /// Writes a notdef declaration: start, end, and a CID of two bytes.
 fn push_notdef(out: &mut Vec<u8>, len: CodeLength, entry: &CidRange) -> Result<(), Fault<Obstacle>>
-    ensures written { IfOk result (λ _. Appends out.old.items out.new.items (Writes (NotdefAt (length_of len)) (cid_entry_seen entry.now))) }
-    ensures len { IfOk result (λ _. length out.new.items ≤ length out.old.items + 10) }
-    ensures err { IfErr result (RefusesWith (IsNotdefObstacle (length_of len) (cid_entry_seen entry.now))) }
+    ensures { Outcome (λ _. NotdefFits (length_of len) (cid_entry_seen entry.now)
+        × (out.new.items ≡ out.old.items ++ notdef_bytes (length_of len) (cid_entry_seen entry.now)))
+        (IsNotdefObstacle (length_of len) (cid_entry_seen entry.now)) result }
 {
     if entry.cid > LARGEST_CID {
         return Err(Fault::Refused(Obstacle::LargeCid(entry.range)));
@@ -103,9 +99,8 @@ pub(crate) fn push_code(
     len: CodeLength,
     code: u32,
 ) -> Result<(), Fault<Obstacle>>
-    ensures written { IfOk result (λ _. Appends out.old.items out.new.items (Writes (CodeAt (length_of len)) code)) }
-    ensures len { IfOk result (λ _. length out.new.items ≤ length out.old.items + 4) }
-    ensures err { IfErr result (RefusesWith (IsCodeObstacle (length_of len) code)) }
+    ensures { Outcome (λ _. CodeFits (length_of len) code × (out.new.items ≡ out.old.items ++ bytes_of (length_of len) code))
+        (IsCodeObstacle (length_of len) code) result }
 {
     if code > largest_code(len) {
         return Err(Fault::Refused(Obstacle::LargeCode(code)));
@@ -116,7 +111,7 @@ pub(crate) fn push_code(
 
 /// The largest code of this length.
 fn largest_code(len: CodeLength) -> u32
-    ensures { result + 1 ≡ 2 ^ (8 * length_of len) }
+    ensures { result + 1 ≡ 256 ^ length_of len }
 {
     match len {
         CodeLength::One => 0xFF,

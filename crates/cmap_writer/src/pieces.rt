@@ -3,9 +3,8 @@
 ghost use Rattle.std.specs.Prelude.{◌≡◌, ◌+◌, ◌<◌, ◌≤◌, ◌^◌, ◌∷◌, [], IfErr, IfOk, length};
 ghost use Rattle.cmap_packed.specs.Bundles.{PrefixTables};
 ghost use Rattle.cmap_binary.specs.BinaryFiles.{Content, IsSegment, SegmentAt};
-ghost use Rattle.cmap_packed.specs.Fronts.{FramedAt, SizedAt};
 ghost use Rattle.cmap_writer.specs.Failures.{IsTooLongIf};
-ghost use Rattle.cmap_writer.specs.Written.{Appends, Writes, IsFramed};
+ghost use Rattle.cmap_writer.specs.Written.{Appends, IsFramed, IsSized, Writes};
 
 use crate::bytes::push_number;
 use crate::obstacle::Obstacle;
@@ -16,7 +15,7 @@ const SIZE: usize = 4;
 
 /// Writes a piece after its length in four bytes.
 pub fn push_sized(out: &mut Vec<u8>, piece: &[u8]) -> Result<(), Fault<Obstacle>>
-    ensures written { IfOk result (λ _. Appends out.old.items out.new.items (Writes SizedAt piece.now)) }
+    ensures written { IfOk result (λ _. Appends out.old.items out.new.items (IsSized piece.now)) }
     ensures err { IfErr result (IsTooLongIf (2 ^ 32 ≤ length piece.now)) }
     ensures len { IfOk result (λ _. length out.new.items ≡ length out.old.items + 4 + length piece.now) }
 {

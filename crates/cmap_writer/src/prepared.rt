@@ -1,17 +1,18 @@
 //! A file before it is known how its numbers are spelled.
 
-ghost use Rattle.std.specs.Prelude.{◌+◌, ◌*◌, ◌≤◌, IfErr, IfOk, length};
+ghost use Rattle.std.specs.Prelude.{◌≡◌, ◌++◌, IfErr, IfOk};
 ghost use Rattle.cmap_values.specs.Files.{File as Said};
 ghost use Rattle.cmap_values.specs.FilesSeen.{file_seen};
-ghost use Rattle.cmap_values.specs.Outcomes.{RefusesWith};
-ghost use Rattle.cmap_writer.specs.Arranged.{AddsByLength, IsArranged};
+ghost use Rattle.cmap_values.specs.Outcomes.{Outcome, RefusesWith};
+ghost use Rattle.cmap_writer.specs.Arranged.{AddsByLength};
+ghost use Rattle.cmap_writer.specs.Encoded.{IsEncoded};
 ghost use Rattle.cmap_writer.specs.EncodersSeen.{encoders_seen};
-ghost use Rattle.cmap_writer.specs.Keeps.{IsWritten, notdefs_declared};
-ghost use Rattle.cmap_writer.specs.Obstacles.{IsCidListsObstacle, IsNotdefListsObstacle, IsObstacle, IsPreparedObstacle};
+ghost use Rattle.cmap_writer.specs.Fields.{NotdefsFit, notdef_lists_bytes};
+ghost use Rattle.cmap_writer.specs.Keeps.{IsWritten};
+ghost use Rattle.cmap_writer.specs.Obstacles.{IsCidListsObstacle, IsNotdefListsObstacle, IsObstacle, IsPreparedFor, IsPreparedObstacle};
 ghost use Rattle.cmap_values.specs.DeclarationsSeen.{by_length_seen};
 ghost use Rattle.cmap_writer.specs.PreparedFiles.{AddsCidLists, IsPrepared};
-ghost use Rattle.cmap_writer.specs.SegmentsWritten.{DeclareAll, SegmentByAny};
-ghost use Rattle.cmap_writer.specs.Written.{Appends, IsFramedFile};
+ghost use Rattle.cmap_writer.specs.Written.{IsFramedFile};
 
 use crate::cids::add_cid_list;
 use crate::codespaces::push_codespaces;
@@ -39,9 +40,7 @@ pub struct Prepared {
 
 /// What is to be written of a file. It is refused with what the binary form can't say.
 pub fn prepare(alloc: Global, file: &File<'_>) -> Result<Prepared, Fault<Obstacle>>
-    ensures made { IfOk result (λ prepared. IsPrepared (file_seen file.now) prepared) }
-    ensures arranged { IfOk result (λ prepared. IsArranged (file_seen file.now) prepared) }
-    ensures err { IfErr result (RefusesWith (IsObstacle (file_seen file.now))) }
+    ensures { Outcome (IsPreparedFor (file_seen file.now)) (IsObstacle (file_seen file.now)) result }
 {
     let mut fields = Vec::new(alloc);
     push_metadata(alloc, &file.metadata, &mut fields)?;
@@ -60,10 +59,9 @@ fn push_notdef_lists(
     lists: &ByLength<Vec<CidRange>>,
     out: &mut Vec<u8>,
 ) -> Result<(), Fault<Obstacle>>
-    ensures written { IfOk result (λ _. Appends out.old.items out.new.items (DeclareAll SegmentByAny (notdefs_declared lists.now))) }
-    ensures len { IfOk result (λ _. length out.new.items ≤ length out.old.items
-        + 18 * (length lists.now.one.items + (length lists.now.two.items + (length lists.now.three.items + length lists.now.four.items)))) }
-    ensures err { IfErr result (RefusesWith (IsNotdefListsObstacle (by_length_seen lists.now))) }
+    ensures { Outcome (λ _. NotdefsFit (by_length_seen lists.now)
+        × (out.new.items ≡ out.old.items ++ notdef_lists_bytes (by_length_seen lists.now)))
+        (IsNotdefListsObstacle (by_length_seen lists.now)) result }
 {
     push_notdefs(alloc, CodeLength::One, &lists.one, out)?;
     push_notdefs(alloc, CodeLength::Two, &lists.two, out)?;
@@ -90,6 +88,7 @@ fn add_cid_lists(
 impl Prepared {
     /// The file, with its numbers spelled by these tables.
     pub fn write(&self, alloc: Global, tables: &Encoders) -> Result<Vec<u8>, Fault<Obstacle>>
+        ensures encoded { IfOk result (λ bytes. IsEncoded (encoders_seen tables.now) self.now bytes.items) }
         ensures framed { IfOk result (λ bytes. IsFramedFile bytes.items) }
         ensures written { IfOk result (λ bytes. (file : Said) → IsPrepared file self.now
             → IsWritten (encoders_seen tables.now) file bytes.items) }

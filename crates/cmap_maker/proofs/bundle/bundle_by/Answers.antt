@@ -1,8 +1,9 @@
-use Rattle.std.proofs.Common.{length, ap, subst, arith}
+use Rattle.std.proofs.Common.{[], length, ap, subst, arith}
 use Rattle.cmap_values.proofs.Outcomes.{refuses_on}
 use Rattle.cmap_packed.specs.Fronts.{SizedAt}
 use Rattle.cmap_writer.specs.EncodersSeen.{encoders_seen}
-use Rattle.cmap_writer.specs.Written.{Appends, Writes}
+use Rattle.cmap_writer.specs.Written.{Appends, IsSized, Writes}
+use Rattle.cmap_writer.proofs.FrontsWritten.{sized_read}
 use Rattle.cmap_writer.proofs.ObstaclesMet.{never_long}
 use Rattle.cmap_maker.proofs.BundleObstacles.{by_slots}
 use Rattle.cmap_maker.proofs.BundlesWritten.{bundle_written}
@@ -12,7 +13,8 @@ pub returns-clause-written : goal.returns-clause-written
 returns-clause-written c =
     let text = c.in_ok-text.text.items in
     let mid = c.push_sized.new.out.items in
-    let sized = subst (λ old. Appends old mid (Writes SizedAt text)) c.new-bytes.ensures.items (subst (λ p. Appends c.new-bytes.result.items mid (Writes SizedAt p)) c.deref.ensures.value c.in_ok-push_sized.ensures.written) in
+    let (front, appended_front, is_sized) = subst (λ old. Appends old mid (IsSized text)) c.new-bytes.ensures.items (subst (λ p. Appends c.new-bytes.result.items mid (IsSized p)) c.deref.ensures.value c.in_ok-push_sized.ensures.written) in
+    let sized : Appends [] mid (Writes SizedAt text) = (front, appended_front, sized_read text front is_sized) in
     let (texts, appended, each) = c.in_ok-push_slots.ensures.written in
     bundle_written (encoders_seen c.args.tables.now) c.args.slots.now text mid c.push_slots.new.out.items c.in_ok-text.ensures.written sized texts appended each
 

@@ -2,7 +2,7 @@ use Rattle.std.proofs.Common.{◌≡◌, ◌∙◌, false, true, ap, subst, sym,
 use Rattle.std.specs.Prelude.{is_some}
 use Rattle.std.proofs.lemmas.List.{take_all}
 use Rattle.cmap_values.specs.CMapNames.{index_of_name}
-use Rattle.cmap_maker.specs.Unwritables.{AllHavePlaces}
+use Rattle.cmap_maker.specs.Slots.{AllHavePlaces}
 use Rattle.cmap_maker.specs.declared.source.Source.{Source}
 use Rattle.cmap_maker.proofs.BundleObstacles.{is_missing, placeless, places_more}
 use Rattle.cmap_maker.proofs.slots.check_names.Goals as goal

@@ -16,7 +16,7 @@ returns-in_ok-extend_from_slice-in-File-clause-written c =
     let text = c.in_ok-text-in-File.text.items in
     let old = c.args.out.now.items in
     let e = c.in_ok-text-in-File.ensures in
-    (text, c.in_ok-extend_from_slice-in-File.ensures.items ∙ ap (λ bs. old ++ bs) c.deref.ensures.value, subst (λ s. IsSlotWritten tables s text) (sym c.in-File.is) (e.framed, e.written))
+    (text, c.in_ok-extend_from_slice-in-File.ensures.items ∙ ap (λ bs. old ++ bs) c.deref.ensures.value, subst (λ s. IsSlotWritten tables s text) (sym c.in-File.is) (e.encoded, e.framed, e.written))
 
 pub returns-in-Text-clause-written : goal.returns-in-Text-clause-written
 returns-in-Text-clause-written c = subst (λ s. IfOk c.push_text.result (λ _. Appends c.args.out.now.items c.push_text.new.out.items (IsSlotWritten (encoders_seen c.args.tables.now) s))) (sym c.in-Text.is) c.push_text.ensures.written

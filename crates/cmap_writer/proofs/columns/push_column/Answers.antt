@@ -1,7 +1,6 @@
 use Rattle.std.proofs.Common.{length, ap, subst, arith}
 use Rattle.std.proofs.lemmas.Result.{IfOk-from_err}
-use Rattle.cmap_packed.specs.Fronts.{SizedAt}
-use Rattle.cmap_writer.specs.Written.{Appends, Writes}
+use Rattle.cmap_writer.specs.Written.{Appends, IsSized}
 use Rattle.cmap_writer.proofs.ObstaclesMet.{too_long}
 use Rattle.cmap_values.proofs.Outcomes.{memory_on}
 use Rattle.cmap_writer.proofs.columns.push_column.Goals as goal
@@ -10,7 +9,7 @@ pub returns-clause-written : goal.returns-clause-written
 returns-clause-written c =
     let text = c.in-Some.text.items in
     let made = rw c.in-Some.is at c.in_ok-text.ensures in
-    let (bytes, appended, sized) = subst (λ p. Appends c.args.out.now.items c.push_sized.new.out.items (Writes SizedAt p)) c.deref.ensures.value c.in_ok-push_sized.ensures.written in
+    let (bytes, appended, sized) = subst (λ p. Appends c.args.out.now.items c.push_sized.new.out.items (IsSized p)) c.deref.ensures.value c.in_ok-push_sized.ensures.written in
     (bytes, appended, (text, sized, made.0, made.2))
 
 pub returns-in_err-push_sized-clause-err : goal.returns-in_err-push_sized-clause-err

@@ -1,25 +1,18 @@
-use Rattle.std.proofs.Common.{◌≤◌, ◌+◌, length, [], ◌∷◌, Some, ap, refl, sym, subst, arith}
-use Rattle.std.proofs.lemmas.Result.{IfOk-weaker}
+use Rattle.std.proofs.Common.{◌≡◌, ◌++◌, ◌∷◌, [], ◌+◌, ◌≤◌, ◌^◌, ap, arith, length, subst, sym}
+use Rattle.std.specs.Prelude.{option_map}
 use Rattle.cmap_values.specs.MetadataSeen.{mode_seen}
-use Rattle.cmap_values.specs.declared.writing_mode.WritingMode.{WritingMode}
-use Rattle.cmap_binary.specs.BinaryFiles.{sets_mode}
-use Rattle.cmap_writer.specs.MetadataWritten.{from_option}
-use Rattle.cmap_writer.specs.SegmentsWritten.{SegmentByAny}
-use Rattle.cmap_writer.specs.Written.{Appends, WritesAll}
-use Rattle.cmap_writer.proofs.MetadataHeld.{by_any, one_of}
-use Rattle.cmap_writer.proofs.ObstaclesMet.{long_of}
+use Rattle.cmap_writer.specs.Fields.{mode_bytes, mode_number}
+use Rattle.cmap_writer.proofs.ObstaclesMet.{long_handed_on}
+use Rattle.cmap_writer.proofs.RowsAdded.{segment_added}
 use Rattle.cmap_writer.proofs.metadata.push_mode.Goals as goal
 
-pub returns-in-Some-clause-written : goal.returns-in-Some-clause-written
-returns-in-Some-clause-written c =
+pub returns-in-Some : goal.returns-in-Some
+returns-in-Some c =
     let old = c.args.out.now.items in
     let new = c.push_segment.new.out.items in
     let number = c.mode_number.result in
-    let content = sets_mode (Some (mode_seen c.in-Some.mode)) in
-    IfOk-weaker _ _ _ (λ _ written. subst (λ m. Appends old new (WritesAll SegmentByAny (from_option (λ (mode : WritingMode). sets_mode (Some (mode_seen mode))) m))) (sym c.in-Some.is) (one_of SegmentByAny content old new (by_any old new 11 (number ∷ []) content (λ tables. ((number, []), refl, ap sets_mode (sym c.mode_number.ensures))) written))) c.push_segment.ensures.written
-
-pub returns-in-Some-clause-err : goal.returns-in-Some-clause-err
-returns-in-Some-clause-err c = long_of _ ⊥ _ c.push_segment.ensures.err (λ long. omega (arith, long))
-
-pub returns-in-Some-clause-len : goal.returns-in-Some-clause-len
-returns-in-Some-clause-len c = IfOk-weaker _ _ (λ _. length c.push_segment.new.out.items ≤ length c.args.out.now.items + 6) (λ _ len. omega (arith, len)) c.push_segment.ensures.len
+    let is = ap (option_map mode_seen) c.in-Some.is in
+    let same = ap (λ n. n ∷ []) c.mode_number.ensures in
+    long_handed_on (2 ^ 32 ≤ 5 + length (number ∷ [])) _ c.push_segment.result c.push_segment.ensures.framed c.push_segment.ensures.err
+    (λ _ framed. subst (λ o. new ≡ old ++ mode_bytes o) (sym is) (segment_added old new 11 (number ∷ []) (mode_number (mode_seen c.in-Some.mode) ∷ []) same framed).1)
+    (λ long. omega (arith, long))

@@ -1,27 +1,17 @@
-use Rattle.std.proofs.Common.{ℕ, Option, Vec, Global, ◌+◌, ◌≤◌, length, ap, sym, subst, arith}
-use Rattle.std.proofs.lemmas.Result.{IfOk-weaker}
-use Rattle.std.specs.Prelude.{IsSomeAnd}
-use Rattle.cmap_binary.specs.BinaryFiles.{sets_name}
-use Rattle.cmap_writer.specs.MetadataWritten.{from_option, option_room}
+use Rattle.std.proofs.Common.{ℕ, Global, Vec, ◌≡◌, ◌++◌, ◌+◌, ◌≤◌, ◌^◌, ap, arith, length, refl, subst, sym}
+use Rattle.std.specs.Prelude.{IfSome, IsSomeAnd, option_map}
+use Rattle.cmap_writer.specs.Fields.{NameFits, name_bytes}
 use Rattle.cmap_writer.specs.Obstacles.{IsLongName}
-use Rattle.cmap_writer.specs.SegmentsWritten.{SegmentByAny}
-use Rattle.cmap_writer.specs.Written.{Appends, WritesAll}
-use Rattle.cmap_writer.proofs.MetadataHeld.{by_any, one_of}
-use Rattle.cmap_writer.proofs.ObstaclesMet.{long_of}
+use Rattle.cmap_writer.proofs.ObstaclesMet.{long_handed_on}
+use Rattle.cmap_writer.proofs.RowsAdded.{segment_added}
 use Rattle.cmap_writer.proofs.metadata.push_name.Goals as goal
 
-pub returns-in-Some-clause-written : goal.returns-in-Some-clause-written
-returns-in-Some-clause-written c =
+pub returns-in-Some : goal.returns-in-Some
+returns-in-Some c =
     let old = c.args.out.now.items in
     let new = c.push_segment.new.out.items in
-    let name = c.in-Some.name in
-    let content = sets_name name.items in
-    IfOk-weaker _ _ _ (λ _ written. subst (λ n. Appends old new (WritesAll SegmentByAny (from_option (λ (name : Vec ℕ Global). sets_name name.items) n))) (sym c.in-Some.is) (one_of SegmentByAny content old new (by_any old new 13 c.deref.result.now content (λ tables. sym (ap sets_name c.deref.ensures.value)) written))) c.push_segment.ensures.written
-
-pub returns-in-Some-clause-err : goal.returns-in-Some-clause-err
-returns-in-Some-clause-err c = long_of _ _ _ c.push_segment.ensures.err (λ long. subst (λ o. IsSomeAnd o (λ (name : Vec ℕ Global). IsLongName name.items)) (sym c.in-Some.is) (subst IsLongName c.deref.ensures.value long))
-
-pub returns-in-Some-clause-len : goal.returns-in-Some-clause-len
-returns-in-Some-clause-len c =
-    let room : Option (Vec ℕ Global) → ℕ = option_room (λ (name : Vec ℕ Global). 5 + length name.items) in
-    IfOk-weaker _ _ (λ _. length c.push_segment.new.out.items ≤ length c.args.out.now.items + room c.args.name.now) (λ _ len. omega (arith, len, ap length c.deref.ensures.value, ap room c.in-Some.is)) c.push_segment.ensures.len
+    let is = ap (option_map (λ (name : Vec ℕ Global). name.items)) c.in-Some.is in
+    let name = c.in-Some.name.items in
+    long_handed_on (2 ^ 32 ≤ 5 + length c.deref.result.now) _ c.push_segment.result c.push_segment.ensures.framed c.push_segment.ensures.err
+    (λ _ framed. subst (λ o. IfSome o NameFits × (new ≡ old ++ name_bytes o)) (sym is) (segment_added old new 13 c.deref.result.now name c.deref.ensures.value framed))
+    (λ long. (refl, subst (λ o. IsSomeAnd o IsLongName) (sym is) (omega (arith, long, ap length c.deref.ensures.value))))

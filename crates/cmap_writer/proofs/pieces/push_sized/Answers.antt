@@ -1,5 +1,5 @@
-use Rattle.std.proofs.Common.{ℕ, length, refl, ap, arith}
-use Rattle.std.proofs.lemmas.List.{length-append}
+use Rattle.std.proofs.Common.{ℕ, ◌<◌, ◌^◌, length, refl, ap, subst, arith}
+use Rattle.std.proofs.lemmas.List.{get_or_default, length-append}
 use Rattle.std.proofs.lemmas.Result.{IfOk-from_err}
 use Rattle.cmap_writer.proofs.BytesWritten.{length-bytes_of}
 use Rattle.cmap_writer.proofs.FrontsWritten.{sized_written}
@@ -7,7 +7,7 @@ use Rattle.cmap_writer.proofs.ObstaclesMet.{memory_long}
 use Rattle.cmap_writer.proofs.pieces.push_sized.Goals as goal
 
 pub returns-clause-written : goal.returns-clause-written
-returns-clause-written c = sized_written c.args.out.now.items c.push_number.new.out.items c.extend_from_slice.new.self.items c.args.piece.now _ c.in_ok-push_number.ensures c.in_ok-extend_from_slice.ensures.items refl (omega arith)
+returns-clause-written c = sized_written c.args.out.now.items c.push_number.new.out.items c.extend_from_slice.new.self.items c.args.piece.now _ c.in_ok-push_number.ensures c.in_ok-extend_from_slice.ensures.items refl (omega arith) (λ k d within. subst (λ b. b < 2 ^ 8) (get_or_default c.args.piece.now k 0 d within) (omega (arith, c.type_inv.piece k)))
 
 pub returns-clause-len : goal.returns-clause-len
 returns-clause-len c = omega (arith, ap length c.in_ok-extend_from_slice.ensures.items, ap length c.in_ok-push_number.ensures, length-append {A = ℕ}, length-bytes_of 4 (length c.args.piece.now))

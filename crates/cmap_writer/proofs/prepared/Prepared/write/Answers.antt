@@ -1,4 +1,4 @@
-use Rattle.std.proofs.Common.{◌∙◌, ◌≡◌, ◌+◌, inr, length, ap, subst, arith}
+use Rattle.std.proofs.Common.{◌∙◌, ◌≡◌, ◌+◌, ◌++◌, inr, length, ap, subst, sym, arith}
 use Rattle.std.proofs.lemmas.List.{length-append}
 use Rattle.std.proofs.lemmas.Result.{IfOk-from_err}
 use Rattle.cmap_writer.specs.EncodersSeen.{encoders_seen}
@@ -11,6 +11,29 @@ use Rattle.cmap_writer.proofs.ObstaclesMet.{by_segments, too_long}
 use Rattle.cmap_writer.proofs.PreparedKept.{file_framed, file_written}
 use Rattle.cmap_writer.proofs.SegmentsAdded.{WrittenWhere}
 use Rattle.cmap_writer.proofs.prepared.Prepared.write.Goals as goal
+
+pub returns-clause-encoded : goal.returns-clause-encoded
+returns-clause-encoded c =
+    let tables = encoders_seen c.args.tables.now in
+    let prepared = c.args.self.now in
+    let (segments, is, are) = c.in_ok-push_segments.ensures.bytes in
+    let body : c.push_segments.new.out.items ≡ prepared.fields.items ++ segments = is ∙ ap (λ bs. bs ++ segments) (c.in_ok-body.ensures.items ∙ c.deref.ensures.value) in
+    let bytes = c.push_framed.new.out.items in
+    let (framed, appended, frame) = subst (λ old. Appends old bytes (IsFramed head c.deref-3.result.now)) c.new-bytes.ensures.items c.in_ok-push_framed.ensures.written in
+    record {
+      segments = segments;
+      are = subst (λ ss. AreSegmentBytes tables ss segments) c.deref-2.ensures.value are;
+      framed = subst (IsFramed head (prepared.fields.items ++ segments)) (sym appended) (subst (λ p. IsFramed head p framed) (c.deref-3.ensures.value ∙ body) frame);
+    }
+
+pub returns-in_err-body-clause-encoded : goal.returns-in_err-body-clause-encoded
+returns-in_err-body-clause-encoded c = IfOk-from_err _ _ c.from_residual.ensures.0
+
+pub returns-in_err-push_segments-clause-encoded : goal.returns-in_err-push_segments-clause-encoded
+returns-in_err-push_segments-clause-encoded c = IfOk-from_err _ _ c.from_residual-in_err-push_segments.ensures.0
+
+pub returns-in_err-push_framed-clause-encoded : goal.returns-in_err-push_framed-clause-encoded
+returns-in_err-push_framed-clause-encoded c = IfOk-from_err _ _ c.from_residual-in_err-push_framed.ensures.0
 
 pub returns-clause-framed : goal.returns-clause-framed
 returns-clause-framed c =

@@ -28,7 +28,7 @@ returns c =
     let bytes = c.in_ok-finish.field-0.items in (
       subst (BeginWithWordsOf c.args.self.now symbols) (sym begun) (BeginWithWordsOf-spelled c.args.self.now symbols c.loop-symbol.written rest all),
       omega (arith, c.loop-symbol.invariant.1, few, length-bits bytes, ap length begun, length-append c.loop-symbol.written rest),
-      (c.loop-symbol.written, rest, all, begun, few),
+      record { stream = c.loop-symbol.written; rest = rest; spelled = all; bits_are = begun; few = few; zeros = zeros },
     )
 
 pub returns-in_default : goal.returns-in_default
