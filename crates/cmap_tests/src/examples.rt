@@ -8,7 +8,7 @@ use hayro_cmap::bcmap::Bundle;
 use hayro_cmap::runs::{Looks, Table};
 use hayro_cmap::token::{Scanner, Token};
 use hayro_cmap::{
-    BfString, CMap, CMapName, CharacterCollection, Cid, CidRange, CodeLength, Fault, load_embedded,
+    CMap, CMapName, CharacterCollection, Cid, CidRange, CodeLength, Fault, load_embedded,
 };
 use std::alloc::{AllocError, Global};
 
@@ -70,21 +70,13 @@ pub fn count_of_texts(map: &CMap) -> usize {
     }
 }
 
-/// The text of a string of a font; `None` where one of its codes has none.
+/// The text of a string of a font, with U+FFFD for each code that has none.
 pub fn text_of_string(
     alloc: Global,
     font: &Extractor<'_>,
     string: &[u8],
-) -> Result<Option<String>, AllocError> {
-    let mut whole = String::new(alloc);
-    for character in font.characters(alloc, string)? {
-        match character.text {
-            Some(BfString::Char(one)) => whole.push(one)?,
-            Some(BfString::String(more)) => whole.push_str(more.as_str())?,
-            None => return Ok(None),
-        }
-    }
-    Ok(Some(whole))
+) -> Result<String, AllocError> {
+    font.text(alloc, string, "\u{FFFD}")
 }
 
 /// Whether two maps give the same CIDs to codes of two bytes.
