@@ -6,3 +6,4 @@ pub mod FirstCodes
 pub mod Lookup
 pub mod WaysFound
 pub mod WaysFollowed
+pub mod FrontsShown

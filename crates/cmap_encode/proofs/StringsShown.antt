@@ -27,7 +27,7 @@ module _ (font : Font) where
       (next (bytes ++ string) (code_of font.encoding bytes) is.its after (is_next font.encoding bytes string is.whole) refl is.is_text
       (subst (λ rest. Shows font rest after) (sym (drop_at bytes string (length bytes) refl)) shows))
 
-  code_of_front : (string : List ℕ) (code : StringCode) (its : Text) → IsNextCode font.encoding string code → IsTrue code.in_codespace → IsTextOf font code.code code.byte_len (Some its) → IsCodeOf font (characters_of its) (take code.byte_len string)
+  pub code_of_front : (string : List ℕ) (code : StringCode) (its : Text) → IsNextCode font.encoding string code → IsTrue code.in_codespace → IsTextOf font code.code code.byte_len (Some its) → IsCodeOf font (characters_of its) (take code.byte_len string)
   code_of_front string code its is inside is_text =
       let (whole, within, some) = front_whole font.encoding string code is inside in
       let count : length (take code.byte_len string) ≡ code.byte_len = length-take-le code.byte_len string within in

@@ -1,5 +1,6 @@
 -- The strings of a font that show a text, and the first of them.
-use Rattle.std.specs.Prelude.{◌≡◌, ℕ, ◌<◌, ◌⊎◌, IsTrue, List, [], ◌∷◌, ◌++◌, length, drop, All, Some}
+use Rattle.std.specs.Prelude.{◌≡◌, ℕ, ◌<◌, ◌≤◌, ◌⊎◌, IsTrue, List, [], ◌∷◌, ◌++◌, length, drop, take, flat_map, All, Some}
+use Rattle.std.specs.Char.{encode_utf8}
 use Rattle.cmap_tokens.specs.Texts.{Text}
 use Rattle.cmap_layers.specs.StringCodes.{IsNextCode}
 use Rattle.cmap_layers.specs.declared.string_codes.StringCode.{StringCode}
@@ -36,3 +37,20 @@ pub record IsEncodingOf (font : Font) (text string : List ℕ) : Type 0 where
 -- no string shows the text
 abbrev pub HasNoEncoding : Font → List ℕ → Type 0
 HasNoEncoding font text = (string : List ℕ) → IsString string → Shows font string text → ⊥
+
+-- some string shows the text
+abbrev pub HasEncoding : Font → List ℕ → Type 0
+HasEncoding font text = (string : List ℕ) × IsString string × Shows font string text
+
+-- of the fronts of the text that strings show, the longest has so many characters
+pub record IsLongestShown (font : Font) (text : List ℕ) (count : ℕ) : Type 0 where
+  pub within : count ≤ length text
+  pub shown : HasEncoding font (take count text)
+  pub longest : (more : ℕ) → count < more → more ≤ length text → HasEncoding font (take more text) → ⊥
+
+-- no string shows the text; the longest front that strings show ends at this offset, in bytes of UTF-8
+pub record IsStuckAt (font : Font) (text : List ℕ) (offset : ℕ) : Type 0 where
+  pub none : HasNoEncoding font text
+  pub count : ℕ
+  pub longest : IsLongestShown font text count
+  pub is_offset : offset ≡ length (flat_map encode_utf8 (take count text))

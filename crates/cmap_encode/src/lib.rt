@@ -3,7 +3,8 @@
 
 mod code;
 mod encoder;
+mod fronts;
 mod index;
 mod ways;
 
-pub use encoder::Encoder;
+pub use encoder::{Encoder, Unencodable};

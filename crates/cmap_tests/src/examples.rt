@@ -1,6 +1,7 @@
 //! Callers that the crates' pages show.
 
 use cmap_diff::first_cid_difference;
+use cmap_encode::{Encoder, Unencodable};
 use cmap_maker::{Source, make_named_bundle};
 use cmap_unicode::Extractor;
 use cmap_values::file::File;
@@ -77,6 +78,15 @@ pub fn text_of_string(
     string: &[u8],
 ) -> Result<String, AllocError> {
     font.text(alloc, string, "\u{FFFD}")
+}
+
+/// The string of a font that shows a text.
+pub fn string_of_text(
+    alloc: Global,
+    font: &Extractor<'_>,
+    text: &str,
+) -> Result<Vec<u8>, Fault<Unencodable>> {
+    Encoder::build(alloc, font)?.encode(alloc, text)
 }
 
 /// Whether two maps give the same CIDs to codes of two bytes.
