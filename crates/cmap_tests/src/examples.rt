@@ -1,6 +1,7 @@
 //! Callers that the crates' pages show.
 
 use cmap_diff::first_cid_difference;
+use cmap_encode::{Encoder, Unencodable};
 use cmap_maker::{Source, make_named_bundle};
 use cmap_unicode::Extractor;
 use cmap_values::file::File;
@@ -8,7 +9,7 @@ use hayro_cmap::bcmap::Bundle;
 use hayro_cmap::runs::{Looks, Table};
 use hayro_cmap::token::{Scanner, Token};
 use hayro_cmap::{
-    BfString, CMap, CMapName, CharacterCollection, Cid, CidRange, CodeLength, Fault, load_embedded,
+    CMap, CMapName, CharacterCollection, Cid, CidRange, CodeLength, Fault, load_embedded,
 };
 use std::alloc::{AllocError, Global};
 
@@ -70,21 +71,22 @@ pub fn count_of_texts(map: &CMap) -> usize {
     }
 }
 
-/// The text of a string of a font; `None` where one of its codes has none.
+/// The text of a string of a font, with U+FFFD for each code that has none.
 pub fn text_of_string(
     alloc: Global,
     font: &Extractor<'_>,
     string: &[u8],
-) -> Result<Option<String>, AllocError> {
-    let mut whole = String::new(alloc);
-    for character in font.characters(alloc, string)? {
-        match character.text {
-            Some(BfString::Char(one)) => whole.push(one)?,
-            Some(BfString::String(more)) => whole.push_str(more.as_str())?,
-            None => return Ok(None),
-        }
-    }
-    Ok(Some(whole))
+) -> Result<String, AllocError> {
+    font.text(alloc, string, "\u{FFFD}")
+}
+
+/// The string of a font that shows a text.
+pub fn string_of_text(
+    alloc: Global,
+    font: &Extractor<'_>,
+    text: &str,
+) -> Result<Vec<u8>, Fault<Unencodable>> {
+    Encoder::build(alloc, font)?.encode(alloc, text)
 }
 
 /// Whether two maps give the same CIDs to codes of two bytes.

@@ -1,6 +1,7 @@
 //! What rows of data can't show: the callers that the pages show, and tests of the order of calls, of
 //! names by their variants, of a call over a closure, of codes in a row, of the differences of two maps,
-//! of a table of many ranges, of files that are read past their faults, and of the texts of strings.
+//! of a table of many ranges, of files that are read past their faults, of the texts of strings, and of
+//! strings that show texts.
 #![tactic(auto)]
 
 #[cfg(test)]
@@ -13,6 +14,8 @@ mod caller;
 mod codes_in_a_row;
 #[cfg(test)]
 mod differences;
+#[cfg(test)]
+mod encoding;
 #[cfg(test)]
 mod examples;
 #[cfg(test)]

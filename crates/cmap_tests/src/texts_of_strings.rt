@@ -2,7 +2,7 @@
 
 use crate::examples::text_of_string;
 use crate::maps::map_over;
-use cmap_unicode::{Extractor, ucs2_name};
+use cmap_unicode::{Extractor, simple_encoding, ucs2_name};
 use hayro_cmap::{BfString, Cid, CidFamily};
 use std::alloc::{AllocError, Global};
 use std::test::Fail;
@@ -27,10 +27,7 @@ fn has_text(
     string: &[u8],
     text: &str,
 ) -> Result<bool, AllocError> {
-    match text_of_string(alloc, font, string)? {
-        Some(found) => Ok(found.as_str() == text),
-        None => Ok(false),
-    }
+    Ok(text_of_string(alloc, font, string)?.as_str() == text)
 }
 
 /// Whether a string begins with a code that has this CID, and this text of one character.
@@ -61,6 +58,20 @@ fn a_text_is_that_of_the_code_or_else_of_the_cid(rt: HostRuntime) {
     };
     let expected = "ff\u{65E6}\u{65E7}\u{25A1}";
     let is_right = has_text(alloc, &font, b"\x20\x21\x22\x30", expected);
+    assert!(rt; matches!(is_right, Ok(true)));
+}
+
+#[test]
+fn the_bytes_of_a_simple_font_are_codes(rt: HostRuntime) {
+    let alloc = rt.alloc();
+    let encoding = simple_encoding(alloc).expect(&rt, "out of memory");
+    let to_unicode = map_over(alloc, TO_UNICODE, &[]).expect(&rt, "refused");
+    let font = Extractor {
+        encoding: &encoding,
+        to_unicode: Some(to_unicode.layers()),
+        collection: None,
+    };
+    let is_right = has_text(alloc, &font, b"\x20\x21\xFF\x20", "ff\u{FFFD}\u{FFFD}ff");
     assert!(rt; matches!(is_right, Ok(true)));
 }
 

@@ -1,2 +1,5 @@
 pub mod CharactersInRow
 pub mod OneText
+pub mod TextsCounted
+pub mod RowsOfTexts
+pub mod StretchesDeclared

@@ -1,6 +1,6 @@
 -- A code has one text.
-use Rattle.std.proofs.Common.{◌≡◌, ℕ, List, [], ◌∷◌, length, Option, Some, None, Result, Ok, Err, refl, sym, ap, ◌∙◌, arith}
-use Rattle.std.specs.Prelude.{◌<◌, IsSomeAnd, OnErr, option_and_then, option_map}
+use Rattle.std.proofs.Common.{◌≡◌, ℕ, List, [], ◌∷◌, ◌++◌, length, Option, Some, None, Result, Ok, Err, refl, sym, ap, ◌∙◌, arith}
+use Rattle.std.specs.Prelude.{◌<◌, IsSomeAnd, OnErr, OnOk, if◌then◌else◌, is_ok, option_and_then, option_map}
 use Rattle.std.specs.Option.{option_or}
 use Rattle.std.proofs.lemmas.Option.{none-some, same_Some}
 use Rattle.cmap_tokens.specs.Texts.{Text, more, text_of_characters}
@@ -51,3 +51,8 @@ long_text None long = absurd long
 long_text (Some []) long = absurd (omega (arith, long))
 long_text (Some (c ∷ [])) long = absurd (omega (arith, long))
 long_text (Some (c ∷ d ∷ characters)) long = (c ∷ d ∷ characters, refl)
+
+-- bytes are added, if that doesn't fail
+pub added : {T E : Type 0} (r : Result T E) (old now bytes others : List ℕ) → now ≡ (if is_ok r then old ++ bytes else old) → bytes ≡ others → OnOk r (now ≡ old ++ others)
+added (Ok x) old now bytes others is same = is ∙ ap (λ l. old ++ l) same
+added (Err e) old now bytes others is same = tt

@@ -1,6 +1,7 @@
 -- The codes of a string with their CIDs and their texts, by the CMaps of a font.
-use Rattle.std.specs.Prelude.{◌≡◌, ℕ, List, [], ◌∷◌, drop, option_map}
+use Rattle.std.specs.Prelude.{◌≡◌, ℕ, List, [], ◌∷◌, drop, encode_utf8_all, flat_map, option_map, unwrap_or}
 use Rattle.std.specs.Option.{option_copied}
+use Rattle.cmap_tokens.specs.Texts.{Text, more, one}
 use Rattle.cmap_tokens.specs.TextSeen.{text_seen}
 use Rattle.cmap_values.specs.Only.{IsOnly}
 use Rattle.cmap_layers.specs.StringCodes.{IsNextCode}
@@ -34,3 +35,16 @@ pub record BeginsWithLongText (font : Font) (string : List ℕ) : Type 0 where
 abbrev pub AreCharactersOf : Font → List ℕ → List Character → Type 0
 AreCharactersOf font string [] = string ≡ []
 AreCharactersOf font string (character ∷ characters) = IsNextCharacter font string character × AreCharactersOf font (drop character.code.byte_len string) characters
+
+-- the characters of a text
+abbrev pub characters_of : Text → List ℕ
+characters_of (one c) = c ∷ []
+characters_of (more cs) = cs
+
+-- in UTF-8, the text of a code, or another where it has none
+abbrev pub shown : List ℕ → Character → List ℕ
+shown missing character = unwrap_or (option_map (λ text. encode_utf8_all (characters_of (text_seen text))) character.text) missing
+
+-- in UTF-8, the texts of all codes of a string, one after another
+abbrev pub IsTextOfString : Font → List ℕ → List ℕ → List ℕ → Type 0
+IsTextOfString font string missing text = (characters : List Character) × AreCharactersOf font string characters × (text ≡ flat_map (shown missing) characters)

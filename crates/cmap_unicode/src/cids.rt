@@ -1,17 +1,23 @@
 //! The CIDs that a map declares, without the texts.
 
-ghost use Rattle.std.specs.Prelude.{◌≡◌, ◌≤◌, map, option_map, IfSome};
+ghost use Rattle.std.specs.Prelude.{◌≡◌, ◌-◌, ◌≤◌, Some, map, option_map, IfSome};
 ghost use Rattle.std.specs.Option.{option_copied};
 ghost use Rattle.cmap_values.specs.CodeLengths.{length_of};
-ghost use Rattle.cmap_values.specs.DeclarationsSeen.{cid_entry_seen, entries_seen};
+ghost use Rattle.cmap_values.specs.DeclarationsSeen.{cid_entry_seen, cid_range_span, entries_seen};
+ghost use Rattle.cmap_values.specs.declared.declarations.CidRange.{CidRange as Declared};
+ghost use Rattle.cmap_layers.specs.declared.stretches.Cids.TheVariants.{Same};
+ghost use Rattle.cmap_runs.specs.Stretches.{IsStretch};
+ghost use Rattle.cmap_layers.specs.CodeStretches.{Decides};
 ghost use Rattle.cmap_layers.specs.LayersSeen.{layer_seen};
-ghost use Rattle.cmap_layers.specs.Lookups.{last_cid};
+ghost use Rattle.cmap_layers.specs.Lookups.{cid_at, last_cid};
 ghost use Rattle.cmap_unicode.specs.Cids.{declared_cid};
 ghost use Rattle.cmap_unicode.specs.LayersTried.{declared_in};
+ghost use Rattle.cmap_unicode.specs.TextRows.{AreDeclaredCids};
 
 use cmap_layers::layer::Layer;
 use cmap_layers::layers::Layers;
-use cmap_runs::runs::{Looks, Table};
+use cmap_layers::stretches::{CidStretch, Cids};
+use cmap_runs::runs::{Looks, Stretch, Table};
 use cmap_values::code_length::CodeLength;
 use cmap_values::declarations::CidRange;
 use cmap_values::names::Cid;
@@ -52,4 +58,91 @@ fn find_cid(cids: &Table<CidRange>, code: u32) -> Option<&CidRange>
     ensures start { IfSome result (λ found. found.now.range.start ≤ code) }
 {
     cids.find(code, &mut Looks::new())
+}
+
+/// Codes in a row, and what a layer declares for each of them, if it does.
+#[derive(Clone, Copy)]
+struct LayerStretch {
+    cids: Option<Cids>,
+    last: u32,
+}
+
+/// The CIDs that a map declares for codes of this length from `first` on, as `declared_cid` gives them. The
+/// stretch ends where another declaration decides, or with the last CID. A caller who goes on with the code
+/// after the last one has the CIDs of all codes.
+pub fn declared_stretch(map: &Layers, first: u32, len: CodeLength) -> CidStretch
+    ensures { AreDeclaredCids map.now (length_of len) first result }
+{
+    let layers = map.as_slice();
+    let mut last = u32::MAX;
+    for layer in layers {
+        let stretch = stretch_in(layer, first, len);
+        last = last.min(stretch.last);
+        if let Some(cids) = stretch.cids {
+            return CidStretch { cids, last };
+        }
+    }
+    CidStretch {
+        cids: Cids::Absent,
+        last,
+    }
+}
+
+/// What a layer declares for codes from `first` on.
+fn stretch_in(layer: &Layer, first: u32, len: CodeLength) -> LayerStretch
+    ensures within { first ≤ result.last }
+    ensures cids { Decides (λ code. declared_in (layer_seen layer.now) code (length_of len))
+        first result.last result.cids }
+{
+    let cids = stretch_of(layer.cids(len), first);
+    if let Some(declaration) = cids.declaration {
+        return declared_cids(declaration, first, cids.last);
+    }
+    let notdefs = stretch_of(layer.notdefs(len), first);
+    LayerStretch {
+        cids: notdef_cids(notdefs.declaration),
+        last: cids.last.min(notdefs.last),
+    }
+}
+
+/// The CIDs of a notdef declaration, if there is one.
+fn notdef_cids(declaration: Option<&CidRange>) -> Option<Cids>
+    ensures { result ≡ option_map (λ (d : Declared). Same d.cid) (option_copied declaration.entry) }
+{
+    Some(Cids::Same(declaration?.cid))
+}
+
+/// The codes of a table from `first` on.
+fn stretch_of(table: &Table<CidRange>, first: u32) -> Stretch<'_, CidRange>
+    ensures within { first ≤ result.last }
+    ensures same { IsStretch cid_range_span table.now first result.last (option_copied result.declaration) }
+    ensures start { IfSome result.declaration
+        (λ declaration. declaration.now.range.start ≤ first) }
+{
+    let mut looks = Looks::new();
+    match table.stretches(first, &mut looks).next(&mut looks) {
+        Some(stretch) => stretch,
+        None => unreachable!(),
+    }
+}
+
+/// The CIDs that a declaration gives to codes from `first` to `last`, which it contains, up to where
+/// they pass 32 bits.
+fn declared_cids(declaration: &CidRange, first: u32, last: u32) -> LayerStretch
+    requires start { declaration.now.range.start ≤ first }
+    requires last { first ≤ last }
+    ensures within { (first ≤ result.last) × (result.last ≤ last) }
+    ensures cids { Decides (λ code. Some (cid_at (cid_entry_seen declaration.now) code))
+        first result.last result.cids }
+{
+    match declaration.cid.checked_add(first - declaration.range.start) {
+        Some(cid) => LayerStretch {
+            cids: Some(Cids::CountOn(cid)),
+            last: first + (last - first).min(u32::MAX - cid),
+        },
+        None => LayerStretch {
+            cids: Some(Cids::Absent),
+            last,
+        },
+    }
 }

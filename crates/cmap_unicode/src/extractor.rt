@@ -1,11 +1,12 @@
 //! The codes of a string, each with its CID and its text.
 
-ghost use Rattle.std.specs.Prelude.{◌≡◌, ◌≤◌, ℕ, List, [], Some, IfOk, IfSome, MatchOption, OnErr, length, option_map};
+ghost use Rattle.std.specs.Prelude.{◌≡◌, ◌≤◌, ℕ, List, [], ◌++◌, Some, IfOk, IfSome, MatchOption, OnErr, OnOk, encode_utf8_all, length, option_map};
 ghost use Rattle.std.specs.Option.{option_copied};
+ghost use Rattle.std.specs.String.{string_bytes};
 ghost use Rattle.cmap_tokens.specs.Texts.{more};
 ghost use Rattle.cmap_tokens.specs.TextSeen.{text_seen};
 ghost use Rattle.cmap_values.specs.CodeLengths.{IsCodeLength};
-ghost use Rattle.cmap_unicode.specs.Characters.{AreCharactersOf, BeginsWithLongText, IsCharacterOf, IsNextCharacter, font_of};
+ghost use Rattle.cmap_unicode.specs.Characters.{AreCharactersOf, BeginsWithLongText, IsCharacterOf, IsNextCharacter, IsTextOfString, characters_of, font_of, shown};
 ghost use Rattle.cmap_unicode.specs.TextsOfCodes.{HasLongText, text_in, text_of};
 
 use crate::cids::declared_cid;
@@ -72,6 +73,22 @@ impl Extractor<'_> {
         Ok(characters)
     }
 
+    /// The text of a whole string: the texts of its codes, as `next` gives them, one after another, and
+    /// `missing` for each code that has none.
+    ///
+    /// It fails only if memory runs out.
+    pub fn text(&self, alloc: Global, string: &[u8], missing: &str) -> Result<String, AllocError>
+        ensures { IfOk result (λ text.
+            IsTextOfString (font_of self.now) string.now missing.now (string_bytes text)) }
+    {
+        let characters = self.characters(alloc, string)?;
+        let mut text = String::new(alloc);
+        for character in &characters {
+            push_text(&mut text, character, missing)?;
+        }
+        Ok(text)
+    }
+
     /// A code with its CID and its text.
     ///
     /// The CID is the one that the font's CMap declares, as `declared_cid` gives it. The text is that
@@ -107,6 +124,28 @@ impl Extractor<'_> {
             Some(cid) => text_in(alloc, self.collection, cid),
             None => Ok(None),
         }
+    }
+}
+
+/// Adds the text of a code, or another where it has none.
+fn push_text(text: &mut String, character: &Character, missing: &str) -> Result<(), AllocError>
+    ensures { OnOk result (string_bytes text.new
+        ≡ string_bytes text.old ++ shown missing.now character.now) }
+{
+    match &character.text {
+        Some(more) => push_characters(text, more),
+        None => text.push_str(missing),
+    }
+}
+
+/// Adds the characters of a text.
+fn push_characters(text: &mut String, more: &BfString) -> Result<(), AllocError>
+    ensures { OnOk result (string_bytes text.new
+        ≡ string_bytes text.old ++ encode_utf8_all (characters_of (text_seen more.now))) }
+{
+    match more {
+        BfString::Char(only) => text.push(*only),
+        BfString::String(more) => text.push_str(more.as_str()),
     }
 }
 

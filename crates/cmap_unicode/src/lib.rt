@@ -5,7 +5,11 @@
 mod cids;
 mod collections;
 mod extractor;
+mod rows;
+mod simple_fonts;
 
-pub use cids::declared_cid;
+pub use cids::{declared_cid, declared_stretch};
 pub use collections::ucs2_name;
 pub use extractor::{Character, Extractor};
+pub use rows::TextRow;
+pub use simple_fonts::simple_encoding;

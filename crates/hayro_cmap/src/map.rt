@@ -14,7 +14,8 @@ ghost use Rattle.cmap_layers.specs.LayersSeen.{metadata_seen};
 ghost use Rattle.cmap_layers.specs.Layers.{top_metadata};
 ghost use Rattle.cmap_chains.specs.Salvage.{AreOfBundle, BeginsWithFault, GivesMap, IsFirstPastFaults, SalvagesMap};
 ghost use Rattle.cmap_chains.specs.SalvageSeen.{faults_seen};
-ghost use Rattle.cmap_layers.specs.CodeStretches.{AreCodesOfCid};
+ghost use Rattle.std.specs.Str.{chars};
+ghost use Rattle.cmap_layers.specs.CodeStretches.{AreCodesOfCid, AreCodesOfText};
 ghost use Rattle.cmap_layers.specs.Lookups.{cid_of};
 ghost use Rattle.cmap_layers.specs.Searches.{FindsCid, FindsText, GivesText, IsStrictCid};
 ghost use Rattle.cmap_layers.specs.StringCodes.{IsNextCode};
@@ -373,6 +374,14 @@ impl CMap {
         ensures { IfOk result (λ ranges. AreCodesOfCid self.now (length_of len) cid ranges.items) }
     {
         self.layers().codes_of_cid(alloc, cid, len)
+    }
+
+    /// The codes that have the text, as [`Layers::codes_of_text`] gives them.
+    pub fn codes_of_text(&self, alloc: Global, text: &str) -> Result<Vec<Range>, AllocError>
+        ensures { IfOk result
+            (λ ranges. AreCodesOfText self.now (chars text.now) ranges.items) }
+    {
+        self.layers().codes_of_text(alloc, text)
     }
 
     /// A copy of the map.

@@ -1,0 +1,21 @@
+-- Private aid: what an index has for each text.
+use Rattle.std.specs.Prelude.{◌≡◌, ℕ, ◌≤◌, List, length, Option, Some, option_map}
+use Rattle.std.specs.BTreeMap.{get_by}
+use Rattle.std.specs.Cmp.Lexicographic.{slice_cmp}
+use Rattle.std.specs.Ordering.{nat_cmp}
+use Rattle.cmap_unicode.specs.TextsOfCodes.{Font}
+use Rattle.cmap_encode.specs.Codes.{IsBefore, IsFirstAmong, code_bytes}
+use Rattle.cmap_encode.specs.declared.index.Index.{Index}
+
+-- the bytes of the code that it has for a text
+abbrev pub found_in : Index → List ℕ → Option (List ℕ)
+found_in index text = option_map code_bytes (get_by (λ k. slice_cmp nat_cmp text k.items) index.codes)
+
+-- for each text it has the first of the codes before a limit, and no text is longer than it says
+pub record IsIndexed (font : Font) (len limit : ℕ) (index : Index) : Type 0 where
+  pub codes : (text : List ℕ) → IsFirstAmong (IsBefore len limit) font text (found_in index text)
+  pub longest : (text bytes : List ℕ) → found_in index text ≡ Some bytes → length text ≤ index.longest
+
+-- all codes have less than five bytes
+abbrev pub IsIndexOf : Font → Index → Type 0
+IsIndexOf font index = IsIndexed font 5 0 index

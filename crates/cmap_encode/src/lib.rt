@@ -1,0 +1,10 @@
+//! Strings of a font that show a text, by the layers of its CMaps.
+#![tactic(auto)]
+
+mod code;
+mod encoder;
+mod fronts;
+mod index;
+mod ways;
+
+pub use encoder::{Encoder, Unencodable};

@@ -1,0 +1,95 @@
+//! Strings that show texts, read again.
+
+use crate::examples::{string_of_text, text_of_string};
+use crate::maps::map_over;
+use cmap_encode::Unencodable;
+use cmap_unicode::{Extractor, simple_encoding};
+use hayro_cmap::{CMap, Fault};
+use std::alloc::Global;
+
+/// Some codes of the CMap 90ms-RKSJ-H.
+const ENCODING: &[u8] =
+    b"begincodespacerange <00> <80> <8140> <9FFC> <A0> <DF> <E040> <FCFC> endcodespacerange
+begincidrange <20> <7E> 231 <8CEA> <8CEA> 1952 <93FA> <93FA> 3284 <967B> <967B> 3722 endcidrange";
+
+/// The texts of their CIDs in Adobe-Japan1-UCS2.
+const COLLECTION: &[u8] = b"beginbfrange <00E7> <0145> <0020> endbfrange
+beginbfchar <07A0> <8A9E> <0CD4> <65E5> <0E8A> <672C> endbfchar";
+
+/// Texts of two characters that overlap, a text with a shorter and a longer code, and one with two codes.
+const TO_UNICODE: &[u8] =
+    b"beginbfchar <01> <00610062> <02> <0061> <03> <00620063> <05> <0061> endbfchar";
+
+/// Whether a text is shown by a string, which is read as this text.
+fn is_shown_by(alloc: Global, font: &Extractor<'_>, text: &str, bytes: &[u8]) -> bool {
+    let Ok(string) = string_of_text(alloc, font, text) else {
+        return false;
+    };
+    let Ok(read) = text_of_string(alloc, font, string.as_slice()) else {
+        return false;
+    };
+    string.as_slice() == bytes && read.as_str() == text
+}
+
+/// Where a text is refused, if it is.
+fn refused_at(alloc: Global, font: &Extractor<'_>, text: &str) -> Option<usize> {
+    match string_of_text(alloc, font, text) {
+        Err(Fault::Refused(Unencodable { offset })) => Some(offset),
+        _ => None,
+    }
+}
+
+/// A Japanese font of Shift-JIS codes.
+fn japanese<'m>(encoding: &'m CMap, collection: &'m CMap) -> Extractor<'m> {
+    Extractor {
+        encoding: encoding.layers(),
+        to_unicode: None,
+        collection: Some(collection.layers()),
+    }
+}
+
+#[test]
+fn a_text_is_shown_by_codes_of_one_and_two_bytes(rt: HostRuntime) {
+    let alloc = rt.alloc();
+    let encoding = map_over(alloc, ENCODING, &[]).expect(&rt, "refused");
+    let collection = map_over(alloc, COLLECTION, &[]).expect(&rt, "refused");
+    let font = japanese(&encoding, &collection);
+    let words = is_shown_by(alloc, &font, "日本語", b"\x93\xFA\x96\x7B\x8C\xEA");
+    assert!(rt; words);
+    let letters = is_shown_by(alloc, &font, "ABC", b"\x41\x42\x43");
+    assert!(rt; letters);
+    let both = is_shown_by(alloc, &font, "A日", b"\x41\x93\xFA");
+    assert!(rt; both);
+}
+
+#[test]
+fn a_text_is_refused_where_no_string_goes_on(rt: HostRuntime) {
+    let alloc = rt.alloc();
+    let encoding = map_over(alloc, ENCODING, &[]).expect(&rt, "refused");
+    let collection = map_over(alloc, COLLECTION, &[]).expect(&rt, "refused");
+    let font = japanese(&encoding, &collection);
+    let after_three_bytes = refused_at(alloc, &font, "日😀A") == Some(3);
+    assert!(rt; after_three_bytes);
+    let at_once = refused_at(alloc, &font, "😀") == Some(0);
+    assert!(rt; at_once);
+}
+
+#[test]
+fn texts_of_several_characters_are_tried_in_every_way(rt: HostRuntime) {
+    let alloc = rt.alloc();
+    let encoding = simple_encoding(alloc).expect(&rt, "out of memory");
+    let to_unicode = map_over(alloc, TO_UNICODE, &[]).expect(&rt, "refused");
+    let font = Extractor {
+        encoding: &encoding,
+        to_unicode: Some(to_unicode.layers()),
+        collection: None,
+    };
+    let longest_first_fails = is_shown_by(alloc, &font, "abc", b"\x02\x03");
+    assert!(rt; longest_first_fails);
+    let fewest_bytes = is_shown_by(alloc, &font, "ab", b"\x01");
+    assert!(rt; fewest_bytes);
+    let least_code = is_shown_by(alloc, &font, "aab", b"\x02\x01");
+    assert!(rt; least_code);
+    let stuck = refused_at(alloc, &font, "abb") == Some(2);
+    assert!(rt; stuck);
+}

@@ -1,0 +1,141 @@
+//! Codes in a row, whose texts are the same or count on.
+
+ghost use Rattle.std.specs.Prelude.{◌≡◌, ◌+◌, ◌≤◌, ℕ, IfOk, option_map, true};
+ghost use Rattle.std.specs.Option.{option_copied};
+ghost use Rattle.cmap_tokens.specs.Texts.{text_at};
+ghost use Rattle.cmap_values.specs.CodeLengths.{length_of};
+ghost use Rattle.cmap_unicode.specs.Characters.{font_of};
+ghost use Rattle.cmap_unicode.specs.CountedTexts.{counted_on};
+ghost use Rattle.cmap_unicode.specs.TextsOfCodes.{text_in};
+ghost use Rattle.cmap_unicode.specs.TextRows.{AreTexts, CountOn, IsTextRow, texts_of_cids};
+
+use crate::cids::declared_stretch;
+use crate::extractor::Extractor;
+use cmap_layers::layers::Layers;
+use cmap_layers::stretches::{CidStretch, Cids};
+use cmap_runs::runs::Looks;
+use cmap_tokens::utf16::BfString;
+use cmap_values::code_length::CodeLength;
+use std::alloc::{AllocError, Global};
+
+/// Codes in a row, all with texts, or all without.
+#[derive(Debug, Drop)]
+pub struct TextRow {
+    /// The text of the first code.
+    pub text: Option<BfString>,
+    /// Whether the last character of the text counts on from code to code; else the codes have the same text.
+    pub counts_on: bool,
+    /// The last of the codes.
+    pub last: u32,
+}
+
+impl Extractor<'_> {
+    /// The texts of codes of this length from `first` on, as `character_of` gives them. A caller who
+    /// goes on with the code after the last one has the texts of all codes.
+    ///
+    /// It fails only if memory runs out.
+    pub fn text_row(
+        &self,
+        alloc: Global,
+        first: u32,
+        len: CodeLength,
+    ) -> Result<TextRow, AllocError>
+        ensures { IfOk result (IsTextRow (font_of self.now) (length_of len) first) }
+    {
+        let by_code = row_in(alloc, self.to_unicode, first)?;
+        if by_code.text.is_some() {
+            return Ok(by_code);
+        }
+        let cids = declared_stretch(self.encoding, first, len);
+        let mut by_cid = row_of_cids(alloc, self.collection, cids, first)?;
+        by_cid.last = by_cid.last.min(by_code.last);
+        Ok(by_cid)
+    }
+}
+
+/// The texts of codes from `first` on that have these CIDs in a collection's map.
+fn row_of_cids(
+    alloc: Global,
+    collection: Option<&Layers>,
+    stretch: CidStretch,
+    first: u32,
+) -> Result<TextRow, AllocError>
+    requires { first ≤ stretch.last }
+    ensures within { IfOk result (λ row. row.last ≤ stretch.last) }
+    ensures texts { IfOk result (AreTexts
+        (texts_of_cids (option_copied collection.entry) stretch.cids first) first) }
+{
+    match stretch.cids {
+        Cids::Absent => Ok(TextRow {
+            text: None,
+            counts_on: false,
+            last: stretch.last,
+        }),
+        Cids::Same(cid) => {
+            let text = row_in(alloc, collection, cid)?.text;
+            Ok(TextRow {
+                text,
+                counts_on: false,
+                last: stretch.last,
+            })
+        }
+        Cids::CountOn(cid) => {
+            let mut row = row_in(alloc, collection, cid)?;
+            row.last = first + (stretch.last - first).min(row.last - cid);
+            Ok(row)
+        }
+    }
+}
+
+/// The texts of codes from `first` on in a map, if there is one.
+fn row_in(alloc: Global, map: Option<&Layers>, first: u32) -> Result<TextRow, AllocError>
+    ensures texts { IfOk result (AreTexts (text_in (option_copied map.entry)) first) }
+    ensures counts { IfOk result (λ row. row.counts_on ≡ true) }
+{
+    let Some(map) = map else {
+        return Ok(TextRow {
+            text: None,
+            counts_on: true,
+            last: u32::MAX,
+        });
+    };
+    let text = map.text(alloc, first, &mut Looks::new())?;
+    Ok(TextRow {
+        text,
+        counts_on: true,
+        last: last_in_row(map, first),
+    })
+}
+
+/// The last code up to which the texts of a map count on from that of `first`.
+fn last_in_row(map: &Layers, first: u32) -> u32
+    ensures within { first ≤ result }
+    ensures texts { CountOn map.now first result }
+{
+    let stretch = map.text_stretch(first);
+    match stretch.declaration {
+        Some(declaration) => {
+            let offset = first - declaration.range.start;
+            let more = further_texts(declaration.units.as_slice(), offset);
+            first + (stretch.last - first).min(more)
+        }
+        None => stretch.last,
+    }
+}
+
+/// How many further offsets have texts that count on from that of this one, or, if this one gives none,
+/// none. Surrogates lie in rows of 1,024 units.
+fn further_texts(units: &[u16], offset: u32) -> u32
+    ensures { (k : ℕ) → k ≤ result → text_at units.now (offset + k)
+        ≡ option_map (λ cs. counted_on cs k) (text_at units.now offset) }
+{
+    let Some(last) = units.last() else {
+        return u32::MAX;
+    };
+    let unit = u64::from(*last) + u64::from(offset);
+    if unit < 0x1_0000 {
+        0x3FF - (unit % 0x400) as u32
+    } else {
+        u32::MAX
+    }
+}
