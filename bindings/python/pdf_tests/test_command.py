@@ -138,8 +138,17 @@ class Command(Folder):
         file.saved(self.path("signed.pdf"))
         status, _, fault = self.command("repair", "signed.pdf", "out.pdf")
         self.assertEqual((status, self.path("out.pdf").exists()), (2, False))
-        self.assertIn("signed", fault)
+        self.assertIn("it is signed, and its signature would no longer hold", fault)
         self.assertEqual(self.command("repair", "--signed", "signed.pdf", "out.pdf")[0], 0)
+
+    def test_repair_of_a_file_that_cannot_be_written(self):
+        status, _, fault = self.command("repair", "bad.pdf", "none/out.pdf")
+        self.assertEqual(status, 2)
+        self.assertIn("out.pdf can't be written", fault)
+
+    def test_repair_in_place(self):
+        self.assertEqual(self.command("repair", "bad.pdf", "bad.pdf")[0], 0)
+        self.assertEqual(self.command("check", "bad.pdf")[0], 0)
 
     def test_repair_where_nothing_is_left(self):
         showing(b"A", b"1 beginbfchar <41> (x").saved(self.path("lost.pdf"))

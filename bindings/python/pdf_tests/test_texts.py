@@ -27,6 +27,13 @@ class Contents(unittest.TestCase):
         file.show(b"/F 9 Tf (A) Tj [(B) -100 (C)] TJ (D) ' 1 2 (E) \"", F=file.simple(GOOD))
         self.assertEqual(b"".join(string for _, string in file.shown()), b"ABCDE")
 
+    def test_operands_that_are_none(self):
+        """What isn't a string shows nothing; a string may begin with a slash, or be empty."""
+        content = b"/F 9 Tf Tj () Tj /A Tj 12 Tj [(/a) /B 1.5 [(c)] << /D (d) >> true (e)] TJ (f) TJ [(g)] Tj (h) Tf gs (i) Tj"
+        file = File()
+        file.show(content, F=file.simple(GOOD))
+        self.assertEqual(file.shown(), [("Simple", b""), ("Simple", b"/a"), ("Simple", b"e"), (None, b"i")])
+
     def test_the_font_that_is_chosen(self):
         file = File()
         one, two, three = (file.simple(GOOD, base_font=name) for name in "123")

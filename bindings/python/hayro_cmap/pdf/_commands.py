@@ -8,7 +8,7 @@ import pikepdf
 from ._check import Report, check
 from ._content import Document
 from ._fonts import fonts
-from ._repair import repair, save
+from ._repair import Signed, repair, save
 from ._report import charts_of
 
 #: What pages are handed to, and gives them again: a progress bar, or nothing.
@@ -87,9 +87,15 @@ def run_text(path, pdf, options, progress) -> Result:
 
 def run_repair(path, pdf, options, progress) -> Result:
     before = {report.font.number: report for report in check(pdf, progress).fonts}
-    done = repair(pdf, signed=options.get("signed", False))
-    if any(it.kept for it in done):
-        save(pdf, options["output"])
+    try:
+        done = repair(pdf, signed=options.get("signed", False))
+    except Signed:
+        return Result(path, 2, fault="it is signed, and its signature would no longer hold: --signed writes it anyway")
+    try:
+        if any(it.kept for it in done):
+            save(pdf, options["output"])
+    except (OSError, RuntimeError) as fault:
+        return Result(path, 2, fault=f"{options['output']} can't be written: {fault}")
     lines, objects = [], []
     for it in done:
         reports = [before[font.number] for font in it.fonts if font.number in before]

@@ -1,7 +1,6 @@
 """Which strings the pages of a PDF file show, and with which fonts."""
 
 import warnings
-from decimal import Decimal
 from typing import Any, Dict, FrozenSet, Iterator, List, NamedTuple, Optional, Tuple
 
 import pikepdf
@@ -42,6 +41,9 @@ SEPARATORS = ["", " ", "\n"]
 #: By how many thousandths of its size a font's next glyph is moved for a space between words.
 SPACE = 180
 
+#: The operators that name a resource.
+NAMING = ("Tf", "Do", "gs")
+
 #: How many operators one page may have, with those of the forms that it draws, each as often as it is drawn.
 MOST_STEPS = 5_000_000
 
@@ -70,6 +72,10 @@ class Step(NamedTuple):
 
     operator: str
     operand: Any
+
+
+#: A step that shows nothing.
+NOTHING = Step("show", [])
 
 
 class Content:
@@ -243,33 +249,48 @@ class Held:
 
 def step(instruction) -> Step:
     """An operator, and what counts of its operands."""
-    operands, operator = list(instruction.operands), str(instruction.operator)
-    last = operands[-1] if operands else None
+    # a list of pikepdf's, whose values become Python's one by one
+    operands, operator = instruction.operands, str(instruction.operator)
+    if operator in ("q", "Q"):
+        return Step(operator, None)
+    if not operands:
+        return (
+            Step("place", "\n") if operator in ("ET", "T*") else Step(operator, b"") if operator in NAMING else NOTHING
+        )
     if operator == "TJ":
-        return Step("show", placed_strings(last) if isinstance(last, pikepdf.Array) else [])
+        return Step("show", placed_strings(operands[-1]))
     if operator in ("Tj", "'", '"'):
-        separator = "" if operator == "Tj" else "\n"
-        return Step("show", [(bytes(last), separator)] if isinstance(last, pikepdf.String) else [])
-    if operator in ("Tf", "Do", "gs"):
-        first = operands[0] if operands else None
+        string = string_in(operands[-1])
+        return NOTHING if string is None else Step("show", [(string, "" if operator == "Tj" else "\n")])
+    if operator in NAMING:
+        first = operands[0]
         return Step(operator, bytes_of(first) if isinstance(first, pikepdf.Name) else b"")
-    if operator in ("Td", "TD"):
-        # a line begins where the place is moved up or down
-        return Step("place", " " if last == 0 else "\n")
-    return Step("place" if operator in ("ET", "Tm", "T*") else operator, "\n")
+    # a line begins where the place is moved up or down
+    return Step("place", " " if operator in ("Td", "TD") and operands[-1] == 0 else "\n")
 
 
-def placed_strings(values: pikepdf.Array) -> List[Tuple[bytes, str]]:
+def placed_strings(values: Any) -> List[Tuple[bytes, str]]:
     """The strings of an operator TJ, each with the separator that the number before it makes."""
     found, separator = [], ""
-    for it in list(values):
-        # most are numbers, of which Python knows the type sooner than pikepdf does that of an object
-        if isinstance(it, (int, Decimal)):
-            separator = " " if it <= -SPACE else separator
-        elif isinstance(it, pikepdf.String):
-            found.append((bytes(it), separator))
-            separator = ""
+    for it in values.as_list() if isinstance(values, pikepdf.Array) else ():
+        if type(it) is pikepdf.Object:
+            string = string_in(it)
+            if string is not None:
+                found.append((string, separator))
+                separator = ""
+        elif it <= -SPACE:
+            separator = " "
     return found
+
+
+def string_in(value: Any) -> Optional[bytes]:
+    """The bytes of a string; None for anything else."""
+    try:
+        data = bytes(value) if type(value) is pikepdf.Object else b""
+    except pikepdf.PdfError:
+        return None
+    # to ask pikepdf for the class takes long; of what is no string, a name has bytes with its slash, others have none
+    return data if data[:1] not in (b"", b"/") or isinstance(value, pikepdf.String) else None
 
 
 def shown_appearances_of(page: pikepdf.Object) -> Iterator[pikepdf.Stream]:
