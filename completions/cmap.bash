@@ -7,7 +7,7 @@ _cmap() {
     warnings+=" mode-differs count-differs long-section no-endcmap code-length odd-digits odd-text"
     COMPREPLY=()
     if ((COMP_CWORD == 1)); then
-        mapfile -t COMPREPLY < <(compgen -W "info list find check decode lookup text where diff write repair make bundle --help --version" -- "$current")
+        mapfile -t COMPREPLY < <(compgen -W "info list find check decode lookup text encode where diff write repair make bundle --help --version" -- "$current")
         return
     fi
     case $before in
@@ -35,7 +35,7 @@ _cmap() {
         ;;
     esac
     case $subcommand in
-    info | list | find | check | decode | lookup | text | where | diff | write | repair | make | bundle) ;;
+    info | list | find | check | decode | lookup | text | encode | where | diff | write | repair | make | bundle) ;;
     *) return ;;
     esac
     if [[ $current == -* ]]; then
@@ -46,7 +46,7 @@ _cmap() {
         write) mapfile -t COMPREPLY < <(compgen -W "--base --bundle --no-predefined --budget --flatten --codes --tidy --binary --name --output --help" -- "$current") && return ;;
         make) mapfile -t COMPREPLY < <(compgen -W "--name --collection --vertical --use --output --help" -- "$current") && return ;;
         bundle) mapfile -t COMPREPLY < <(compgen -W "--output --name --verify --help" -- "$current") && return ;;
-        decode | text) mapfile -t COMPREPLY < <(compgen -W "--to-unicode --budget --lenient" -- "$current") ;;
+        decode | text | encode) mapfile -t COMPREPLY < <(compgen -W "--to-unicode --budget --lenient" -- "$current") ;;
         check) mapfile -t COMPREPLY < <(compgen -W "--budget --files-from --null --first --lint --to-unicode --deny --quiet" -- "$current") ;;
         *) mapfile -t COMPREPLY < <(compgen -W "--budget --lenient" -- "$current") ;;
         esac

@@ -94,6 +94,14 @@ const STRINGS: Arguments = Arguments {
     help: "Strings, two hexadecimal digits for each byte; - reads them from the standard input",
 };
 
+/// The texts of `encode`.
+const TEXTS: Arguments = Arguments {
+    id: ARGUMENT,
+    value_name: "TEXT",
+    unless: None,
+    help: "Texts; - reads one from each line of the standard input",
+};
+
 /// The subcommands that say what files are.
 const OF_FILES: &[Form] = &[
     Form {
@@ -184,6 +192,13 @@ const OF_STRINGS: &[Form] = &[
         flags: STRING_FLAGS,
         files: &[CMAP_FILE],
         arguments: Some(STRINGS),
+    },
+    Form {
+        name: "encode",
+        about: "Prints the strings that show texts",
+        flags: STRING_FLAGS,
+        files: &[CMAP_FILE],
+        arguments: Some(TEXTS),
     },
     Form {
         name: "lookup",

@@ -3,7 +3,7 @@
 use crate::command_line::flags::{JSON, TO_UNICODE};
 use crate::command_line::{arguments_of, file_of};
 use crate::options::{Sources, manner_of};
-use crate::strings::strings_of;
+use crate::strings::{strings_of, texts_of};
 use clap::ArgMatches;
 use cmap_sources::bases::Bases;
 use cmap_sources::failure::Failure;
@@ -12,12 +12,12 @@ use cmap_sources::reading::Manner;
 use cmap_unicode::{Extractor, ucs2_name};
 use hayro_cmap::{CMap, CidFamily};
 
-/// What the arguments of `decode` and `text` ask for.
+/// What the arguments of `decode`, `text` and `encode` ask for.
 #[derive(Clone, Copy)]
 pub(crate) struct StringOptions<'m, 'w> {
     file: &'w str,
     to_unicode: Option<&'w str>,
-    /// Strings in hexadecimal digits.
+    /// Strings in hexadecimal digits; of `encode`, texts.
     strings: &'m [&'w str],
     pub(crate) sources: Sources<'m, 'w>,
     manner: Manner,
@@ -74,6 +74,17 @@ pub(crate) fn font_and_strings(
     let strings = strings_of(rt, options.strings)?;
     let font = font_of(rt, options, bases)?;
     Ok((font, strings))
+}
+
+/// The font and the texts that the arguments ask for.
+pub(crate) fn font_and_texts(
+    rt: &HostRuntime,
+    options: &StringOptions<'_, '_>,
+    bases: &mut Bases<'_>,
+) -> Result<(Font, Vec<String>), Failure> {
+    let texts = texts_of(rt, options.strings)?;
+    let font = font_of(rt, options, bases)?;
+    Ok((font, texts))
 }
 
 /// The CMaps that the arguments ask for, with that of the collection if it is found.

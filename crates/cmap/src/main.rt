@@ -6,6 +6,7 @@ mod check;
 mod command_line;
 mod decode;
 mod diff;
+mod encode;
 mod find;
 mod font;
 mod info;

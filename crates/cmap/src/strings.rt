@@ -1,4 +1,4 @@
-//! Strings in hexadecimal digits.
+//! Strings in hexadecimal digits, and texts.
 
 use cmap_sources::failure::{Failure, fault};
 use cmap_sources::inputs::{STANDARD_INPUT, needed};
@@ -29,6 +29,31 @@ pub(crate) fn listed_strings(
         }
     }
     Ok(strings)
+}
+
+/// The texts of the arguments; `-` stands for the lines of the standard input.
+pub(crate) fn texts_of(rt: &HostRuntime, arguments: &[&str]) -> Result<Vec<String>, Failure> {
+    let mut texts = Vec::new(rt.alloc());
+    for argument in arguments {
+        if *argument == STANDARD_INPUT {
+            add_lines(rt, argument, &mut texts)?;
+        } else {
+            texts.push(String::from_str(rt.alloc(), argument)?)?;
+        }
+    }
+    Ok(texts)
+}
+
+/// Adds the lines of a file.
+fn add_lines(rt: &HostRuntime, path: &str, texts: &mut Vec<String>) -> Result<(), Failure> {
+    let bytes = needed(rt, path)?;
+    let Ok(text) = str::from_utf8(&bytes) else {
+        return Err(fault(rt, path, "not UTF-8"));
+    };
+    for line in text.lines() {
+        texts.push(String::from_str(rt.alloc(), line)?)?;
+    }
+    Ok(())
 }
 
 /// Adds the strings of a file, between which white space stands.

@@ -4,6 +4,7 @@ use crate::bundle::bundle_options;
 use crate::check::{CheckOptions, check};
 use crate::decode::decode;
 use crate::diff::{DiffOptions, diff};
+use crate::encode::encode;
 use crate::find::{FindOptions, find};
 use crate::font::StringOptions;
 use crate::info::{InfoOptions, info};
@@ -30,6 +31,7 @@ pub(crate) enum Subcommand<'m, 'w> {
     Check(CheckOptions<'m, 'w>),
     Decode(StringOptions<'m, 'w>),
     Text(StringOptions<'m, 'w>),
+    Encode(StringOptions<'m, 'w>),
     Lookup(LookupOptions<'m, 'w>),
     Where(LocateOptions<'m, 'w>),
     Rewrite(Rewriting<'m, 'w>),
@@ -48,6 +50,7 @@ impl<'m, 'w> Subcommand<'m, 'w> {
             "check" => Subcommand::Check(CheckOptions::of(arguments)),
             "decode" => Subcommand::Decode(StringOptions::of(arguments)),
             "text" => Subcommand::Text(StringOptions::of(arguments)),
+            "encode" => Subcommand::Encode(StringOptions::of(arguments)),
             "lookup" => Subcommand::Lookup(LookupOptions::of(arguments)),
             "where" => Subcommand::Where(LocateOptions::of(arguments)),
             "write" => Subcommand::Rewrite(Rewriting::writing(arguments)),
@@ -68,6 +71,7 @@ impl<'m, 'w> Subcommand<'m, 'w> {
             Subcommand::Check(options) => options.sources,
             Subcommand::Decode(options) => options.sources,
             Subcommand::Text(options) => options.sources,
+            Subcommand::Encode(options) => options.sources,
             Subcommand::Lookup(options) => options.sources,
             Subcommand::Where(options) => options.sources,
             Subcommand::Rewrite(rewriting) => rewriting.sources,
@@ -85,6 +89,7 @@ impl<'m, 'w> Subcommand<'m, 'w> {
             Subcommand::Check(options) => check(rt, options, bases),
             Subcommand::Decode(options) => decode(rt, options, bases),
             Subcommand::Text(options) => text(rt, options, bases),
+            Subcommand::Encode(options) => encode(rt, options, bases),
             Subcommand::Lookup(options) => lookup(rt, options, bases),
             Subcommand::Where(options) => locate(rt, options, bases),
             Subcommand::Rewrite(rewriting) => rewriting.run(rt, bases),

@@ -3,6 +3,7 @@
 
 pub mod decode;
 pub mod diff;
+pub mod encode;
 pub mod find;
 pub mod info;
 pub mod list;
