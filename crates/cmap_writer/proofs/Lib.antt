@@ -30,6 +30,7 @@ pub mod SegmentNumbers
 pub mod SegmentsAdded
 pub mod SegmentsMade
 pub mod Spelling
+pub mod TablesNarrowed
 pub mod TablesWritten
 pub mod TextParts
 pub mod TextPartsSeen

@@ -45,7 +45,7 @@ module _ {E : Type 0} where
 
 module _ {X : Type 0} (most : ℕ) (xs : List X) where
   -- as many as there are, or as fit
-  take_least : take (min (length xs) most) xs ≡ take most xs
+  pub take_least : take (min (length xs) most) xs ≡ take most xs
   take_least = elim (cases_lt most (length xs)) [
     | inl fewer ↦ let e : min (length xs) most ≡ most = omega (arith, fewer) in ap (λ n. take n xs) e
     | inr all ↦ take_all (min (length xs) most) xs (omega (arith, all)) ∙ sym (take_all most xs all)

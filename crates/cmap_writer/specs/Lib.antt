@@ -7,6 +7,7 @@ pub mod Fields
 pub mod Follows
 pub mod Held
 pub mod Keeps
+pub mod ManyWords
 pub mod MetadataWritten
 pub mod Obstacles
 pub mod Pieces

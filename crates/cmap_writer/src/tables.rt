@@ -1,8 +1,9 @@
 //! The code words of a bundle that is read, so that files are written by them.
 
-ghost use Rattle.std.specs.Prelude.{◌≡◌, ◌≤◌, ◌^◌, Any, IfOk, IfSome, MatchOption};
+ghost use Rattle.std.specs.Prelude.{◌≡◌, ◌≤◌, ◌⊎◌, ◌^◌, Any, IfOk, MatchOption};
 ghost use Rattle.cmap_packed.specs.BundleSeen.{tables_seen};
 ghost use Rattle.cmap_writer.specs.EncodersSeen.{encoders_seen};
+ghost use Rattle.cmap_writer.specs.ManyWords.{HasManyWords};
 
 use crate::columns::Encoders;
 use crate::words::Encoder;
@@ -14,12 +15,11 @@ use std::alloc::{AllocError, Global};
 const MOST_BITS: usize = 32;
 
 impl Encoders {
-    /// The code words of the tables of a bundle. `None` where more than 32 lengths are counted, or 2^16
-    /// words of one length.
+    /// The code words of the tables of a bundle. `None` where 2^16 words or more have one length.
     ///
     /// It fails only if memory runs out.
     pub fn of_tables(alloc: Global, tables: &Tables) -> Result<Option<Encoders>, AllocError>
-        ensures { IfOk result (λ found. IfSome found
+        ensures { IfOk result (λ found. MatchOption found (HasManyWords tables.now.delta ⊎ HasManyWords tables.now.count)
             (λ encoders. encoders_seen encoders ≡ tables_seen tables.now)) }
     {
         let Some(delta) = encoder_of(alloc, &tables.delta)? else {
@@ -34,12 +34,10 @@ impl Encoders {
 
 /// The code words of a table.
 fn encoder_of(alloc: Global, table: &PrefixTable) -> Result<Option<Encoder>, AllocError>
-    ensures { IfOk result (λ found. IfSome found (λ encoder. encoder ≡ table.now)) }
+    ensures { IfOk result (λ found. MatchOption found (HasManyWords table.now) (λ encoder. encoder ≡ table.now)) }
 {
     let (counts, symbols) = table.parts();
-    if counts.len() > MOST_BITS {
-        return Ok(None);
-    }
+    let (counts, _none) = counts.split_at(counts.len().min(MOST_BITS));
     let Some(counts) = narrowed(alloc, counts)? else {
         return Ok(None);
     };

@@ -1,0 +1,7 @@
+-- Which tables have too many code words to be written anew.
+use Rattle.std.specs.Prelude.{ℕ, ◌≤◌, ◌^◌, ◌==◌, List, count_by}
+use Rattle.cmap_packed.specs.PrefixWords.{CodeWord, lengths_of}
+
+-- 2^16 code words or more have one length
+abbrev pub HasManyWords : List CodeWord → Type 0
+HasManyWords table = (len : ℕ) × (2 ^ 16 ≤ count_by (λ l. l == len) (lengths_of table))
