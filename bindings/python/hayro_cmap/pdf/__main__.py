@@ -45,6 +45,11 @@ def progress(over, total: int, what: str):
         print("\r\033[K", end="", file=sys.stderr, flush=True)
 
 
+def of_pages(pages):
+    """The same pages, with a bar."""
+    return progress(pages, len(pages), "pages")
+
+
 def arguments(words) -> argparse.Namespace:
     parser = argparse.ArgumentParser(
         prog="python3 -m hayro_cmap.pdf", description=__doc__, formatter_class=argparse.RawDescriptionHelpFormatter
@@ -88,7 +93,7 @@ def results(asked: argparse.Namespace) -> Iterator[Result]:
         yield from progress(by_processes(asked.files, *task, asked.jobs, MEMORY), count, "files")
     elif count == 1:
         limit_memory(MEMORY)
-        yield run(asked.files[0], *task, progress=lambda pages: progress(pages, len(pages), "pages"))
+        yield run(asked.files[0], *task, progress=of_pages)
     else:
         limit_memory(MEMORY)
         yield from progress(results_of(asked.files, *task), count, "files")

@@ -94,7 +94,7 @@ def run_repair(path, pdf, options, progress) -> Result:
     try:
         if any(it.kept for it in done):
             save(pdf, options["output"])
-    except (OSError, RuntimeError) as fault:
+    except (pikepdf.PdfError, OSError, RuntimeError) as fault:
         return Result(path, 2, fault=f"{options['output']} can't be written: {fault}")
     lines, objects = [], []
     for it in done:

@@ -1,6 +1,7 @@
 """Which strings the pages of a PDF file show, and with which fonts."""
 
 import warnings
+from decimal import Decimal
 from typing import Any, Dict, FrozenSet, Iterator, List, NamedTuple, Optional, Tuple
 
 import pikepdf
@@ -72,10 +73,6 @@ class Step(NamedTuple):
 
     operator: str
     operand: Any
-
-
-#: A step that shows nothing.
-NOTHING = Step("show", [])
 
 
 class Content:
@@ -249,24 +246,20 @@ class Held:
 
 def step(instruction) -> Step:
     """An operator, and what counts of its operands."""
-    # a list of pikepdf's, whose values become Python's one by one
     operands, operator = instruction.operands, str(instruction.operator)
     if operator in ("q", "Q"):
         return Step(operator, None)
-    if not operands:
-        return (
-            Step("place", "\n") if operator in ("ET", "T*") else Step(operator, b"") if operator in NAMING else NOTHING
-        )
+    last = operands[-1] if operands else None
     if operator == "TJ":
-        return Step("show", placed_strings(operands[-1]))
+        return Step("show", placed_strings(last))
     if operator in ("Tj", "'", '"'):
-        string = string_in(operands[-1])
-        return NOTHING if string is None else Step("show", [(string, "" if operator == "Tj" else "\n")])
+        string, separator = string_in(last), "" if operator == "Tj" else "\n"
+        return Step("show", [] if string is None else [(string, separator)])
     if operator in NAMING:
-        first = operands[0]
+        first = operands[0] if operands else None
         return Step(operator, bytes_of(first) if isinstance(first, pikepdf.Name) else b"")
     # a line begins where the place is moved up or down
-    return Step("place", " " if operator in ("Td", "TD") and operands[-1] == 0 else "\n")
+    return Step("place", " " if operator in ("Td", "TD") and last == 0 else "\n")
 
 
 def placed_strings(values: Any) -> List[Tuple[bytes, str]]:
@@ -278,7 +271,7 @@ def placed_strings(values: Any) -> List[Tuple[bytes, str]]:
             if string is not None:
                 found.append((string, separator))
                 separator = ""
-        elif it <= -SPACE:
+        elif isinstance(it, (int, Decimal)) and it <= -SPACE:
             separator = " "
     return found
 

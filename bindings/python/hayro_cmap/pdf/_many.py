@@ -14,7 +14,7 @@ from ._commands import Result, results_of, run, unread
 SECONDS = 5.0
 
 #: How many files each thread of a cluster has at hand.
-AT_HAND = 2
+AT_HAND = 8
 
 
 def check_files(paths: Iterable[str], **options: Any) -> Iterator[str]:

@@ -86,7 +86,7 @@ def section_of(result: Any) -> str:
 
 def font_of(chart: Dict[str, Any]) -> str:
     """The part of the page for a font."""
-    title, *lines = map(html.escape, chart["lines"])
+    title, *lines = [html.escape(str(line)) for line in chart["lines"]]
     # each line begins with the number of the font, which the title has
     listed = "".join(f"<li>{line.partition(': ')[2]}</li>" for line in lines)
     bad, fine = "" if chart["ok"] else ' class="bad"', "" if lines else ' class="fine"'
