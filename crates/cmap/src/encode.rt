@@ -59,6 +59,6 @@ fn print_string(
 fn report_stop(rt: &HostRuntime, text: &str, offset: usize) -> Result<bool, Failure> {
     let mut shown = String::new(rt.alloc());
     push_text(&mut shown, text)?;
-    eprintln!(rt; "cmap: {shown}: no string shows more than its first {offset} bytes")?;
+    eprintln!(rt; "cmap: {shown}: no string shows it past byte {offset}")?;
     Ok(false)
 }
