@@ -5,7 +5,7 @@ use crate::command_line::flags::{BINARY, BUDGET, CMAP_NAME, CODES, FLATTEN, TEXT
 use crate::options::Sources;
 use crate::strings::listed_strings;
 use clap::ArgMatches;
-use cmap_rewrite::command::{RewriteOptions, rewrite};
+use cmap_rewrite::command::{Change, RewriteOptions, rewrite};
 use cmap_sources::bases::Bases;
 use cmap_sources::failure::Failure;
 use cmap_sources::reading::{Faults, Form, Manner};
@@ -31,7 +31,11 @@ impl<'m, 'w> Rewriting<'m, 'w> {
                     form: Form::Text,
                 },
                 is_flat: FLATTEN.is_given(arguments),
-                is_tidy: TIDY.is_given(arguments),
+                change: if TIDY.is_given(arguments) {
+                    Change::Tidy
+                } else {
+                    Change::Nothing
+                },
                 name: CMAP_NAME.text(arguments),
                 is_binary: BINARY.is_given(arguments),
                 codes: CODES.texts(arguments),
@@ -52,7 +56,7 @@ impl<'m, 'w> Rewriting<'m, 'w> {
                     form: Form::Text,
                 },
                 is_flat: false,
-                is_tidy: true,
+                change: Change::Repair,
                 name: None,
                 is_binary: false,
                 codes: CODES.texts(arguments),

@@ -1,6 +1,7 @@
 //! What is written in the place of what a file says: one file for all layers of a map, or for some of its codes, and
 //! the fewest declarations.
 
+use crate::within::cut_texts;
 use cmap_escape::digits::push_code;
 use cmap_escape::escape::push_text;
 use cmap_flatten::{Codes, Contradiction, flatten, subset};
@@ -74,6 +75,32 @@ pub(crate) fn tidied<'d>(alloc: Global, file: File<'d>) -> Result<File<'d>, Allo
         return Ok(file);
     }
     tidy(alloc, &file)
+}
+
+/// The file in the fewest declarations that all readers take: no range of texts lies in a codespace range in part.
+pub(crate) fn repaired<'d>(alloc: Global, file: File<'d>) -> Result<File<'d>, AllocError> {
+    let File {
+        metadata,
+        lists,
+        uses,
+    } = tidied(alloc, file)?;
+    let Lists {
+        cids,
+        notdefs,
+        bfs,
+        spaces,
+    } = lists;
+    let bfs = cut_texts(alloc, &bfs, &spaces)?;
+    Ok(File {
+        metadata,
+        lists: Lists {
+            cids,
+            notdefs,
+            bfs,
+            spaces,
+        },
+        uses,
+    })
 }
 
 /// How many rows of 256 codes the declarations of a file are for, each counted by itself.

@@ -1,7 +1,7 @@
 //! The two subcommands.
 
 use crate::binary::binary_of;
-use crate::changes::{one_file, tidied};
+use crate::changes::{one_file, repaired, tidied};
 use crate::obstacle::push_obstacle;
 use cmap_escape::escape::push_text;
 use cmap_sources::alone::file_of;
@@ -17,6 +17,17 @@ use cmap_values::file::File;
 use cmap_values::metadata::Metadata;
 use std::alloc::{AllocError, Global};
 
+/// What becomes of the declarations of a file.
+#[derive(Clone, Copy)]
+pub enum Change {
+    /// They stay as they are.
+    Nothing,
+    /// They are the fewest.
+    Tidy,
+    /// They are the fewest that all readers take.
+    Repair,
+}
+
 /// What the arguments of `write` and `repair` ask for.
 #[derive(Clone, Copy)]
 pub struct RewriteOptions<'m, 'w> {
@@ -28,8 +39,8 @@ pub struct RewriteOptions<'m, 'w> {
     pub manner: Manner,
     /// Whether one file is made of all layers.
     pub is_flat: bool,
-    /// Whether it is written in the fewest declarations.
-    pub is_tidy: bool,
+    /// What becomes of its declarations.
+    pub change: Change,
     /// Its new name.
     pub name: Option<&'w str>,
     /// Whether it is written in the binary form.
@@ -58,10 +69,10 @@ pub fn rewrite(
         bytes: bytes.as_slice(),
     };
     let file = file_of(rt, input, options.manner.faults, bases)?;
-    let file = if options.is_tidy {
-        tidied(rt.alloc(), file)?
-    } else {
-        file
+    let file = match options.change {
+        Change::Nothing => file,
+        Change::Tidy => tidied(rt.alloc(), file)?,
+        Change::Repair => repaired(rt.alloc(), file)?,
     };
     finish(rt, options, file, bases)
 }

@@ -7,3 +7,4 @@ pub mod command;
 pub mod make;
 mod obstacle;
 mod table;
+mod within;
