@@ -1,34 +1,39 @@
 -- What two lists declare for a code, after one more declaration.
-use Rattle.std.proofs.Common.{◌≡◌, ℕ, ◌+◌, ◌-◌, ◌<◌, ◌≤◌, List, Option, Some, None, Ok, Err, inl, inr, refl, sym, ap, ◌∙◌, subst, arith}
-use Rattle.std.specs.Prelude.{All, OnOk, Result, IsSome, option_map, unwrap_or}
-use Rattle.std.proofs.lemmas.Bool.{and_from, and_parts, cases_lt, cond-false, cond-true, false_from_ne_true, le-leb, leb-true}
+use Rattle.std.proofs.Common.{◌≡◌, ℕ, ◌+◌, ◌-◌, ◌<◌, ◌≤◌, List, Option, Some, None, Ok, Err, inl, inr, refl, sym, ap, ◌∙◌, arith}
+use Rattle.std.specs.Prelude.{All, OnOk, Result, IsSome, unwrap_or}
+use Rattle.std.proofs.lemmas.Bool.{cases_lt, cond-false, cond-true}
 use Rattle.std.proofs.lemmas.List.Elements.{All-weaker}
-use Rattle.cmap_runs.specs.Ranges.{Span, last_of}
+use Rattle.cmap_runs.specs.Ranges.{Span}
 use Rattle.cmap_runs.specs.declared.runs.Range.{Range}
 use Rattle.cmap_values.specs.Files.{CidEntry}
 use Rattle.cmap_layers.specs.Lookups.{cid_at, cid_span}
-use Rattle.cmap_tidy.specs.Tidy.{AreTidyCids, AreTidyNotdefs, cid_said, notdef_said, said_with}
+use Rattle.cmap_tidy.specs.Tidy.{AreTidyCids, AreTidyNotdefs, cid_said, notdef_at, notdef_said, said, said_with}
+use Rattle.cmap_tidy.proofs.ListsSaid.{is_after, is_before, is_in}
+use Rattle.cmap_tidy.proofs.SaidSoFar.{said_none}
 use Rattle.cmap_flatten.specs.Kinds.{Given, as_cid, as_notdef, cid_listed}
 use Rattle.cmap_flatten.specs.Parts.{IsAdded, IsRoom, parts}
-use Rattle.cmap_flatten.proofs.ChosenCodes.{has_any}
 
 pub none_of : {A : Type 0} (o : Option A) → (IsSome o → ⊥) → o ≡ None
 none_of None none = refl
 none_of (Some x) none = absurd (none refl)
 
--- past the ends of all declarations none decides
-pub past_ends : {A : Type 0} (span : A → Span) (entries : List A) (limit code : ℕ) → All (λ e. (span e).end < limit) entries → limit ≤ code → last_of span entries code ≡ None
-past_ends span entries limit code ends past = none_of (last_of span entries code) (λ some.
-    let (k, e, lt, is, within) = (has_any span entries code).0 some in
-    let end : (span e).end < limit = subst (λ e. (span e).end < limit) is (ends k e lt) in omega arith)
+-- past the ends of all declarations nothing is said
+pub past_ends : {E X : Type 0} (span : E → Span) (at : E → ℕ → X) (entries : List E) (limit code : ℕ) → All (λ e. (span e).end < limit) entries → limit ≤ code → said span at entries code ≡ None
+past_ends span at entries limit code ends past = said_none span at entries code (All-weaker (λ e. (span e).end < limit) (λ e. (span e).end < code) (λ e lt. omega arith) entries ends)
 
 -- ---- what is said of a range and of other codes
 module _ {X : Type 0} (range : Range) (here : ℕ → X) (before : ℕ → Option X) (code : ℕ) where
-  pub with_here : range.start ≤ code → code ≤ range.end → said_with range here before code ≡ Some (here code)
-  with_here le within = cond-true _ (Some (here code)) (before code) (and_from _ _ (le-leb _ _ le) (le-leb _ _ within))
+  abbrev span : Span
+  span = record { start = range.start; end = range.end }
 
-  pub with_others : (range.start ≤ code → code ≤ range.end → ⊥) → said_with range here before code ≡ before code
-  with_others outside = cond-false _ (Some (here code)) (before code) (false_from_ne_true _ (λ both. let parts = and_parts _ _ both in outside (leb-true _ _ parts.0) (leb-true _ _ parts.1)))
+  pub with_here : range.start ≤ code → code ≤ range.end → said_with range here before code ≡ Some (here code)
+  with_here le within = cond-true _ (Some (here code)) (before code) (is_in span code le within)
+
+  pub with_before : code < range.start → said_with range here before code ≡ before code
+  with_before lt = cond-false _ (Some (here code)) (before code) (is_before span code lt)
+
+  pub with_after : range.end < code → said_with range here before code ≡ before code
+  with_after gt = cond-false _ (Some (here code)) (before code) (is_after span code gt)
 
 abbrev pub both : Option ℕ → Option ℕ → Option ℕ × Option ℕ
 both cid notdef = (cid, notdef)
@@ -47,10 +52,10 @@ module _ (cids notdefs : List CidEntry) (range : Range) (room : IsRoom cids notd
   to_end entries ends = All-weaker (λ e. e.end ≤ range.end) (λ e. e.end < range.end + 1) (λ e before. omega arith) entries ends
 
   no_cid : (code : ℕ) → range.start ≤ code → cid_said cids code ≡ None
-  no_cid code le = ap (option_map (λ e. cid_at e code)) (past_ends cid_span cids range.start code room.cids_end le)
+  no_cid code le = past_ends cid_span cid_at cids range.start code room.cids_end le
 
   no_notdef : (code : ℕ) → range.start ≤ code → notdef_said notdefs code ≡ None
-  no_notdef code le = ap (option_map (λ e. e.cid)) (past_ends cid_span notdefs range.start code room.notdefs_end le)
+  no_notdef code le = past_ends cid_span notdef_at notdefs range.start code room.notdefs_end le
 
   pub none_added : IsAdded cids notdefs range.start (range.end + 1) (λ code. None) cids notdefs
   none_added = record {
@@ -66,7 +71,7 @@ module _ (cids notdefs : List CidEntry) (range : Range) (room : IsRoom cids notd
     here = λ code le within.
         ap (λ c. both (unwrap_or c None) (notdef_said notdefs code)) (now code ∙ with_here range (λ code. Some (cid + (code - range.start))) (cid_said cids) code le (omega arith))
         ∙ ap (both (Some (cid + (code - range.start)))) (no_notdef code le);
-    below = λ code lt. ap (λ c. both (unwrap_or c None) (notdef_said notdefs code)) (now code ∙ with_others range (λ code. Some (cid + (code - range.start))) (cid_said cids) code (λ le within. omega arith));
+    below = λ code lt. ap (λ c. both (unwrap_or c None) (notdef_said notdefs code)) (now code ∙ with_before range (λ code. Some (cid + (code - range.start))) (cid_said cids) code lt);
   }
 
   pub notdefs_added : (cid : ℕ) (new : List CidEntry) → AreTidyNotdefs new → ((code : ℕ) → notdef_said new code ≡ said_with range (λ code. cid) (notdef_said notdefs) code)
@@ -74,7 +79,7 @@ module _ (cids notdefs : List CidEntry) (range : Range) (room : IsRoom cids notd
   notdefs_added cid new tidy now ends = record {
     room = record { tidy_cids = room.tidy_cids; tidy_notdefs = tidy; cids_end = not_yet cids room.cids_end; notdefs_end = to_end new ends };
     here = λ code le within. ap (λ c. both (unwrap_or c None) (notdef_said new code)) (no_cid code le) ∙ ap (both None) (now code ∙ with_here range (λ code. cid) (notdef_said notdefs) code le (omega arith));
-    below = λ code lt. ap (both (cid_listed cids code)) (now code ∙ with_others range (λ code. cid) (notdef_said notdefs) code (λ le within. omega arith));
+    below = λ code lt. ap (both (cid_listed cids code)) (now code ∙ with_before range (λ code. cid) (notdef_said notdefs) code lt);
   }
 
 -- ---- part after part

@@ -12,7 +12,7 @@ use Rattle.cmap_layers.specs.Lookups.{bf_at, bf_span, last_bf}
 use Rattle.cmap_tidy.specs.Tidy.{AreTidyTexts, last_unit, said_with, units_at, units_said}
 use Rattle.cmap_tidy.proofs.TextUnits.{ended, ended_some, parted, shifted-push, shifted_twice}
 use Rattle.cmap_flatten.specs.Parts.{AreTextsAdded, IsTextRoom, text_said}
-use Rattle.cmap_flatten.proofs.ListsAdded.{past_ends, with_here, with_others}
+use Rattle.cmap_flatten.proofs.ListsAdded.{past_ends, with_after, with_before, with_here}
 
 -- ---- the text that units spell, where they are said
 abbrev pub spelled : Option (Option (List ℕ)) → Option (List ℕ)
@@ -50,7 +50,7 @@ stay_none (u ∷ us) offset more none =
 -- ---- one more declaration
 module _ (texts : List BfEntry) (range : Range) (room : IsTextRoom texts range.start) (filled : range.start ≤ range.end) where
   no_units : (code : ℕ) → range.start ≤ code → units_said texts code ≡ None
-  no_units code le = ap (option_map (λ e. units_at e code)) (past_ends bf_span texts range.start code room.ends le)
+  no_units code le = past_ends bf_span units_at texts range.start code room.ends le
 
   pub no_text : (code : ℕ) → range.start ≤ code → text_said texts code ≡ None
   no_text code le = text_spelled texts code ∙ ap spelled (no_units code le)
@@ -71,12 +71,12 @@ module _ (texts : List BfEntry) (range : Range) (room : IsTextRoom texts range.s
         room = record { tidy = tidy; ends = All-weaker (λ e. e.end ≤ end) (λ e. e.end < range.end + 1) (λ e before. omega arith) new ends };
         here = λ code le upto.
             elim (cases_lt end code) [
-              | inl after ↦ text_spelled new code ∙ ap spelled (now code ∙ with_others part (λ code. shifted units (code - range.start)) (units_said texts) code (λ le in_part. omega arith) ∙ no_units code le)
+              | inl after ↦ text_spelled new code ∙ ap spelled (now code ∙ with_after part (λ code. shifted units (code - range.start)) (units_said texts) code after ∙ no_units code le)
                   ∙ sym (ap (option_and_then characters) (passed units (code - range.start) some (past code after (omega arith))))
               | inr here ↦ text_spelled new code ∙ ap spelled (now code ∙ with_here part (λ code. shifted units (code - range.start)) (units_said texts) code le here)
             ];
         below = λ code lt.
-            text_spelled new code ∙ ap spelled (now code ∙ with_others part (λ code. shifted units (code - range.start)) (units_said texts) code (λ le in_part. omega arith)) ∙ sym (text_spelled texts code);
+            text_spelled new code ∙ ap spelled (now code ∙ with_before part (λ code. shifted units (code - range.start)) (units_said texts) code lt) ∙ sym (text_spelled texts code);
       }
 
 -- ---- part after part

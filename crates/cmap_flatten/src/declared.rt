@@ -2,6 +2,7 @@
 
 ghost use Rattle.std.specs.Prelude.{◌≡◌, ◌-◌, ◌≤◌, IfSome, Some, option_map};
 ghost use Rattle.std.specs.Option.{option_copied};
+ghost use Rattle.cmap_runs.specs.Stretches.{IsStretch};
 ghost use Rattle.cmap_values.specs.CodeLengths.{length_of};
 ghost use Rattle.cmap_values.specs.DeclarationsSeen.{cid_entry_seen};
 ghost use Rattle.cmap_layers.specs.LayersSeen.{layer_seen};
@@ -9,10 +10,10 @@ ghost use Rattle.cmap_layers.specs.declared.stretches.Cids.TheVariants.{Same};
 ghost use Rattle.cmap_flatten.specs.Kinds.{given_at, given_in};
 ghost use Rattle.cmap_flatten.specs.Parts.{Decides, Fits, IsDeclaredStretch};
 
-use crate::stretch::stretch_of;
 use cmap_layers::layer::Layer;
 use cmap_layers::layers::Layers;
 use cmap_layers::stretches::{CidStretch, Cids};
+use cmap_runs::runs::{HasRange, Looks, Stretch, Table};
 use cmap_values::code_length::CodeLength;
 use cmap_values::declarations::CidRange;
 
@@ -59,6 +60,20 @@ fn stretch_in(layer: &Layer, first: u32, len: CodeLength) -> LayerStretch
     LayerStretch {
         cids: same_cid(notdefs.declaration),
         last: cids.last.min(notdefs.last),
+    }
+}
+
+/// The codes of a table from `first` on.
+fn stretch_of<T: HasRange>(table: &Table<T>, first: u32) -> Stretch<'_, T>
+    ensures within { first ≤ result.last }
+    ensures same { IsStretch T.span table.now first result.last (option_copied result.declaration) }
+    ensures start { IfSome result.declaration
+        (λ declaration. (T.span declaration.now).start ≤ first) }
+{
+    let mut looks = Looks::new();
+    match table.stretches(first, &mut looks).next(&mut looks) {
+        Some(stretch) => stretch,
+        None => unreachable!(),
     }
 }
 

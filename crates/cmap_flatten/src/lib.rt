@@ -6,7 +6,6 @@ mod cids;
 mod codes;
 mod declared;
 mod lists;
-mod stretch;
 mod subsets;
 mod texts;
 
