@@ -156,6 +156,14 @@ module _ (font : Font) where
         ];
   }
 
+  -- codes that aren't whole
+  pub not_whole : (len limit more : ℕ) (index : Index) → limit ≤ more → ((bytes : List ℕ) → length bytes ≡ len → limit ≤ big_endian bytes → big_endian bytes < more → IsWhole font.encoding bytes → ⊥) → IsIndexed font len limit index → IsIndexed font len more index
+  not_whole len limit more index le none = index_wider len limit len more index (λ bytes. before_more len limit more bytes le) (λ text bytes are. new bytes text)
+    where
+      new : (bytes text : List ℕ) → IsBefore len more bytes → IsCodeOf font text bytes → IsBefore len limit bytes
+      new bytes text (inl shorter) is = inl shorter
+      new bytes text (inr (long, less)) is = elim (cases_lt (big_endian bytes) limit) [ inl before ↦ inr (long, before) | inr from ↦ absurd (none bytes long from less is.whole) ]
+
   -- codes whose text has a code already
   pub repeated : (len limit more : ℕ) (index : Index) → limit ≤ more → ((text bytes : List ℕ) → IsString bytes → length bytes ≡ len → limit ≤ big_endian bytes → big_endian bytes < more → IsCodeOf font text bytes → (found_in index text ≡ None → ⊥))
       → IsIndexed font len limit index → IsIndexed font len more index

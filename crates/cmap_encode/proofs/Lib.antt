@@ -7,3 +7,4 @@ pub mod Lookup
 pub mod WaysFound
 pub mod WaysFollowed
 pub mod FrontsShown
+pub mod CodesOutside

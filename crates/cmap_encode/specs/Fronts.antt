@@ -1,5 +1,5 @@
 -- Private aid: which fronts of a text strings show.
-use Rattle.std.specs.Prelude.{◌↔◌, ℕ, ◌-◌, ◌<◌, ◌≤◌, Bool, IsTrue, List, drop, get_or, length, take}
+use Rattle.std.specs.Prelude.{◌↔◌, ℕ, ◌-◌, ◌<◌, Bool, IsTrue, List, drop, get_or, length, take}
 use Rattle.cmap_unicode.specs.TextsOfCodes.{Font}
 use Rattle.cmap_encode.specs.Codes.{IsCodeOf}
 use Rattle.cmap_encode.specs.Encodings.{HasEncoding, IsString}

@@ -10,6 +10,7 @@ ghost use Rattle.cmap_encode.specs.Codes.{code_bytes};
 ghost use Rattle.cmap_encode.specs.IndexSeen.{IsIndexOf, IsIndexed, found_in};
 
 use crate::code::Code;
+use crate::outside::outside_until;
 use cmap_tokens::utf16::BfString;
 use cmap_unicode::Extractor;
 use cmap_values::code_length::CodeLength;
@@ -85,7 +86,7 @@ impl Index {
             return Ok(u64::from(row.last) + 1);
         };
         if code.whole(font.encoding).is_none() {
-            return Ok(u64::from(code.number) + 1);
+            return Ok(u64::from(outside_until(font.encoding, code)) + 1);
         }
         let characters = characters(alloc, text)?;
         self.add_first(characters, code)?;

@@ -5,6 +5,7 @@ mod code;
 mod encoder;
 mod fronts;
 mod index;
+mod outside;
 mod ways;
 
 pub use encoder::{Encoder, Unencodable};

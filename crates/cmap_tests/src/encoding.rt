@@ -10,10 +10,10 @@ use std::alloc::Global;
 /// Some codes of the CMap 90ms-RKSJ-H.
 const ENCODING: &[u8] =
     b"begincodespacerange <00> <80> <8140> <9FFC> <A0> <DF> <E040> <FCFC> endcodespacerange
-begincidrange <20> <7E> 231 <8CEA> <8CEA> 1952 <93FA> <93FA> 3284 <967B> <967B> 3722 endcidrange";
+begincidrange <41> <5A> 264 <8CEA> <8CEA> 1952 <93FA> <93FA> 3284 <967B> <967B> 3722 endcidrange";
 
 /// The texts of their CIDs in Adobe-Japan1-UCS2.
-const COLLECTION: &[u8] = b"beginbfrange <00E7> <0145> <0020> endbfrange
+const COLLECTION: &[u8] = b"beginbfrange <0108> <0121> <0041> endbfrange
 beginbfchar <07A0> <8A9E> <0CD4> <65E5> <0E8A> <672C> endbfchar";
 
 /// Texts of two characters that overlap, a text with a shorter and a longer code, and one with two codes.

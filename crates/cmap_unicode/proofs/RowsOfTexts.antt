@@ -2,8 +2,7 @@
 use Rattle.std.proofs.Common.{◌≡◌, ℕ, ◌+◌, ◌-◌, ◌≤◌, List, Option, Some, None, refl, sym, ap, ◌∙◌, arith}
 use Rattle.std.specs.Prelude.{option_and_then, option_map, if◌then◌else◌}
 use Rattle.std.specs.Option.{option_or}
-use Rattle.cmap_tokens.specs.Texts.{Text, one, more, text_of_characters}
-use Rattle.cmap_tokens.specs.TextSeen.{text_seen}
+use Rattle.cmap_tokens.specs.Texts.{Text}
 use Rattle.cmap_layers.specs.CodeStretches.{cid_after}
 use Rattle.cmap_layers.specs.Layers.{Layer}
 use Rattle.cmap_layers.specs.declared.stretches.Cids.{Cids}

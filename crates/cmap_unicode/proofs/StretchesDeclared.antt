@@ -1,5 +1,5 @@
 -- The CIDs that layers declare for codes in a row.
-use Rattle.std.proofs.Common.{◌≡◌, ℕ, List, ◌∷◌, Option, Some, None, refl, ap, map, ◌∙◌}
+use Rattle.std.proofs.Common.{◌≡◌, ℕ, List, ◌∷◌, Option, Some, None, refl, map, ◌∙◌}
 use Rattle.std.specs.Prelude.{option_map, unwrap_or}
 use Rattle.cmap_values.specs.DeclarationsSeen.{cid_entry_seen}
 use Rattle.cmap_values.specs.Files.{CidEntry, of_length}

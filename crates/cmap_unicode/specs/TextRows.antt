@@ -1,6 +1,5 @@
 -- Codes in a row, by what the first of them has.
-use Rattle.std.specs.Prelude.{◌≡◌, ℕ, ◌+◌, ◌-◌, ◌≤◌, List, Option, Some, IsSomeAnd, option_and_then, option_map, if◌then◌else◌}
-use Rattle.std.specs.Option.{option_or}
+use Rattle.std.specs.Prelude.{◌≡◌, ℕ, ◌+◌, ◌-◌, ◌≤◌, List, Option, option_and_then, option_map, if◌then◌else◌}
 use Rattle.cmap_tokens.specs.Texts.{Text}
 use Rattle.cmap_tokens.specs.TextSeen.{text_seen}
 use Rattle.cmap_layers.specs.CodeStretches.{cid_after}

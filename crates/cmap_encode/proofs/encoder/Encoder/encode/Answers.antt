@@ -1,8 +1,6 @@
-use Rattle.std.proofs.Common.{◌≡◌, List, ℕ, length, sym, ap, ◌∙◌, subst}
+use Rattle.std.proofs.Common.{length, sym, ap, ◌∙◌, subst}
 use Rattle.std.specs.Str.{chars}
-use Rattle.cmap_unicode.specs.TextsOfCodes.{Font}
 use Rattle.cmap_values.specs.Outcomes.{RefusesWith}
-use Rattle.cmap_encode.specs.EncoderSeen.{IsEncoderOf}
 use Rattle.cmap_encode.specs.Encodings.{HasNoEncoding, IsStuckAt}
 use Rattle.cmap_encode.specs.Ways.{AreWays}
 use Rattle.cmap_encode.proofs.encoder.Encoder.encode.Goals as goal

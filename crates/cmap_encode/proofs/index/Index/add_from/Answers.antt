@@ -5,8 +5,9 @@ use Rattle.std.specs.Str.{bytes_eq}
 use Rattle.cmap_tokens.specs.TextSeen.{text_seen}
 use Rattle.cmap_values.specs.CodeLengths.{length_of}
 use Rattle.cmap_unicode.specs.Characters.{characters_of, font_of}
-use Rattle.cmap_encode.specs.Codes.{IsCodeOf, IsWhole, code_bytes}
-use Rattle.cmap_encode.specs.IndexSeen.{IsIndexed, found_in}
+use Rattle.cmap_encode.specs.Codes.{code_bytes}
+use Rattle.cmap_encode.specs.IndexSeen.{found_in}
+use Rattle.cmap_encode.proofs.CodesOutside.{passed_outside}
 use Rattle.cmap_encode.proofs.FirstCodes.{added, next_of_row, none_there, one_there, passed_over, row_code, row_silent, silent}
 use Rattle.cmap_encode.proofs.Numbers.{are_bytes_of, fits_length}
 use Rattle.cmap_encode.proofs.index.Index.add_from.Goals as goal
@@ -21,7 +22,8 @@ pub returns-then-is_none-clause-index : goal.returns-then-is_none-clause-index
 returns-then-is_none-clause-index c =
     let font = font_of c.args.font.now in let code = c.args.code in
     let outside = none_there c.whole.result _ _ (c.is_none.ensures ∙ ap not c.if-is_none.true) c.whole.ensures in
-    rw c.from-then-is_none.ensures (passed_over font (length_of code.len) code.number c.args.self.now (code_bytes code) (fits_length code.len) (are_bytes_of code.len code.number c.requires.fits) (λ text is. outside is.whole) c.requires.before)
+    let passed = passed_over font (length_of code.len) code.number c.args.self.now (code_bytes code) (fits_length code.len) (are_bytes_of code.len code.number c.requires.fits) (λ text is. outside is.whole) c.requires.before in
+    rw c.from-then-is_none.ensures (passed_outside font (length_of code.len) code.number c.outside_until.result c.args.self.now c.outside_until.ensures.within c.outside_until.ensures.outside passed)
 
 pub returns-clause-index : goal.returns-clause-index
 returns-clause-index c =
