@@ -54,15 +54,22 @@ def strict_file(kind, base, files, bundle, budget):
 
 def salvaged(kind, data, base, files=NO_FILES, bundle=None, budget=None):
     """The map of a file over a base, read past the faults of both, and these."""
-    file, faults = base, []
-    if not isinstance(base, kind):
-        file, faults = kind.salvage(base, files, bundle, budget)
-    given = Base(file.write())
+    file, faults = salvaged_file(kind, base, files, bundle, budget)
+    given = Base(file)
     cmap, own = kind.salvage(data, given, bundle, budget)
     if not given.is_used:
         whole = over_base(cmap, bytes_of(data), bundle)
         cmap, _ = kind.salvage(whole, given, bundle, None if budget is None else budget + len(USE))
     return cmap, own + [below(fault) for fault in faults]
+
+
+def salvaged_file(kind, base, files, bundle, budget):
+    """The base as one file that uses no other, read past its faults, and these."""
+    if isinstance(base, kind):
+        return base.write(), []
+    cmap, faults = kind.salvage(base, files, bundle, budget)
+    is_alone = not faults and uses_none(bytes_of(base), bundle)
+    return bytes_of(base) if is_alone else cmap.write(), faults
 
 
 def below(fault):

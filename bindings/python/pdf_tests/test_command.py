@@ -22,11 +22,6 @@ from hayro_cmap.pdf import _commands, _many
 
 from made import AT_FAULT, BAD, GOOD, File, showing
 
-try:
-    import distributed
-except ImportError:
-    distributed = None
-
 
 def ends_its_process(path, *arguments, **options):
     """What a command does where a file makes the reader break off."""
@@ -241,40 +236,6 @@ class Many(Folder):
         with mock.patch.object(_commands.pikepdf, "open", lambda path: bytearray(1 << 30)):
             [result] = _many.by_processes([str(self.path("good.pdf"))], "check", {}, jobs=1, memory=1 << 29)
         self.assertEqual((result.status, result.fault), (2, "it can't be read: it takes too much memory"))
-
-
-@unittest.skipUnless(distributed, "Debian's package python3-distributed isn't installed")
-class Cluster(Folder):
-    """Two workers on this machine."""
-
-    @classmethod
-    def setUpClass(cls):
-        folder = tempfile.TemporaryDirectory()
-        cls.addClassCleanup(folder.cleanup)
-        options = {"dashboard_address": None, "local_directory": folder.name, "silence_logs": 50}
-        cls.cluster = distributed.LocalCluster(n_workers=2, threads_per_worker=1, **options)
-        cls.addClassCleanup(cls.cluster.close)
-
-    def test_the_same_as_on_one_machine(self):
-        names = ["good.pdf", "bad.pdf", "none.pdf"]
-        here = self.command("check", "--json", *names)
-        there = self.command("check", "--json", "--dask", self.cluster.scheduler_address, *names)
-        self.assertEqual((there[0], sorted(there[1].splitlines())), (here[0], sorted(here[1].splitlines())))
-        self.assertEqual(there[2].splitlines()[-1], here[2].splitlines()[-1])
-
-    def test_a_worker_that_dies(self):
-        """Its files are read by another one."""
-        paths = [self.path(f"{number}.pdf") for number in range(40)]
-        for path in paths:
-            showing(b"AB", GOOD).saved(path)
-        names = [path.name for path in paths]
-        worker = next(iter(self.cluster.workers.values()))
-        found = _many.by_dask([str(path) for path in paths], "check", {}, self.cluster.scheduler_address)
-        results = [next(found)]
-        os.kill(worker.pid, signal.SIGKILL)
-        results += found
-        self.assertEqual(sorted(Path(it.path).name for it in results), sorted(names))
-        self.assertEqual({it.status for it in results}, {0})
 
 
 if __name__ == "__main__":
