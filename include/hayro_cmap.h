@@ -50,6 +50,9 @@ extern "C" {
 
 /* The version of this header. That of the library: hayro_cmap_version. */
 #define HAYRO_CMAP_VERSION "1.0.0"
+#define HAYRO_CMAP_VERSION_MAJOR 1
+#define HAYRO_CMAP_VERSION_MINOR 0
+#define HAYRO_CMAP_VERSION_PATCH 0
 
 /* A map, or none. */
 typedef struct hayro_cmap {

@@ -137,8 +137,15 @@ public:
     Bytes(const void *data, std::size_t size) noexcept : data_(data), size_(size) {}
     Bytes(std::string_view text) noexcept : Bytes(text.data(), text.size()) {}
     Bytes(const std::string &text) noexcept : Bytes(text.data(), text.size()) {}
+    // A literal, or another array that doesn't change, by its length without a zero byte at its end.
+    template <std::size_t Count>
+    Bytes(const char (&text)[Count]) noexcept
+        : Bytes(text, text[Count - 1] == '\0' ? Count - 1 : Count) {}
     // Up to the first zero byte.
-    Bytes(const char *text) noexcept : Bytes(std::string_view(text)) {}
+    template <std::size_t Count> Bytes(char (&text)[Count]) noexcept : Bytes(std::string_view(text)) {}
+    template <class Text, std::enable_if_t<std::is_same_v<Text, const char *> ||
+                                               std::is_same_v<Text, char *>, int> = 0>
+    Bytes(const Text &text) noexcept : Bytes(std::string_view(text)) {}
     template <std::size_t Count>
     Bytes(const std::uint8_t (&bytes)[Count]) noexcept : Bytes(bytes, Count) {}
     template <class Container,
@@ -343,6 +350,7 @@ private:
     std::vector<std::string> names_;
 };
 
+class Layers;
 class Result;
 struct Salvaged;
 
@@ -504,9 +512,9 @@ public:
         return detail::mode_of(hayro_cmap_writing_mode(handle()));
     }
 
-    // How many layers the map has: the file's own is layer 0, then that of the file that it is based
-    // on, and so on.
-    std::size_t layers() noexcept { return hayro_cmap_layers(handle()); }
+    // The layers: the file's own is layer 0, then that of the file that it is based on, and so on. It is a
+    // view, and also a number: how many there are.
+    Layers layers() noexcept;
 
     // What the file of a layer says of itself.
     Metadata metadata(std::size_t layer = 0) {
@@ -579,6 +587,68 @@ private:
 
     detail::Owned<hayro_cmap, hayro_cmap_free> handle_;
 };
+
+// What one file of a map gives. It asks the map, and owns nothing.
+class Layer {
+public:
+    Layer(Map &map, std::size_t index) noexcept : map_(&map), index_(index) {}
+
+    Metadata metadata() const { return map_->metadata(index_); }
+    std::vector<Codespace> codespaces() const { return map_->codespaces(index_); }
+    std::vector<CidRange> cid_ranges(std::uint8_t byte_len) const {
+        return map_->cid_ranges(byte_len, index_);
+    }
+    std::vector<CidRange> notdef_ranges(std::uint8_t byte_len) const {
+        return map_->notdef_ranges(byte_len, index_);
+    }
+    std::vector<TextRange> text_ranges() const { return map_->text_ranges(index_); }
+
+private:
+    Map *map_;
+    std::size_t index_;
+};
+
+// The layers of a map, which has to stay.
+class Layers {
+public:
+    explicit Layers(Map &map) noexcept : map_(&map), size_(hayro_cmap_layers(map.handle())) {}
+
+    class iterator {
+    public:
+        using iterator_category = std::input_iterator_tag;
+        using value_type = Layer;
+        using difference_type = std::ptrdiff_t;
+        using pointer = void;
+        using reference = Layer;
+
+        iterator(Map &map, std::size_t index) noexcept : map_(&map), index_(index) {}
+        Layer operator*() const noexcept { return {*map_, index_}; }
+        iterator &operator++() noexcept {
+            ++index_;
+            return *this;
+        }
+        iterator operator++(int) noexcept { return {*map_, index_++}; }
+        bool operator==(const iterator &other) const noexcept { return index_ == other.index_; }
+        bool operator!=(const iterator &other) const noexcept { return index_ != other.index_; }
+
+    private:
+        Map *map_;
+        std::size_t index_;
+    };
+
+    iterator begin() const noexcept { return {*map_, 0}; }
+    iterator end() const noexcept { return {*map_, size_}; }
+    Layer operator[](std::size_t index) const noexcept { return {*map_, index}; }
+    std::size_t size() const noexcept { return size_; }
+    bool empty() const noexcept { return size_ == 0; }
+    operator std::size_t() const noexcept { return size_; }
+
+private:
+    Map *map_;
+    std::size_t size_;
+};
+
+inline Layers Map::layers() noexcept { return Layers(*this); }
 
 // The text of a CMap file of these declarations, in the fewest that give each code the same, and of what it
 // says of itself; a registry without an ordering is left out, as is an ordering without a registry. Nothing where

@@ -161,6 +161,32 @@ static hayro::Map map_of(const std::string &file) {
     return map ? *std::move(map) : hayro::Map();
 }
 
+static void bytes_have_their_lengths() {
+    auto map = hayro::Map::identity(hayro::WritingMode::horizontal);
+    CHECK(map.decode("\x00\x41").size() == 1 && same(map.decode("\x00\x41")[0], 0x41, 2, 0x41u, true, false));
+    CHECK(map.decode("").empty() && map.decode({}).empty());
+    static const char bare[] = {0x30, 0x42, 0, 0x41};
+    CHECK(map.decode(bare).size() == 2 && same(map.decode(bare)[1], 0x41, 2, 0x41u, true, false));
+    char room[8] = "0B";
+    const char *text = room;
+    char *changing = room;
+    CHECK(map.decode(room).size() == 1 && map.decode(text).size() == 1 && map.decode(changing).size() == 1);
+}
+
+static void layers_are_a_view() {
+    auto base = "/CMapName /Base begincodespacerange <00> <80> endcodespacerange begincidchar <01> 1 endcidchar"s;
+    auto map = hayro::Map::parse("/CMapName /Top /Base usecmap beginbfchar <02> <0041> endbfchar", {{"Base", base}});
+    CHECK(map && map->layers().size() == 2 && map->layers() == 2u && !map->layers().empty());
+    Names names;
+    for (const auto &layer : map->layers()) names.push_back(layer.metadata().name.value_or("-"));
+    CHECK(names == (Names{"Top", "Base"}));
+    auto below = map->layers()[1];
+    CHECK(below.codespaces().size() == 1 && below.cid_ranges(1).size() == 1 && below.text_ranges().empty());
+    CHECK(map->layers()[0].text_ranges().size() == 1 && map->layers()[0].notdef_ranges(1).empty());
+    hayro::Map none;
+    CHECK(none.layers().begin() == none.layers().end());
+}
+
 static void strings_have_texts() {
     auto encoding = "begincodespacerange <00> <7F> endcodespacerange begincidrange <41> <43> 7 endcidrange"s;
     auto to_unicode = "beginbfchar <41> <00660066> <42> <D800> endbfchar"s;
@@ -381,6 +407,8 @@ int main() {
     files_are_read_past_their_faults();
     strings_are_cut();
     strings_have_texts();
+    bytes_have_their_lengths();
+    layers_are_a_view();
     layers_declare_cids_and_texts();
     many_declarations_are_whole();
     files_speak_of_themselves();
