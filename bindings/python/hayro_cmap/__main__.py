@@ -36,8 +36,8 @@ def read(path):
 
 
 def map_of(file, **over):
-    """The map of a path, or of a name."""
-    return CMap.parse(read(file), **over) if os.path.isfile(file) else CMap.open(file, **over)
+    """The map of a path, or of a name, which has no slash."""
+    return CMap.parse(read(file), **over) if os.path.isfile(file) or b"/" in file else CMap.open(file, **over)
 
 
 def files_of(folders, bundle):
@@ -51,16 +51,12 @@ def files_of(folders, bundle):
     return file_of
 
 
-def texts_of(cmap, over):
-    """The map of CIDs to texts of the collection of the first layer that gives one, or None."""
-    for layer in cmap.layers:
-        it = layer.metadata
-        if it.registry is not None and it.ordering is not None:
-            try:
-                return CMap.open(b"%b-%b-UCS2" % (it.registry, it.ordering), **over)
-            except Refused:
-                return None
-    return None
+def texts_of(cmap, files, bundle):
+    """The map of CIDs to texts of the collection; None where there is none, or it is refused."""
+    try:
+        return cmap.collection(files, bundle)
+    except Refused:
+        return None
 
 
 def shown(text):
@@ -93,7 +89,7 @@ def main():
         bundle = None if it.bundle is None else Bundle.open(read(it.bundle))
         over = {"files": files_of(it.base, bundle), "bundle": bundle, "budget": it.budget}
         with map_of(it.file, **over) as cmap:
-            texts = texts_of(cmap, over)
+            texts = texts_of(cmap, over["files"], bundle)
             for string in it.strings:
                 print_string(cmap, texts, string)
     except Refused as fault:

@@ -16,6 +16,7 @@ class Bundle(Owned):
     """
 
     _what = "the bundle"
+    _made_by = "Bundle.open"
     _free = staticmethod(library.hayro_cmap_bundle_free)
     _share = staticmethod(library.hayro_cmap_bundle_share)
 

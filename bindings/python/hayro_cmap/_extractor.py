@@ -10,6 +10,10 @@ from ._owned import checked, library
 from ._values import Buffer, bytes_of
 
 
+#: The file of a map whose codes are bytes.
+SINGLE_BYTES = b"1 begincodespacerange <00> <FF> endcodespacerange"
+
+
 class Character(NamedTuple):
     """A code of a string of a font."""
 
@@ -22,16 +26,16 @@ class Character(NamedTuple):
 class Extractor:
     """The maps of a font, by which the texts of its strings are found (ISO 32000-1, 9.10.2).
 
-    `encoding` is the font's CMap, `to_unicode` its ToUnicode CMap, and `collection` a map from the CIDs of its character
-    collection to Unicode, as Adobe-Japan1-UCS2. The maps are shared, so that they may be closed or used elsewhere; they
+    `encoding` is the font's CMap, or None of a simple font, whose codes are bytes. `to_unicode` is its ToUnicode CMap,
+    and `collection` a map from the CIDs of its character collection to Unicode, as Adobe-Japan1-UCS2: `collection()` of
+    the encoding finds it. The maps are shared, so that they may be closed or used elsewhere; they
     are freed by `close`, by `with`, or with the last reference. Several threads may use one extractor, one at a time.
     """
 
-    def __init__(self, encoding: CMap, to_unicode: Optional[CMap] = None, collection: Optional[CMap] = None):
-        if encoding is None:
-            raise ValueError("the CMap of the encoding is None")
-        maps = [encoding, to_unicode, collection]
-        self._maps = [CMap(Handle()) if cmap is None else cmap.share() for cmap in maps]
+    def __init__(self, encoding: Optional[CMap], to_unicode: Optional[CMap] = None, collection: Optional[CMap] = None):
+        first = CMap.parse(SINGLE_BYTES) if encoding is None else encoding.share()
+        others = [CMap(Handle()) if cmap is None else cmap.share() for cmap in (to_unicode, collection)]
+        self._maps = [first, *others]
 
     def characters(self, string: Buffer) -> List[Character]:
         """The codes of a string, one after another, each with its CID and its text.
@@ -53,6 +57,10 @@ class Extractor:
                 if status == NO_ROOM:
                     text = create_string_buffer(2 * len(text))
         return found
+
+    def text(self, string: Buffer, missing: str = "\N{REPLACEMENT CHARACTER}") -> str:
+        """The text of a string, with `missing` for each code that has none."""
+        return "".join(missing if it.text is None else it.text for it in self.characters(string))
 
     def close(self):
         """Frees the maps, unless others share them. Each later use is a ValueError, but for a second `close`."""

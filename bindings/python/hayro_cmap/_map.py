@@ -2,12 +2,13 @@
 
 import enum
 import functools
+import os
 import struct
 from ctypes import c_int32, c_size_t, c_uint16, c_uint32, string_at
 from typing import Iterable, List, NamedTuple, Optional, Tuple, Union
 
 from ._bundle import Bundle, held
-from ._faults import NotWritable, Refused
+from ._faults import Cause, NotWritable, Refused
 from ._library import (
     ABSENT,
     NO_MODE,
@@ -178,6 +179,7 @@ class CMap(Owned):
     """
 
     _what = "the map"
+    _made_by = "CMap.parse, CMap.open or CMap.identity"
     _free = staticmethod(library.hayro_cmap_free)
     _share = staticmethod(library.hayro_cmap_share)
 
@@ -217,7 +219,7 @@ class CMap(Owned):
     @classmethod
     def open(
         cls,
-        name: Name,
+        name: Union[Name, "os.PathLike"],
         files: Optional[Files] = None,
         bundle: Optional[Bundle] = None,
         budget: Optional[int] = None,
@@ -226,9 +228,14 @@ class CMap(Owned):
 
         Where neither has one, Identity-H and Identity-V are made, and any other name is Refused. Without `files` the
         system's predefined CMaps serve for names that the bundle doesn't have, as `predefined` finds them.
+
+        A path, as a pathlib.Path, stands for its file: OSError where that can't be read.
         """
-        name, most = name_of(name), budget_of(budget)
         files = beside(bundle) if files is None else files
+        if isinstance(name, os.PathLike):
+            with open(name, "rb") as opened:
+                return cls.parse(opened.read(), files, bundle, budget)
+        name, most = name_of(name), budget_of(budget)
         files = functools.lru_cache(maxsize=None)(files) if callable(files) else gathered(files)
         file = files(name) if callable(files) else files.get(name)
         if file is None and bundle is not None:
@@ -314,10 +321,25 @@ class CMap(Owned):
             raise NotWritable("no one CMap file answers as the map does")
         return text
 
+    def collection(self, files: Optional[Files] = None, bundle: Optional[Bundle] = None) -> Optional["CMap"]:
+        """The map from the CIDs of the character collection to Unicode, as Adobe-Japan1-UCS2 (ISO 32000-1, 9.10.2), by
+        the first layer that gives a collection. None where no layer does, or no file has the name; the parameters are
+        those of `open`."""
+        for layer in self.layers:
+            it = layer.metadata
+            if it.registry is not None and it.ordering is not None:
+                return opened_or_none(b"%b-%b-UCS2" % (it.registry, it.ordering), files, bundle)
+        return None
+
     @property
     def metadata(self) -> Metadata:
         """What the file says of itself: that of layer 0."""
         return self._metadata(0)
+
+    def __repr__(self) -> str:
+        if self._handle is None:
+            return "<CMap, closed>"
+        return f"<CMap {self.metadata.name!r}, layers: {self._ask(library.hayro_cmap_layers)}>"
 
     @property
     def layers(self) -> List[Layer]:
@@ -353,6 +375,16 @@ class CMap(Owned):
             room = (kind * needed.value)()
             status = checked(self._ask(call, *arguments, room, len(room), needed))
         return room[: needed.value] if status == OK else []
+
+
+def opened_or_none(name, files, bundle):
+    """The map of the file of a name; None where there is no such file."""
+    try:
+        return CMap.open(name, files, bundle)
+    except Refused as refused:
+        if refused.cause == Cause.NO_FILE and refused.names == (name,):
+            return None
+        raise
 
 
 def chosen(codes):

@@ -29,10 +29,13 @@ class Owned:
     """A handle of the library, which one call at a time uses, and which is freed once."""
 
     _what = "the handle"
+    _made_by = ""
     _free = None
     _share = None
 
-    def __init__(self, handle):
+    def __init__(self, handle: Handle):
+        if not isinstance(handle, Handle):
+            raise TypeError(f"{self._what} is made by {self._made_by}")
         self._handle = handle
         # A handler of signals runs in the thread that it interrupts, which would wait for itself at a plain lock.
         self._lock = threading.RLock()

@@ -55,7 +55,8 @@ class Command(unittest.TestCase):
         self.assertTrue(ran.stderr.endswith("Broken: byte 27: a CID was expected\n"), ran.stderr)
 
     def test_wrong_arguments(self):
-        for words in [["Identity-H", "4"], ["Identity-H"], ["--base", str(self.folder / "none"), "Identity-H", "41"]]:
+        no_folder, folder = str(self.folder / "none"), str(self.folder)
+        for words in [["Identity-H", "4"], ["Identity-H"], ["--base", no_folder, "Identity-H", "41"], [folder, "41"]]:
             ran = self.decode(*words)
             self.assertEqual((ran.returncode, ran.stdout), (2, ""), ran.stderr)
             self.assertNotIn("Traceback", ran.stderr)
@@ -65,6 +66,17 @@ class Command(unittest.TestCase):
         ran = self.decode("--base", str(RESOURCES), "90ms-RKSJ-H", "93FA967B8CEA")
         lines = ['<93FA>            3284  "日"', '<967B>            3722  "本"', '<8CEA>            1952  "語"']
         self.assertEqual((ran.returncode, ran.stdout.splitlines()), (0, lines), ran.stderr)
+
+
+class Constructors(unittest.TestCase):
+    """Maps and bundles are made by class methods, and a call of the class says by which."""
+
+    def test_word(self):
+        for made, word in [("CMap('x')", "CMap.parse, CMap.open"), ("Bundle(b'x')", "Bundle.open")]:
+            ran = run("-c", f"import hayro_cmap; hayro_cmap.{made}")
+            self.assertEqual(ran.returncode, 1)
+            self.assertIn(f"is made by {word}", ran.stderr)
+            self.assertNotIn("Exception ignored", ran.stderr)
 
 
 class Library(unittest.TestCase):

@@ -1,11 +1,24 @@
 """What maps answer."""
 
+import tempfile
 import unittest
+from pathlib import Path
 
 import hayro_cmap
-from hayro_cmap import CidRange, CMap, Code, CodeRange, Codespace, Extractor, Metadata, TextRange, WritingMode
+from hayro_cmap import (
+    CidRange,
+    CMap,
+    Code,
+    CodeRange,
+    Codespace,
+    Extractor,
+    Metadata,
+    Refused,
+    TextRange,
+    WritingMode,
+)
 
-from .files import RESOURCES, SMALL, SMALL_V, known_files, needs_resources, predefined, uses
+from .files import BROKEN, RESOURCES, SMALL, SMALL_V, known_files, needs_resources, predefined, uses
 
 
 class Lookups(unittest.TestCase):
@@ -75,6 +88,41 @@ class Lookups(unittest.TestCase):
             self.assertEqual(font.characters(b""), [])
         self.assertRaises(ValueError, font.characters, b"A")
 
+    def test_text(self):
+        with CMap.parse(b"beginbfchar <41> <00660066> endbfchar") as codes, Extractor(self.cmap, codes) as font:
+            self.assertEqual([font.text(b"AB"), font.text(b"AB", missing="?"), font.text(b"")], ["ff\uFFFD", "ff?", ""])
+
+    def test_simple_font(self):
+        """A font without a CMap has codes of one byte."""
+        with CMap.parse(b"beginbfchar <41> <0061> <FF> <0062> endbfchar") as codes:
+            with Extractor(None, to_unicode=codes) as font:
+                found = font.characters(b"A\xFF\x00")
+        self.assertEqual([it.text for it in found], ["a", "b", None])
+        self.assertEqual(found[1].code, Code(0xFF, 1, None, True, False))
+
+    def test_collection(self):
+        files = {"Adobe-Japan1-UCS2": b"beginbfchar <0022> <0041> endbfchar"}
+        with self.cmap.collection(files) as texts:
+            self.assertEqual(texts.text(34), "A")
+        self.assertIsNone(self.cmap.collection({}))
+        with CMap.parse(b"") as silent:
+            self.assertIsNone(silent.collection(files))
+        self.assertRaises(Refused, self.cmap.collection, {"Adobe-Japan1-UCS2": BROKEN})
+        self.assertRaises(Refused, self.cmap.collection, {"Adobe-Japan1-UCS2": uses(b"Missing")})
+
+    def test_open_path(self):
+        with tempfile.TemporaryDirectory() as folder:
+            path = Path(folder, "Small-V")
+            path.write_bytes(SMALL_V)
+            with CMap.open(path, {"Small-H": SMALL}) as cmap:
+                self.assertEqual([cmap.cid(0x8141, 2), cmap.cid(0x41, 1)], [7887, 34])
+            self.assertRaises(FileNotFoundError, CMap.open, Path(folder, "None"))
+
+    def test_repr(self):
+        with CMap.parse(SMALL_V, {"Small-H": SMALL}) as cmap:
+            self.assertEqual(repr(cmap), "<CMap b'Small-V', layers: 2>")
+        self.assertEqual(repr(cmap), "<CMap, closed>")
+
     def test_texts_of_many(self):
         long = b"0061" * 5000
         with CMap.parse(b"beginbfchar <41> <" + long + b"> <42> <0062> endbfchar") as codes:
@@ -120,10 +168,6 @@ class Values(unittest.TestCase):
         for first, count in [(0, -1), (0, 2**32 + 1), (2**32 - 1, 2), (0, 2**64)]:
             with self.subTest(first=first, count=count):
                 self.assertRaises(ValueError, self.cmap.cids, first, count, 4)
-
-    def test_extractor_without_an_encoding(self):
-        with CMap.parse(SMALL) as cmap:
-            self.assertRaises(ValueError, Extractor, None, cmap)
 
     def test_budgets_out_of_range(self):
         for budget in [-1, 2**64, 2**64 + 10**6]:
