@@ -143,8 +143,8 @@ public:
         : Bytes(text, text[Count - 1] == '\0' ? Count - 1 : Count) {}
     // Up to the first zero byte.
     template <std::size_t Count> Bytes(char (&text)[Count]) noexcept : Bytes(std::string_view(text)) {}
-    template <class Text, class = std::enable_if_t<std::is_same_v<Text, const char *> ||
-                                                   std::is_same_v<Text, char *>>>
+    template <class Text, std::enable_if_t<std::is_same_v<Text, const char *> ||
+                                               std::is_same_v<Text, char *>, int> = 0>
     Bytes(const Text &text) noexcept : Bytes(std::string_view(text)) {}
     template <std::size_t Count>
     Bytes(const std::uint8_t (&bytes)[Count]) noexcept : Bytes(bytes, Count) {}

@@ -1,5 +1,6 @@
 //! Finds the library `libhayro_cmap.a`, and puts the bundle of predefined CMaps into the crate.
 
+use std::fmt::Display;
 use std::path::{Path, PathBuf};
 use std::process::Command;
 use std::{env, fs};
@@ -87,7 +88,12 @@ fn embed_bundle() -> Result<(), String> {
             copy_bundle(Path::new(&name), &out.join("bundle"))?;
             r#"Some(include_bytes!(concat!(env!("OUT_DIR"), "/bundle")))"#
         }
-        None => "None",
+        None => {
+            if env::var_os("CARGO_FEATURE_EMBED_CMAPS").is_some() {
+                println!("cargo::warning=HAYRO_CMAP_BUNDLE isn't set: no CMap is embedded");
+            }
+            "None"
+        }
     };
     let text = format!("static BYTES: Option<&[u8]> = {value};\n");
     fs::write(out.join("bundle.rs"), text).map_err(|fault| format!("OUT_DIR: {fault}"))
@@ -95,7 +101,26 @@ fn embed_bundle() -> Result<(), String> {
 
 fn copy_bundle(from: &Path, to: &Path) -> Result<(), String> {
     println!("cargo::rerun-if-changed={}", from.display());
-    let told = |fault| format!("HAYRO_CMAP_BUNDLE is {}: {fault}", from.display());
-    let bytes = fs::read(from).map_err(told)?;
-    fs::write(to, bytes).map_err(told)
+    let told = |fault: &dyn Display| format!("HAYRO_CMAP_BUNDLE is {}: {fault}", from.display());
+    let bytes = fs::read(from).map_err(|fault| told(&fault))?;
+    if !has_form_of_bundle(&bytes) {
+        return Err(told(&"no bundle"));
+    }
+    fs::write(to, bytes).map_err(|fault| told(&fault))
+}
+
+/// Whether bytes are those of tables, after their length, and of files: each has its length, with the ten bytes of
+/// its head, after six bytes.
+fn has_form_of_bundle(bytes: &[u8]) -> bool {
+    let Some((len, rest)) = bytes.split_first_chunk() else { return false };
+    let Some(mut rest) = rest.get(u32::from_be_bytes(*len) as usize..) else { return false };
+    while !rest.is_empty() {
+        let Some(&[a, b, c, d]) = rest.get(6..10) else { return false };
+        let len = u32::from_be_bytes([a, b, c, d]) as usize;
+        match rest.get(len..) {
+            Some(after) if len >= 10 => rest = after,
+            _ => return false,
+        }
+    }
+    true
 }

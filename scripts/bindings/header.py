@@ -201,6 +201,8 @@ def test_numbers_are_those_of_the_crates(checks, _setting):
 def test_versions_are_one(checks, setting):
     """That of the header, of crate cmap_c and of the library."""
     checks.same("HAYRO_CMAP_VERSION", re.search(r'HAYRO_CMAP_VERSION "(.*)"', HEADER)[1], VERSION)
+    numbers = [re.search(rf"HAYRO_CMAP_VERSION_{part} (\d+)", HEADER)[1] for part in ("MAJOR", "MINOR", "PATCH")]
+    checks.same("HAYRO_CMAP_VERSION_MAJOR and the others", ".".join(numbers), VERSION)
     checks.same("the version of the crate", re.search(r'put\(b"(.*?)"', source("cmap_c/src/version.rt"))[1], VERSION)
     room, needed = ctypes.create_string_buffer(64), ctypes.c_size_t()
     version = ctypes.CDLL(str(setting.library.shared)).hayro_cmap_version

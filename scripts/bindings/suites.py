@@ -108,6 +108,16 @@ def test_rust_suite(checks, setting):
         check_crate(checks, setting, f"the bundle {files.bundle.name}", HAYRO_CMAP_BUNDLE=str(files.bundle))
 
 
+@needs("cargo")
+def test_rust_bundles(checks, setting):
+    """A bundle that is missing is a warning where the feature asks for one, and one that is invalid an error."""
+    build = ["check", "--features=embed-cmaps"]
+    ran = setting.crate.cargo(*build, **setting.crate.over_library(), HAYRO_CMAP_BUNDLE="")
+    checks.holds("no bundle", ran.status == 0 and "no CMap is embedded" in ran.err, ran)
+    ran = setting.crate.cargo(*build, **setting.crate.over_library(), HAYRO_CMAP_BUNDLE="/etc/passwd")
+    checks.holds("a bundle that is none", ran.status != 0 and "/etc/passwd: no bundle" in ran.err, ran)
+
+
 @needs("cargo", "pkg-config")
 def test_rust_finds_the_library(checks, setting):
     """By pkg-config; and where there is none, cargo says what to do."""

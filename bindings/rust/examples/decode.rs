@@ -67,11 +67,7 @@ fn bytes_of(hex: &str) -> Result<Vec<u8>, Box<dyn Error>> {
 fn line_of(code: &StringCode, text: Option<BfString>) -> String {
     let digits = 2 * usize::from(code.byte_len);
     let cid = code.cid.map_or("none".into(), |cid| cid.to_string());
-    let text = match text {
-        Some(BfString::Char(character)) => format!(" {character}"),
-        Some(BfString::String(text)) => format!(" {text}"),
-        None => String::new(),
-    };
+    let text = text.map_or(String::new(), |text| format!(" {text}"));
     format!("<{:0digits$X}> {cid}{text}", code.code)
 }
 

@@ -6,6 +6,12 @@ use crate::options::{ParseOptions, Salvaged};
 use crate::refusal::Refusal;
 use alloc::vec::Vec;
 
+impl<'a> From<&'a str> for CMapName<'a> {
+    fn from(text: &'a str) -> CMapName<'a> {
+        CMapName::from_bytes(text.as_bytes())
+    }
+}
+
 impl CMap {
     /// Reads a CMap file: a text, or one in binary form where a bundle is in the crate
     /// ([`load_embedded`](crate::load_embedded)).

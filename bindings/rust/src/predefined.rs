@@ -107,13 +107,14 @@ impl CMap {
     /// Identity-H and Identity-V are made, and any other name is `Ok(None)`.
     ///
     /// ```no_run
-    /// use hayro_cmap::{CMap, CMapName};
+    /// use hayro_cmap::CMap;
     ///
-    /// let map = CMap::open_predefined(CMapName::N90msRksjH)?.expect("poppler-data isn't installed");
+    /// let map = CMap::open_predefined("90ms-RKSJ-H")?.expect("poppler-data isn't installed");
     /// assert_eq!(map.lookup_cid_code(0x93FA, 2), Some(3284));
     /// # Ok::<(), hayro_cmap::OpenError>(())
     /// ```
-    pub fn open_predefined(name: CMapName<'_>) -> Result<Option<CMap>, OpenError> {
+    pub fn open_predefined<'n>(name: impl Into<CMapName<'n>>) -> Result<Option<CMap>, OpenError> {
+        let name = name.into();
         let files = files_of(name)?;
         let get_cmap = |name: CMapName<'_>| files.get(name.to_bytes()).map(Vec::as_slice);
         Ok(ParseOptions::new().open(name, get_cmap)?)

@@ -2,13 +2,13 @@
 
 use crate::ffi::Fault;
 use crate::reason::{Cause, Reason, Segment};
-use std::fmt::{self, Display, Formatter};
+use std::fmt::{self, Debug, Display, Formatter};
 
 /// Why a file gives no map: which file is at fault, and what is wrong with it.
 ///
 /// It prints as `Small-H: byte 27: a CID was expected`, the name of the file at fault first, where the
 /// fault isn't in the file itself.
-#[derive(Clone, Debug, PartialEq, Eq)]
+#[derive(Clone, PartialEq, Eq)]
 pub struct Refusal(Fault);
 
 /// The reasons in the order of their numbers, from 2 on.
@@ -93,6 +93,30 @@ impl Refusal {
 
 fn numbered<T: Copy>(values: &[T], first: u16, number: u16) -> Option<T> {
     values.get(usize::from(number.checked_sub(first)?)).copied()
+}
+
+impl Debug for Refusal {
+    fn fmt(&self, f: &mut Formatter<'_>) -> fmt::Result {
+        let names: Vec<_> = self.names().iter().map(|name| Name(name)).collect();
+        let mut shown = f.debug_struct("Refusal");
+        shown.field("cause", &self.cause());
+        if let (Some(reason), Some(offset)) = (self.reason(), self.offset()) {
+            shown.field("reason", &reason).field("offset", &offset);
+        }
+        if let Some(segment) = self.segment() {
+            shown.field("segment", &segment);
+        }
+        shown.field("names", &names).finish()
+    }
+}
+
+/// A name, as it is printed.
+struct Name<'a>(&'a [u8]);
+
+impl Debug for Name<'_> {
+    fn fmt(&self, f: &mut Formatter<'_>) -> fmt::Result {
+        write!(f, "{}", self.0.escape_ascii())
+    }
 }
 
 impl Display for Refusal {

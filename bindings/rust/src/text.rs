@@ -1,5 +1,7 @@
 //! Texts of codes.
 
+use std::fmt::{self, Display, Formatter};
+
 /// The text that a code stands for. ISO 32000-1, 9.10.3.
 #[derive(Clone, Debug, PartialEq, Eq)]
 pub enum BfString {
@@ -16,6 +18,27 @@ impl BfString {
             (Some(character), None) => BfString::Char(character),
             _ => BfString::String(text.to_owned()),
         }
+    }
+
+    /// The text. That of a [`BfString::Char`] is written to the room, as by [`char::encode_utf8`].
+    ///
+    /// ```
+    /// use hayro_cmap::BfString;
+    ///
+    /// assert_eq!(BfString::Char('日').as_str(&mut [0; 4]), "日");
+    /// assert_eq!(BfString::String("ffi".into()).to_string(), "ffi");
+    /// ```
+    pub fn as_str<'a>(&'a self, room: &'a mut [u8; 4]) -> &'a str {
+        match self {
+            BfString::Char(character) => character.encode_utf8(room),
+            BfString::String(text) => text,
+        }
+    }
+}
+
+impl Display for BfString {
+    fn fmt(&self, f: &mut Formatter<'_>) -> fmt::Result {
+        f.pad(self.as_str(&mut [0; 4]))
     }
 }
 

@@ -23,6 +23,7 @@ fn predefined_files_are_found() {
     assert_eq!([1, 2, 3].map(|code| map.lookup_cid_code(code, 1)), [Some(1), Some(2), None]);
     assert!(CMap::open_predefined(CMapName::Custom(b"Else")).unwrap().is_none());
     assert!(CMap::open_predefined(CMapName::IdentityV).unwrap().is_some());
+    assert!(CMap::open_predefined("Top").unwrap().is_some());
     assert!(!has_file(b"below") && !has_file(b"") && !has_file(b"..") && !has_file(b"Top\0"));
 
     // SAFETY: as above.

@@ -73,6 +73,11 @@ fn names_lead_to_the_file_at_fault() {
     assert_eq!(missing.names(), [b"B"]);
     assert_eq!(missing.to_string(), "B: no file has this name");
 
+    let debug =
+        "Refusal { cause: Malformed, reason: EndWithinSection, offset: 17, names: [Top, H] }";
+    assert_eq!(format!("{refused:?}"), debug);
+    assert_eq!(format!("{missing:?}"), "Refusal { cause: NoFile, names: [B] }");
+
     let endless = refusal(b"/A usecmap", |_| Some(b"/A usecmap"));
     assert_eq!(endless.cause(), Cause::ChainLength);
     assert_eq!(endless.names(), vec![b"A".to_vec(); 16]);
@@ -138,7 +143,8 @@ fn a_named_file_uses_an_identity_without_a_file() {
     assert_eq!(map.unwrap().unwrap().lookup_cid_code(0x1234, 2), Some(0x1234));
     assert_eq!(CMap::salvage(file, |_| None).map.lookup_cid_code(0x1234, 2), Some(0x1234));
     // Another file is asked for with those that it uses.
-    let refusal = CMap::parse_explained(b"/Own usecmap", |name| is_own(name).then_some(&file[..])).unwrap_err();
+    let refusal = CMap::parse_explained(b"/Own usecmap", |name| is_own(name).then_some(&file[..]))
+        .unwrap_err();
     assert_eq!(refusal.cause(), Cause::NoFile);
     assert_eq!(refusal.names(), [b"Own".to_vec(), b"Identity-V".to_vec()]);
     let map = CMap::parse(file, |_| Some(b"begincidchar <01> 1 endcidchar")).unwrap();
