@@ -10,7 +10,8 @@ use cmap_escape::count::Count;
 use cmap_escape::object::Object;
 use cmap_escape::{escape, json};
 use cmap_sources::bases::Bases;
-use cmap_sources::failure::Failure;
+use cmap_sources::failure::{Failure, fault, report};
+use cmap_sources::format::format_of;
 use cmap_sources::inputs::{read, report_unreadable};
 use cmap_sources::paths::{PathList, Paths, paths_of};
 use cmap_sources::reading::{Faults, Form, Input, Manner, Reading, read_over};
@@ -138,22 +139,36 @@ impl Run<'_, '_, '_> {
         bases: &mut Bases<'_>,
     ) -> Result<(), Failure> {
         match read(rt, path)? {
-            Some(bytes) => {
+            Ok(bytes) => {
                 let input = Input {
                     path,
                     bytes: &bytes,
                 };
+                self.report_format(rt, input)?;
                 let reading = read_over(rt, input, self.options.manner, bases)?;
                 self.print(rt, input, &reading, bases)
             }
-            None => self.report_unreadable(rt, path),
+            Err(error) => self.report_unreadable(rt, path, &error),
         }
     }
 
-    fn report_unreadable(&mut self, rt: &HostRuntime, path: &str) -> Result<(), Failure> {
+    fn report_unreadable(
+        &mut self,
+        rt: &HostRuntime,
+        path: &str,
+        error: &io::Error,
+    ) -> Result<(), Failure> {
         self.tally.unreadable.add_one();
         self.progress.clear(rt)?;
-        report_unreadable(rt, path)?;
+        report_unreadable(rt, path, error)
+    }
+
+    /// Reports a file that has another format.
+    fn report_format(&mut self, rt: &HostRuntime, input: Input<'_>) -> Result<(), Failure> {
+        if let Some(format) = format_of(rt.alloc(), input.bytes)? {
+            self.progress.clear(rt)?;
+            report(rt, &fault(rt, input.path, format))?;
+        }
         Ok(())
     }
 

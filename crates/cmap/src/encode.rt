@@ -2,10 +2,10 @@
 
 use crate::font::{StringOptions, font_and_texts};
 use cmap_encode::Encoder;
-use cmap_escape::escape::push_text;
 use cmap_report::encode::{encoded, push_string_json, push_string_line};
 use cmap_sources::bases::Bases;
 use cmap_sources::failure::Failure;
+use cmap_sources::path_text::push_path;
 use cmap_sources::status::{ACCEPTED, REFUSED};
 
 /// Prints the string of each text. The status says whether each text has one.
@@ -58,7 +58,7 @@ fn print_string(
 /// Reports how much of a text strings show; so there is no string.
 fn report_stop(rt: &HostRuntime, text: &str, offset: usize) -> Result<bool, Failure> {
     let mut shown = String::new(rt.alloc());
-    push_text(&mut shown, text)?;
+    push_path(&mut shown, text)?;
     eprintln!(rt; "cmap: {shown}: no string shows it past byte {offset}")?;
     Ok(false)
 }

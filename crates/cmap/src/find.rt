@@ -4,12 +4,12 @@ use crate::command_line::flags::JSON;
 use crate::command_line::{arguments_of, file_of};
 use crate::options::{Sources, manner_of};
 use clap::ArgMatches;
-use cmap_report::find::{Wanted, push_codes, push_json};
+use cmap_report::find::{Wanted, fault_of, is_found, push_codes, push_json};
 use cmap_sources::bases::Bases;
 use cmap_sources::failure::{Failure, fault};
 use cmap_sources::inputs::map_needed;
 use cmap_sources::reading::Manner;
-use cmap_sources::status::ACCEPTED;
+use cmap_sources::status::{ACCEPTED, REFUSED};
 use hayro_cmap::CMap;
 use std::alloc::{AllocError, Global};
 
@@ -46,6 +46,16 @@ pub(crate) fn find(
     let map = map_needed(rt, options.file, options.manner, bases)?;
     let lines = lines_of(rt.alloc(), &map, &wanted, options.json)?;
     rt.print(lines.as_str())?;
+    Ok(status_of(rt.alloc(), &map, &wanted)?)
+}
+
+/// The status: whether there are codes for each argument.
+fn status_of(alloc: Global, map: &CMap, wanted: &[(&str, Wanted<'_>)]) -> Result<u8, AllocError> {
+    for (_, wanted) in wanted {
+        if !is_found(alloc, map, *wanted)? {
+            return Ok(REFUSED);
+        }
+    }
     Ok(ACCEPTED)
 }
 
@@ -75,7 +85,7 @@ fn wanted_of<'w>(
     for argument in arguments {
         match Wanted::parse(argument) {
             Some(wanted) => asked.push((*argument, wanted))?,
-            None => return Err(fault(rt, argument, "neither cid:N nor text:TEXT")),
+            None => return Err(fault(rt, argument, fault_of(argument))),
         }
     }
     Ok(asked)

@@ -28,12 +28,12 @@ use crate::options::{Sources, asks_twice_for_standard_input};
 use crate::subcommands::Subcommand;
 use crate::usage::print_usage;
 use clap::ArgMatches;
+use cmap_sources::arguments::arguments;
 use cmap_sources::bases::Bases;
 use cmap_sources::failure::{Failure, fault, report};
 use cmap_sources::inputs::needed;
 use cmap_sources::status::{FAILED, REFUSED};
 use hayro_cmap::Bundle;
-use std::env;
 use std::process::ExitCode;
 
 fn main(rt: HostRuntime) -> ExitCode {
@@ -48,7 +48,7 @@ fn main(rt: HostRuntime) -> ExitCode {
 }
 
 fn run(rt: &HostRuntime) -> Result<u8, Failure> {
-    let arguments: Vec<String> = env::args(rt)?.collect(rt.alloc())?;
+    let arguments = arguments(rt)?;
     let command = command(rt.alloc())?;
     match command.try_get_matches_from(arguments.as_slice()) {
         Ok(matches) => run_arguments(rt, &matches),

@@ -34,11 +34,29 @@ impl<'a> Wanted<'a> {
     }
 }
 
+/// What is wrong with an argument that asks for no codes.
+pub fn fault_of(argument: &str) -> &'static str {
+    match argument.strip_prefix("cid:") {
+        Some(digits) if is_decimal(digits) => "a CID has at most 32 bits",
+        _ => "neither cid:N nor text:TEXT",
+    }
+}
+
+/// Whether a text is a decimal number.
+fn is_decimal(text: &str) -> bool {
+    !text.is_empty() && text.bytes().all(|byte| byte.is_ascii_digit())
+}
+
 /// Codes of one length.
 #[derive(Clone, Copy)]
 struct Codes {
     byte_len: u8,
     range: Range,
+}
+
+/// Whether there are codes that an argument asks for.
+pub fn is_found(alloc: Global, map: &CMap, wanted: Wanted<'_>) -> Result<bool, AllocError> {
+    Ok(!codes_of(alloc, map, wanted)?.is_empty())
 }
 
 /// Adds a line for each range of codes that an argument asks for, or one with `-` if there are none. The

@@ -3,6 +3,7 @@
 use crate::bases::Bases;
 use crate::failure::Failure;
 use crate::fault_line::LineCounter;
+use crate::format::report_format;
 use crate::reading::{Faults, Input};
 use crate::refused::stop_line;
 use cmap_binary::{is_marked_binary, read_binary, salvage_binary};
@@ -17,6 +18,7 @@ pub fn file_of<'d>(
     faults: Faults,
     bases: &Bases<'_>,
 ) -> Result<File<'d>, Failure> {
+    report_format(rt, input.path, input.bytes)?;
     match faults {
         Faults::First => read_strictly(rt, input, bases),
         Faults::All => read_past(rt, input, bases),

@@ -5,13 +5,14 @@ ghost use Rattle.cmap_sources.specs.BytesSeen.{bytes_seen};
 use crate::failure::Failure;
 use crate::file_bytes::FileBytes;
 use crate::file_names::file_name;
-use crate::folders::{files_in, is_folder, name_of};
+use crate::folders::{files_in, is_folder, name_of, why_no_folder};
 use crate::inputs::{read, report_unreadable, unreadable};
 use crate::search::Search;
 use crate::status::{ACCEPTED, FAILED};
 use hayro_cmap::{Bundle, BundleFiles, CMap, NamedFile, NamedFiles, Source, identity_text};
 use std::alloc::{AllocError, Global};
 use std::collections::BTreeMap;
+use std::io;
 
 /// A base that was read.
 #[derive(Drop)]
@@ -59,12 +60,18 @@ impl<'f> Source for ReadBases<'f> {
     }
 }
 
+/// A file that can't be read.
+#[derive(Drop)]
+struct Unreadable {
+    path: String,
+    error: io::Error,
+}
+
 /// What was found of a name.
 #[derive(Drop)]
 enum Found<'b> {
     File(FileBytes<'b>),
-    /// The file has this path, and can't be read.
-    Unreadable(String),
+    Unreadable(Unreadable),
     Nothing,
 }
 
@@ -81,8 +88,8 @@ pub struct Bases<'b> {
     read: Vec<Base<'b>>,
     /// The files that these use were read ahead, up to this index.
     asked: usize,
-    /// Paths that can't be read, and aren't reported yet.
-    unreadable: Vec<String>,
+    /// Files that can't be read, and aren't reported yet.
+    unreadable: Vec<Unreadable>,
     /// Whether something can't be read.
     has_failed: bool,
 }
@@ -112,7 +119,7 @@ impl<'b> Bases<'b> {
     /// Adds the paths of the files of a folder.
     fn add_folder(&mut self, rt: &HostRuntime, folder: &str) -> Result<(), Failure> {
         if !is_folder(rt, folder) {
-            return Err(unreadable(rt, folder));
+            return Err(unreadable(rt, folder, &why_no_folder(rt, folder)));
         }
         let found = files_in(rt, folder)?;
         self.has_failed |= found.unreadable.get() > 0;
@@ -184,13 +191,13 @@ impl<'b> Bases<'b> {
             return Ok(());
         }
         let mut found = self.look_for(rt, name)?;
-        if let Found::Unreadable(path) = found {
-            self.set_unreadable(rt.alloc(), name, path)?;
+        if let Found::Unreadable(file) = found {
+            self.set_unreadable(rt.alloc(), name, file)?;
             found = self.look_for(rt, name)?;
         }
         match found {
             Found::File(bytes) => self.add(rt.alloc(), name, bytes)?,
-            Found::Unreadable(path) => self.set_unreadable(rt.alloc(), name, path)?,
+            Found::Unreadable(file) => self.set_unreadable(rt.alloc(), name, file)?,
             Found::Nothing => self.search.set_absent(rt.alloc(), name)?,
         }
         Ok(())
@@ -228,7 +235,7 @@ impl<'b> Bases<'b> {
         }
         match self.look_for(rt, name)? {
             Found::File(bytes) => self.add(rt.alloc(), name, bytes)?,
-            Found::Unreadable(_path) => {}
+            Found::Unreadable(_file) => {}
             Found::Nothing => self.search.set_absent(rt.alloc(), name)?,
         }
         Ok(())
@@ -264,17 +271,17 @@ impl<'b> Bases<'b> {
         }
     }
 
-    /// Keeps the path of this name for the report, and takes it out of where the name is looked up.
+    /// Keeps the file of this name for the report, and takes it out of where the name is looked up.
     fn set_unreadable(
         &mut self,
         alloc: Global,
         name: &[u8],
-        path: String,
+        file: Unreadable,
     ) -> Result<(), AllocError> {
         if self.take_path(name).is_none() {
             self.search.set_absent(alloc, name)?;
         }
-        Ok(self.unreadable.push(path)?)
+        Ok(self.unreadable.push(file)?)
     }
 
     fn take_path(&mut self, name: &[u8]) -> Option<String> {
@@ -338,8 +345,8 @@ impl<'b> Bases<'b> {
     /// Reports the paths that can't be read, each once.
     pub fn report(&mut self, rt: &HostRuntime) -> Result<(), Failure> {
         self.has_failed |= self.has_unreported();
-        for path in &self.unreadable {
-            report_unreadable(rt, path.as_str())?;
+        for file in &self.unreadable {
+            report_unreadable(rt, file.path.as_str(), &file.error)?;
         }
         self.unreadable.clear();
         Ok(())
@@ -362,7 +369,7 @@ fn identity_found<'b>(name: &[u8]) -> Found<'b> {
 /// Reads the file of a path.
 fn found_at<'b>(rt: &HostRuntime, path: String) -> Result<Found<'b>, Failure> {
     match read(rt, path.as_str())? {
-        Some(bytes) => Ok(Found::File(FileBytes::of(bytes)?)),
-        None => Ok(Found::Unreadable(path)),
+        Ok(bytes) => Ok(Found::File(FileBytes::of(bytes)?)),
+        Err(error) => Ok(Found::Unreadable(Unreadable { path, error })),
     }
 }

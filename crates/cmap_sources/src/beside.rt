@@ -1,6 +1,8 @@
 //! A file that is written beside another one and then takes its place, so that a path always has a whole file.
 
-use crate::failure::{Failure, fault};
+use crate::failure::Failure;
+use crate::inputs::failed_at;
+use crate::path_text::is_plain;
 use std::fs::{self, File, OpenOptions};
 use std::io::{self, ErrorKind, Write};
 
@@ -26,7 +28,7 @@ impl Beside {
         };
         match write_whole(file, bytes) {
             Ok(()) => Ok(beside),
-            Err(_) => Err(beside.give_up(rt)),
+            Err(error) => Err(beside.give_up(rt, &error)),
         }
     }
 
@@ -39,7 +41,7 @@ impl Beside {
     pub fn put_in_place(self, rt: &HostRuntime) -> Result<(), Failure> {
         match fs::rename(rt, self.path.as_str(), self.target.as_str()) {
             Ok(()) => Ok(()),
-            Err(_) => Err(self.give_up(rt)),
+            Err(error) => Err(self.give_up(rt, &error)),
         }
     }
 
@@ -49,14 +51,18 @@ impl Beside {
     }
 
     /// Removes the file, and gives the failure that the other one can't be written.
-    fn give_up(&self, rt: &HostRuntime) -> Failure {
+    fn give_up(&self, rt: &HostRuntime, error: &io::Error) -> Failure {
         self.remove(rt);
-        unwritable(rt, self.target.as_str())
+        unwritable(rt, self.target.as_str(), error)
     }
 }
 
 /// A new file beside that of a path.
 fn create_beside(rt: &HostRuntime, target: &str) -> Result<(String, File), Failure> {
+    if !is_plain(target) {
+        let error = io::Error::from(ErrorKind::InvalidFilename);
+        return Err(unwritable(rt, target, &error));
+    }
     for number in 0..MOST_TRIES {
         let path = format!(in rt.alloc(); "{target}.new-{number}")?;
         let opened = OpenOptions::new()
@@ -66,10 +72,11 @@ fn create_beside(rt: &HostRuntime, target: &str) -> Result<(String, File), Failu
         match opened {
             Ok(file) => return Ok((path, file)),
             Err(error) if error.kind() == ErrorKind::AlreadyExists => {}
-            Err(_) => break,
+            Err(error) => return Err(unwritable(rt, target, &error)),
         }
     }
-    Err(unwritable(rt, target))
+    let error = io::Error::from(ErrorKind::AlreadyExists);
+    Err(unwritable(rt, target, &error))
 }
 
 /// Writes all bytes to the disk.
@@ -78,7 +85,7 @@ fn write_whole(mut file: File, bytes: &[u8]) -> io::Result<()> {
     file.sync_all()
 }
 
-/// The failure of a path that can't be written.
-fn unwritable(rt: &HostRuntime, path: &str) -> Failure {
-    fault(rt, path, "can't be written")
+/// The failure of a path that can't be written, with the system's reason.
+fn unwritable(rt: &HostRuntime, path: &str, error: &io::Error) -> Failure {
+    failed_at(rt.alloc(), path, "can't be written", error)
 }

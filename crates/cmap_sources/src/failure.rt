@@ -1,8 +1,8 @@
 //! Messages on the standard error, and why a run ends early. Arguments and paths are untrusted, so they
 //! are escaped.
 
+use crate::path_text::push_path;
 use crate::status::{FAILED, READER_GONE, REFUSED};
-use cmap_escape::escape::push_text;
 use std::alloc::{AllocError, AllocFailed, Global};
 use std::io::{self, ErrorKind};
 
@@ -63,7 +63,7 @@ pub fn fault(rt: &HostRuntime, argument: &str, wrong: &str) -> Failure {
 
 fn line_of(alloc: Global, argument: &str, wrong: &str) -> Result<String, AllocError> {
     let mut line = String::new(alloc);
-    push_text(&mut line, argument)?;
+    push_path(&mut line, argument)?;
     write!(line, ": {wrong}")?;
     Ok(line)
 }

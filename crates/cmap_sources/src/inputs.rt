@@ -3,10 +3,12 @@
 use crate::bases::Bases;
 use crate::failure::{Failure, fault, report};
 use crate::file_bytes::FileBytes;
-use crate::folders::is_file;
+use crate::folders::{is_file, why_no_file};
+use crate::format::report_format;
+use crate::path_text::{is_plain, push_path};
 use crate::reading::{Input, Manner, read_over};
-use crate::status::FAILED;
 use hayro_cmap::{CMap, Fault, identity_text};
+use std::alloc::{AllocError, Global};
 use std::fs;
 use std::io::{self, ErrorKind, Read};
 
@@ -16,35 +18,73 @@ pub const STANDARD_INPUT: &str = "-";
 /// The bytes of a file that a run needs; `-` is the standard input.
 pub fn needed(rt: &HostRuntime, path: &str) -> Result<Vec<u8>, Failure> {
     match read(rt, path)? {
-        Some(bytes) => Ok(bytes),
-        None => Err(unreadable(rt, path)),
+        Ok(bytes) => Ok(bytes),
+        Err(error) => Err(unreadable(rt, path, &error)),
     }
 }
 
-/// The bytes of a file; `-` is the standard input. `None` if it can't be read.
-pub fn read(rt: &HostRuntime, path: &str) -> Result<Option<Vec<u8>>, Failure> {
+/// The bytes of a file, or why it can't be read; `-` is the standard input.
+pub fn read(rt: &HostRuntime, path: &str) -> Result<io::Result<Vec<u8>>, Failure> {
     if path == STANDARD_INPUT {
-        let mut bytes = Vec::new(rt.alloc());
-        return match readable(rt.stdin().read_to_end(&mut bytes))? {
-            Some(_count) => Ok(Some(bytes)),
-            None => Ok(None),
-        };
+        readable(read_standard_input(rt))
+    } else {
+        readable(read_file(rt, path))
     }
-    readable(fs::read(rt, path))
 }
 
-/// What was read; `None` if it can't be read. Out of memory is an error.
-pub fn readable<T: Drop>(read: io::Result<T>) -> Result<Option<T>, Failure> {
+fn read_file(rt: &HostRuntime, path: &str) -> io::Result<Vec<u8>> {
+    if is_plain(path) {
+        fs::read(rt, path)
+    } else {
+        Err(io::Error::from(ErrorKind::InvalidFilename))
+    }
+}
+
+fn read_standard_input(rt: &HostRuntime) -> io::Result<Vec<u8>> {
+    let mut bytes = Vec::new(rt.alloc());
+    rt.stdin().read_to_end(&mut bytes)?;
+    Ok(bytes)
+}
+
+/// What was read, or why it can't be read. Out of memory ends the run.
+pub fn readable<T: Drop>(read: io::Result<T>) -> Result<io::Result<T>, Failure> {
     match read {
-        Ok(read) => Ok(Some(read)),
+        Ok(read) => Ok(Ok(read)),
         Err(error) if error.kind() == ErrorKind::OutOfMemory => Err(Failure::Memory),
-        Err(_) => Ok(None),
+        Err(error) => Ok(Err(error)),
     }
 }
 
-/// The failure of a path that can't be read.
-pub fn unreadable(rt: &HostRuntime, path: &str) -> Failure {
-    fault(rt, path, "can't be read")
+/// The failure of a path that can't be read, with the system's reason.
+pub fn unreadable(rt: &HostRuntime, path: &str, error: &io::Error) -> Failure {
+    failed_at(rt.alloc(), path, "can't be read", error)
+}
+
+/// The failure of a path, with what can't be done and the system's reason.
+pub fn failed_at(alloc: Global, path: &str, what: &str, error: &io::Error) -> Failure {
+    match line_of(alloc, path, what, error) {
+        Ok(line) => Failure::Message(line),
+        Err(AllocError) => Failure::Memory,
+    }
+}
+
+fn line_of(alloc: Global, path: &str, what: &str, error: &io::Error) -> Result<String, AllocError> {
+    let reason = format!(in alloc; "{error}")?;
+    let mut line = String::new(alloc);
+    push_path(&mut line, path)?;
+    write!(line, ": {what}: {}", words_of(path, reason.as_str()))?;
+    Ok(line)
+}
+
+/// The words of the reason why a path can't be opened, without the number of the error.
+fn words_of<'r>(path: &str, reason: &'r str) -> &'r str {
+    if !is_plain(path) {
+        return "its path isn't UTF-8";
+    }
+    match reason.split_once(" (os error ") {
+        Some((words, _number)) => words,
+        None => reason,
+    }
 }
 
 /// The failure of an argument that is neither the path nor the name of a file.
@@ -52,7 +92,7 @@ fn missing(rt: &HostRuntime, argument: &str, bases: &Bases<'_>) -> Failure {
     if bases.may_be_predefined(argument.as_bytes()) {
         unknown_name(rt, argument, bases)
     } else {
-        unreadable(rt, argument)
+        unreadable(rt, argument, &why_no_file(rt, argument))
     }
 }
 
@@ -69,10 +109,10 @@ pub fn unknown_name(rt: &HostRuntime, name: &str, bases: &Bases<'_>) -> Failure 
     }
 }
 
-/// Reports that a path can't be read, and gives the status.
-pub fn report_unreadable(rt: &HostRuntime, path: &str) -> Result<u8, Failure> {
-    report(rt, &unreadable(rt, path))?;
-    Ok(FAILED)
+/// Reports that a path can't be read, and why.
+pub fn report_unreadable(rt: &HostRuntime, path: &str, error: &io::Error) -> Result<(), Failure> {
+    report(rt, &unreadable(rt, path, error))?;
+    Ok(())
 }
 
 /// A file that is read, with its map.
@@ -170,6 +210,7 @@ pub fn map_of(
     manner: Manner,
     bases: &mut Bases<'_>,
 ) -> Result<CMap, Failure> {
+    report_format(rt, path, bytes)?;
     let mut reading = read_over(rt, Input { path, bytes }, manner, bases)?;
     bases.report(rt)?;
     report_faults(rt, &reading.faults)?;

@@ -3,6 +3,7 @@
 #![tactic(auto)]
 
 pub mod alone;
+pub mod arguments;
 pub mod bases;
 pub mod beside;
 pub mod failure;
@@ -10,7 +11,9 @@ pub mod fault_line;
 pub mod file_bytes;
 pub mod file_names;
 pub mod folders;
+pub mod format;
 pub mod inputs;
+pub mod path_text;
 pub mod paths;
 pub mod reading;
 pub mod refused;

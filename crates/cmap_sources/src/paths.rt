@@ -1,10 +1,10 @@
 //! The files that `check` reads.
 
-use crate::failure::Failure;
+use crate::failure::{Failure, fault, report};
 use crate::folders::{files_in, is_folder};
-use crate::inputs::{STANDARD_INPUT, needed, report_unreadable};
+use crate::inputs::{STANDARD_INPUT, needed};
+use crate::path_text::path_text;
 use cmap_escape::count::Count;
-use cmap_escape::escape::escaped_name;
 
 /// A file that lists paths.
 #[derive(Clone, Copy)]
@@ -63,18 +63,13 @@ impl Paths {
         Ok(())
     }
 
-    /// Adds what a path of a list names, or reports that it is invalid.
+    /// Adds what a path of a list names. A list can't ask for the standard input.
     fn add_listed(&mut self, rt: &HostRuntime, path: &[u8]) -> Result<(), Failure> {
-        match str::from_utf8(path) {
-            Ok(STANDARD_INPUT) => {
-                report_unreadable(rt, STANDARD_INPUT)?;
-            }
-            Ok(path) => return self.add(rt, path),
-            Err(_) => {
-                let shown = escaped_name(rt.alloc(), path)?;
-                eprintln!(rt; "cmap: {shown}: not UTF-8")?;
-            }
+        let path = path_text(rt.alloc(), path)?;
+        if path.as_str() != STANDARD_INPUT {
+            return self.add(rt, path.as_str());
         }
+        report(rt, &fault(rt, STANDARD_INPUT, "can't be read by a list"))?;
         self.unreadable.add_one();
         Ok(())
     }
