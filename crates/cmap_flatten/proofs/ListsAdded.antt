@@ -83,9 +83,6 @@ module _ (cids notdefs : List CidEntry) (range : Range) (room : IsRoom cids notd
   }
 
 -- ---- part after part
-pub AreAdded-none : (cids notdefs : List CidEntry) (first : ℕ) (declared : ℕ → Option Given) → IsRoom cids notdefs first → IsAdded cids notdefs first first declared cids notdefs
-AreAdded-none cids notdefs first declared room = record { room = room; here = λ code le lt. absurd (omega (arith, le, lt)); below = λ code lt. refl }
-
 -- the codes up to the next one were added, and then more
 pub AreAdded-more : (cids notdefs : List CidEntry) (first next limit : ℕ) (declared part : ℕ → Option Given) (mid_cids mid_notdefs new_cids new_notdefs : List CidEntry) → first ≤ next → IsAdded cids notdefs first next declared mid_cids mid_notdefs
     → IsAdded mid_cids mid_notdefs next limit part new_cids new_notdefs → ((code : ℕ) → next ≤ code → code < limit → declared code ≡ part code) → IsAdded cids notdefs first limit declared new_cids new_notdefs

@@ -83,9 +83,6 @@ module _ (texts : List BfEntry) (range : Range) (room : IsTextRoom texts range.s
 pub same_texts : (texts new : List BfEntry) (first limit : ℕ) (text other : ℕ → Option (List ℕ)) → ((code : ℕ) → first ≤ code → code < limit → text code ≡ other code) → AreTextsAdded texts first limit text new → AreTextsAdded texts first limit other new
 same_texts texts new first limit text other same added = record { room = added.room; here = λ code le lt. added.here code le lt ∙ same code le lt; below = added.below }
 
-pub AreTextsAdded-none : (texts : List BfEntry) (first : ℕ) (text : ℕ → Option (List ℕ)) → IsTextRoom texts first → AreTextsAdded texts first first text texts
-AreTextsAdded-none texts first text room = record { room = room; here = λ code le lt. absurd (omega (arith, le, lt)); below = λ code lt. refl }
-
 -- the codes up to the next one were added, and then more
 pub AreTextsAdded-more : (texts mid new : List BfEntry) (first next limit : ℕ) (text part : ℕ → Option (List ℕ)) → first ≤ next → AreTextsAdded texts first next text mid → AreTextsAdded mid next limit part new
     → ((code : ℕ) → next ≤ code → code < limit → text code ≡ part code) → AreTextsAdded texts first limit text new
