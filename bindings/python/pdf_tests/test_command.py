@@ -231,6 +231,18 @@ class Many(Folder):
         self.assertEqual({it.fault for it in killed}, {"the process that read it ended, by signal 9"})
         self.assertEqual([it.status for it in found if it not in killed], [0, 1, 2, 0] * 2)
 
+    def test_a_process_that_ends_without_a_file(self):
+        """It costs none."""
+        pool, path = _many.Pool("check", {}, None), str(self.path("good.pdf"))
+        self.addCleanup(pool.close)
+        for index in range(2):
+            pool.begin(index, path)
+            [(found, result)] = pool.finished()
+            self.assertEqual((found, result.status), (index, 0))
+            [worker] = pool.idle
+            os.kill(worker.process.pid, signal.SIGKILL)
+            worker.process.join()
+
     def test_memory(self):
         """A process may have so much memory alone, and what asks for more is said of its file."""
         with mock.patch.object(_commands.pikepdf, "open", lambda path: bytearray(1 << 30)):
