@@ -1,9 +1,10 @@
 """CMap files over a base that is handed in, as the entry UseCMap of a stream in a PDF file gives it."""
 
-from typing import Optional
+from typing import Any, List, Optional, Tuple, Type
 
 from ._bundle import Bundle
-from ._reading import NO_FILES, names_in
+from ._faults import Refused
+from ._reading import NO_FILES, Files, names_in
 from ._values import bytes_of
 
 #: The name of the base, and its use, for a text that uses none.
@@ -12,68 +13,66 @@ USE = b"/" + NAME + b" usecmap\n"
 
 
 class Base:
-    """Gives one file for each name, and keeps whether it was asked for."""
+    """Gives one file for each name, and keeps the last name that was asked for."""
 
     def __init__(self, data: bytes):
         self.data = data
-        self.is_used = False
+        self.asked: Optional[bytes] = None
 
     def __call__(self, name: bytes) -> bytes:
-        self.is_used = True
+        self.asked = name
         return self.data
 
 
-def uses_none(data: bytes, bundle: Optional[Bundle]) -> bool:
-    """Whether a file stands alone, so that it is the same for whoever uses it."""
-    return not names_in(data, bundle)
+def parsed(kind: Type, data, base, files: Files = NO_FILES, bundle: Optional[Bundle] = None, budget=None):
+    """The map of a file over a base, which is a map or the bytes of a file."""
+    given = Base(strict_file(kind, base, files, bundle, budget))
+    cmap = kind.parse(data, given, bundle, budget)
+    if given.asked is not None:
+        return cmap
+    return kind.parse(over_base(cmap, bytes_of(data), bundle), given, bundle, with_use(budget))
 
 
-def over_base(cmap, data: bytes, bundle: Optional[Bundle]) -> bytes:
+def strict_file(kind: Type, base, files: Files, bundle: Optional[Bundle], budget) -> bytes:
+    """The base as one file that uses no other."""
+    if isinstance(base, kind):
+        return base.write()
+    base = bytes_of(base)
+    return kind.parse(base, files, bundle, budget).write() if names_in(base, bundle) else base
+
+
+def salvaged(kind: Type, data, base, files: Files = NO_FILES, bundle: Optional[Bundle] = None, budget=None):
+    """The map of a file over a base, read past the faults of both, and these."""
+    file, of_base = salvaged_file(kind, base, files, bundle, budget)
+    given = Base(file)
+    cmap, faults = kind.salvage(data, given, bundle, budget)
+    name = given.asked or NAME
+    if given.asked is None:
+        cmap, _ = kind.salvage(over_base(cmap, bytes_of(data), bundle), given, bundle, with_use(budget))
+    return cmap, faults + [below(name, fault) for fault in of_base]
+
+
+def salvaged_file(kind: Type, base, files: Files, bundle: Optional[Bundle], budget) -> Tuple[bytes, List[Refused]]:
+    """The base as one file that uses no other, read past its faults, and these."""
+    if isinstance(base, kind):
+        return base.write(), []
+    cmap, faults = kind.salvage(base, files, bundle, budget)
+    is_alone = not faults and not names_in(bytes_of(base), bundle)
+    return bytes_of(base) if is_alone else cmap.write(), faults
+
+
+def over_base(cmap: Any, data: bytes, bundle: Optional[Bundle]) -> bytes:
     """The file of this map, which uses none, as one that uses the base."""
     is_binary = bundle is not None and data[:5] == b"bcmap"
     return USE + (cmap.write() if is_binary else data)
 
 
-def parsed(kind, data, base, files=NO_FILES, bundle=None, budget=None):
-    """The map of a file over a base, which is a map or the bytes of a file."""
-    given = Base(strict_file(kind, base, files, bundle, budget))
-    cmap = kind.parse(data, given, bundle, budget)
-    if given.is_used:
-        return cmap
-    whole = over_base(cmap, bytes_of(data), bundle)
-    return kind.parse(whole, given, bundle, None if budget is None else budget + len(USE))
+def with_use(budget: Optional[int]) -> Optional[int]:
+    """The budget of a file that uses the base, where that of the file alone is this one."""
+    return None if budget is None else budget + len(USE)
 
 
-def strict_file(kind, base, files, bundle, budget):
-    """The base as one file that uses no other."""
-    if isinstance(base, kind):
-        return base.write()
-    base = bytes_of(base)
-    return base if uses_none(base, bundle) else kind.parse(base, files, bundle, budget).write()
-
-
-def salvaged(kind, data, base, files=NO_FILES, bundle=None, budget=None):
-    """The map of a file over a base, read past the faults of both, and these."""
-    file, faults = salvaged_file(kind, base, files, bundle, budget)
-    given = Base(file)
-    cmap, own = kind.salvage(data, given, bundle, budget)
-    if not given.is_used:
-        whole = over_base(cmap, bytes_of(data), bundle)
-        cmap, _ = kind.salvage(whole, given, bundle, None if budget is None else budget + len(USE))
-    return cmap, own + [below(fault) for fault in faults]
-
-
-def salvaged_file(kind, base, files, bundle, budget):
-    """The base as one file that uses no other, read past its faults, and these."""
-    if isinstance(base, kind):
-        return base.write(), []
-    cmap, faults = kind.salvage(base, files, bundle, budget)
-    is_alone = not faults and uses_none(bytes_of(base), bundle)
-    return bytes_of(base) if is_alone else cmap.write(), faults
-
-
-def below(fault):
-    """A fault of the base, as one of the file over it."""
-    words = list(fault.args)
-    words[2] = (NAME, *fault.names)
-    return type(fault)(*words)
+def below(name: bytes, fault: Refused) -> Refused:
+    """A fault of the base, as one of the file that uses it by this name."""
+    message, cause, names, *rest = fault.args
+    return type(fault)(message, cause, (name, *names), *rest)

@@ -167,6 +167,19 @@ class Command(Folder):
             ran.stdout.close()
             self.assertEqual((ran.stderr.read(), ran.wait()), (b"", 141))
 
+    def test_a_progress_bar_on_a_terminal(self):
+        """It stands on the standard error, and is removed at the end. Where that is no terminal there is none."""
+        ours, theirs = os.openpty()
+        self.addCleanup(os.close, ours)
+        words = [sys.executable, "-m", "hayro_cmap.pdf", "check", "-q", *[self.path("good.pdf")] * 4]
+        with open(theirs, "wb") as terminal:
+            ran = subprocess.run(words, stdout=subprocess.PIPE, stderr=terminal)
+        shown = os.read(ours, 1 << 16).decode()
+        self.assertEqual((ran.returncode, ran.stdout), (0, b""))
+        self.assertIn(f"\r[{'#' * 20}{' ' * 20}] 2 of 4 files", shown)
+        self.assertTrue(shown.endswith("\r\033[K"), shown)
+        self.assertEqual(subprocess.run(words, capture_output=True).stderr, b"")
+
     def test_without_pikepdf(self):
         program = "import sys; sys.modules['pikepdf'] = None; import hayro_cmap; import hayro_cmap.pdf"
         ran = subprocess.run([sys.executable, "-c", program], capture_output=True, text=True)
@@ -205,6 +218,10 @@ class Report(Folder):
             cells, [[1, 1, 3, None, None, 1], [0x41, 1, 0, None, "</script>", 2], [0x42, 1, 4, None, "ffi", 0]]
         )
 
+    def test_a_page_that_cannot_be_written(self):
+        status, out, fault = self.command("check", "--html", str(self.folder / "none" / "r.html"), "good.pdf")
+        self.assertEqual((status, "good.pdf" in out, "r.html" in fault), (2, True, True))
+
     def test_names_are_escaped(self):
         file = File()
         file.show(b"/F 9 Tf (A) Tj", F=file.simple(GOOD, base_font="<b>"))
@@ -230,6 +247,18 @@ class Many(Folder):
         killed = [it for it in found if it.path.endswith("kills.pdf")]
         self.assertEqual({it.fault for it in killed}, {"the process that read it ended, by signal 9"})
         self.assertEqual([it.status for it in found if it not in killed], [0, 1, 2, 0] * 2)
+
+    def test_a_process_that_ends_without_a_file(self):
+        """It costs none."""
+        pool, path = _many.Pool("check", {}, None), str(self.path("good.pdf"))
+        self.addCleanup(pool.close)
+        for index in range(2):
+            pool.begin(index, path)
+            [(found, result)] = pool.finished()
+            self.assertEqual((found, result.status), (index, 0))
+            [worker] = pool.idle
+            os.kill(worker.process.pid, signal.SIGKILL)
+            worker.process.join()
 
     def test_memory(self):
         """A process may have so much memory alone, and what asks for more is said of its file."""

@@ -53,6 +53,8 @@ class Bases(unittest.TestCase):
             with self.assertRaises(Refused) as found:
                 CMap.parse(data, base=BROKEN)
             self.assertEqual((found.exception.offset, found.exception.names), (27, (name,)))
+        [fault] = CMap.salvage(uses(b"A"), base=BROKEN).faults
+        self.assertEqual((fault.offset, fault.names), (27, (b"A",)))
         cmap, faults = CMap.salvage(BROKEN, base=BROKEN + b" 1 begincidchar <42> 8 endcidchar")
         self.assertEqual([(fault.offset, fault.names) for fault in faults], [(27, ()), (27, (b"UseCMap",))])
         self.assertEqual(self.cids(cmap), [None, None, 8])
@@ -63,18 +65,14 @@ class Bases(unittest.TestCase):
             with CMap.parse(BINARY, bundle=bundle, base=base) as cmap:
                 self.assertEqual([cmap.cid(code, 2) for code in (0x20, 0x21, 0x30)], [5, 6, 9])
 
-    def test_no_one_file(self):
-        """A map whose layers no one file can say: a code has a text alone above, and a CID below."""
-        over = CMap.parse(
-            b"/A usecmap 1 beginbfchar <41> <00410042> endbfchar",
-            {"A": b"1 beginbfchar <41> <0043> endbfchar 1 begincidchar <41> 5 endcidchar"},
-        )
-        try:
-            over.write()
-        except NotWritable:
-            self.assertRaises(NotWritable, CMap.parse, ABOVE, base=over)
-        else:
-            self.assertEqual(CMap.parse(ABOVE, base=over).cid(0x41, 1), 7)
+    def test_a_base_that_no_one_file_has(self):
+        """A code has a text alone above, and a CID below."""
+        base = b"/A usecmap 1 beginbfchar <41> <0061> endbfchar"
+        files = {b"A": b"1 begincidchar <41> 5 endcidchar"}
+        with CMap.parse(base, files) as cmap:
+            self.assertRaises(NotWritable, CMap.parse, ABOVE, base=cmap)
+            self.assertRaises(NotWritable, CMap.salvage, ABOVE, base=cmap)
+        self.assertRaises(NotWritable, CMap.parse, ABOVE, files, base=base)
 
     def test_budget(self):
         self.assertRaises(Refused, CMap.parse, ABOVE, base=SMALL, budget=len(ABOVE) + len(SMALL) - 1)

@@ -6,7 +6,7 @@ import json
 import multiprocessing
 import os
 from multiprocessing import connection
-from typing import Any, Dict, Iterable, Iterator, List, Optional, Sequence
+from typing import Any, Dict, Iterable, Iterator, List, Optional, Sequence, Tuple
 
 from ._commands import Result, results_of, run, unread
 
@@ -86,51 +86,75 @@ def serve(
 ) -> None:
     """Runs a command over the files that come through a pipe, until the other process is gone."""
     limit_memory(memory)
-    while True:
-        while not end.poll(SECONDS):
-            if os.getppid() != parent:
-                return
+    try:
+        while True:
+            while not end.poll(SECONDS):
+                if os.getppid() != parent:
+                    return
+            end.send(run(end.recv(), command, options))
+    except (EOFError, OSError):
+        return
+
+
+class Pool:
+    """Processes, each with a file or without one."""
+
+    def __init__(self, command: str, options: Dict[str, Any], memory: Optional[int]):
+        self._start = functools.partial(Worker, command, options, memory)
+        self.busy: List[Worker] = []
+        self.idle: List[Worker] = []
+
+    def begin(self, index: int, path: str) -> None:
+        """Hands a file to a process: to one without a file, else to a new one."""
+        worker = self.idle.pop() if self.idle else self._start()
         try:
-            path = end.recv()
-        except EOFError:
-            return
-        end.send(run(path, command, options))
+            worker.begin(index, path)
+        except OSError:
+            # it ended while it had no file
+            worker.close()
+            worker = self._start()
+            worker.begin(index, path)
+        self.busy.append(worker)
+
+    def finished(self) -> Iterator[Tuple[int, Result]]:
+        """The index and the result of each file that is done; where there is none yet, it waits."""
+        ends = connection.wait([worker.end for worker in self.busy])
+        for worker in [it for it in self.busy if it.end in ends]:
+            self.busy.remove(worker)
+            result = worker.result()
+            if result is None:
+                worker.close()
+                result = unread(worker.path, worker.fault())
+            else:
+                self.idle.append(worker)
+            yield worker.index, result
+
+    def close(self) -> None:
+        """Ends all processes."""
+        for worker in self.busy + self.idle:
+            worker.close()
 
 
 def by_processes(
     paths: Sequence[str], command: str, options: Dict[str, Any], jobs: int, memory: Optional[int] = None
 ) -> Iterator[Result]:
     """What a command says of each file, in their order, by several processes. One that ends costs its file alone."""
-    start = functools.partial(Worker, command, options, memory)
-    workers = [start() for _ in range(min(jobs, len(paths)))]
-    left, done, next_one = enumerate(paths), {}, 0
+    pool, left = Pool(command, options, memory), enumerate(paths)
+    done: Dict[int, Result] = {}
+    awaited = 0
     try:
-        busy: List[Worker] = []
-        for worker in workers:
-            worker.begin(*next(left))
-            busy.append(worker)
-        while next_one < len(paths):
-            ends = connection.wait([worker.end for worker in busy])
-            for worker in [it for it in busy if it.end in ends]:
-                index, result = worker.index, worker.result()
-                busy.remove(worker)
-                if result is None:
-                    result = unread(worker.path, worker.fault())
-                    workers.remove(worker)
-                    worker.close()
-                    worker = start()
-                    workers.append(worker)
+        for item in itertools.islice(left, jobs):
+            pool.begin(*item)
+        while pool.busy:
+            for index, result in pool.finished():
                 done[index] = result
-                upcoming = next(left, None)
-                if upcoming is not None:
-                    worker.begin(*upcoming)
-                    busy.append(worker)
-            while next_one in done:
-                yield done.pop(next_one)
-                next_one += 1
+                for item in itertools.islice(left, 1):
+                    pool.begin(*item)
+            while awaited in done:
+                yield done.pop(awaited)
+                awaited += 1
     finally:
-        for worker in workers:
-            worker.close()
+        pool.close()
 
 
 def by_dask(paths: Sequence[str], command: str, options: Dict[str, Any], address: str) -> Iterator[Result]:
