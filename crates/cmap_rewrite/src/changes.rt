@@ -1,6 +1,7 @@
 //! What is written in the place of what a file says: one file for all layers of a map, or for some of its codes, and
 //! the fewest declarations.
 
+use crate::order::put_single_codes_first;
 use crate::within::cut_texts;
 use cmap_escape::digits::push_code;
 use cmap_escape::escape::push_text;
@@ -35,7 +36,7 @@ pub(crate) fn one_file<'d>(
         subset(alloc, map.layers(), &codes_of(alloc, map, strings)?)
     };
     match made {
-        Ok(file) => Ok(file),
+        Ok(file) => Ok(ordered(file)?),
         Err(Fault::Refused(contradiction)) => {
             Err(Failure::Message(contradiction_line(alloc, path, contradiction)?))
         }
@@ -74,7 +75,13 @@ pub(crate) fn tidied<'d>(alloc: Global, file: File<'d>) -> Result<File<'d>, Allo
     if rows_of_file(&file.lists) > MOST_ROWS {
         return Ok(file);
     }
-    tidy(alloc, &file)
+    ordered(tidy(alloc, &file)?)
+}
+
+/// The file with single codes before ranges.
+fn ordered<'d>(mut file: File<'d>) -> Result<File<'d>, AllocError> {
+    put_single_codes_first(&mut file.lists)?;
+    Ok(file)
 }
 
 /// The file in the fewest declarations that all readers take: no range of texts lies in a codespace range in part.

@@ -6,5 +6,6 @@ mod changes;
 pub mod command;
 pub mod make;
 mod obstacle;
+mod order;
 mod table;
 mod within;
