@@ -705,6 +705,9 @@ public:
         : encoding_(std::move(encoding)), to_unicode_(std::move(to_unicode)),
           collection_(std::move(collection)) {}
 
+    // Of a simple font, which has no CMap: its codes are bytes (ISO 32000-1, 9.6).
+    static Extractor simple(Map to_unicode = {});
+
     // All codes of a string. The text of one is that of the ToUnicode CMap, where it has one for the code;
     // else that of its CID in the map of the collection.
     std::vector<Character> characters(Bytes string) {
@@ -722,6 +725,14 @@ public:
             if (extracted.made == 0) text.resize(2 * text.size());
             string = Bytes(string.data() + extracted.taken, string.size() - extracted.taken);
         }
+    }
+
+    // The text of a string in UTF-8: the texts of its codes, one after another, and for each that has none
+    // `missing`, by default U+FFFD.
+    std::string text(Bytes string, std::string_view missing = "\xEF\xBF\xBD") {
+        std::string text;
+        for (const auto &it : characters(string)) text += it.text ? std::string_view(*it.text) : missing;
+        return text;
     }
 
 private:
@@ -758,6 +769,11 @@ struct Salvaged {
     Map map;
     std::vector<Refusal> faults;
 };
+
+inline Extractor Extractor::simple(Map to_unicode) {
+    auto bytes = Map::parse("begincodespacerange <00> <FF> endcodespacerange");
+    return Extractor(*std::move(bytes), std::move(to_unicode));
+}
 
 inline Result Map::parse(Bytes data, Bundle &bundle, const Files &files, std::uint64_t budget) {
     Map map;

@@ -198,6 +198,14 @@ static void strings_have_texts() {
     CHECK(same(found[2].code, 0x43, 1, 9, true, false) && same(found[3].code, 0x81, 1, std::nullopt, false, false));
     CHECK(!hayro::Extractor(map_of(encoding)).characters("A").at(0).text);
     CHECK(hayro::Extractor(hayro::Map()).characters("A").empty() && font.characters("").empty());
+    CHECK(font.text("ABC\x81"s) == "ff\u65E5\uFFFD\uFFFD" && font.text("AC", "?") == "ff?" && font.text("").empty());
+
+    // The codes of a simple font are bytes, whatever the codespace ranges of its ToUnicode CMap are.
+    auto simple = hayro::Extractor::simple(map_of("begincodespacerange <0000> <FFFF> endcodespacerange "
+                                                  "beginbfchar <41> <0061> <00FF> <00660066> endbfchar"s));
+    CHECK(simple.text("A\xFF\x00"s) == "aff\uFFFD");
+    CHECK(same(simple.characters("\xFF").at(0).code, 0xFF, 1, std::nullopt, true, false));
+    CHECK(hayro::Extractor::simple().text("A") == "\uFFFD");
 
     // Texts that pass the first room, and a text that passes it alone.
     std::string many, text;

@@ -2,6 +2,7 @@
 
 use crate::map::{CMap, StringCode};
 use crate::text::BfString;
+use alloc::string::String;
 
 /// The maps of a font, by which the texts of its strings are found. ISO 32000-1, 9.10.2.
 ///
@@ -25,6 +26,32 @@ impl Extractor {
     /// [`CidFamily::ucs2_cmap`](crate::CidFamily::ucs2_cmap). A clone of a map copies nothing.
     pub fn new(encoding: CMap, to_unicode: Option<CMap>, collection: Option<CMap>) -> Extractor {
         Extractor { encoding, to_unicode, collection }
+    }
+
+    /// Of a simple font, which has no CMap: its codes are bytes. ISO 32000-1, 9.6.
+    ///
+    /// ```
+    /// use hayro_cmap::{CMap, Extractor};
+    ///
+    /// let to_unicode = CMap::parse(b"beginbfchar <41> <006600660069> endbfchar", |_| None);
+    /// assert_eq!(Extractor::simple(to_unicode).text(b"AB"), "ffi\u{FFFD}");
+    /// ```
+    pub fn simple(to_unicode: Option<CMap>) -> Extractor {
+        let bytes = b"begincodespacerange <00> <FF> endcodespacerange";
+        let encoding = CMap::parse(bytes, |_| None).expect("it is a CMap file");
+        Extractor::new(encoding, to_unicode, None)
+    }
+
+    /// The text of a string: the texts of its codes, one after another, with U+FFFD for each that has none.
+    pub fn text(&self, string: &[u8]) -> String {
+        let mut text = String::new();
+        for character in self.characters(string) {
+            match &character.text {
+                Some(more) => text.push_str(more.as_str(&mut [0; 4])),
+                None => text.push(char::REPLACEMENT_CHARACTER),
+            }
+        }
+        text
     }
 }
 

@@ -58,6 +58,20 @@ fn a_text_is_that_of_the_code_or_else_of_the_cid() {
     assert_eq!(texts, [Some(ff), Some(BfString::Char('日')), None, None]);
     let cids: Vec<_> = found.iter().map(|character| character.code.cid).collect();
     assert_eq!(cids, [Some(7), Some(8), Some(9), None]);
+    assert_eq!(font.text(b"ABC\x81"), "ff日\u{FFFD}\u{FFFD}");
+    assert_eq!(font.text(b""), "");
+}
+
+#[test]
+fn the_codes_of_a_simple_font_are_bytes() {
+    let to_unicode = b"begincodespacerange <0000> <FFFF> endcodespacerange
+                       beginbfchar <41> <0061> <00FF> <00660066> endbfchar";
+    let font = Extractor::simple(CMap::parse(to_unicode, |_| None));
+    assert_eq!(font.text(b"A\xFF\x00"), "aff\u{FFFD}");
+    let codes = font.characters(b"A\xFF").into_iter().map(|it| it.code);
+    assert!(codes.clone().all(|code| code.byte_len == 1 && code.in_codespace && code.cid.is_none()));
+    assert_eq!(codes.count(), 2);
+    assert_eq!(Extractor::simple(None).text(b"A"), "\u{FFFD}");
 }
 
 #[test]
