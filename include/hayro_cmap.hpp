@@ -333,6 +333,20 @@ public:
         return cause() == Cause::malformed ? std::optional(fault_.offset) : std::nullopt;
     }
 
+    // The line of the offset in the text at fault: one more than the line ends (LF, CR or CRLF) before it.
+    // Absent for a binary file.
+    std::optional<std::size_t> line(Bytes file) const noexcept {
+        std::string_view text(reinterpret_cast<const char *>(file.data()), file.size());
+        if (!offset() || text.substr(0, 5) == "bcmap") return std::nullopt;
+        std::size_t line = 1;
+        char last = 0;
+        for (char byte : text.substr(0, *offset())) {
+            if (byte == '\r' || (byte == '\n' && last != '\r')) line++;
+            last = byte;
+        }
+        return line;
+    }
+
     // The names that lead to the file at fault, each used by the file before it; none where the fault
     // is in the file itself.
     const std::vector<std::string> &names() const noexcept { return names_; }

@@ -84,6 +84,9 @@ static void refusals_say_why() {
     CHECK(map.refusal().segment() == hayro::Segment::none);
     CHECK(map.refusal().offset() == 19u && map.refusal().names().empty());
     CHECK(map.refusal().message() == "byte 19: a CID was expected");
+    CHECK(map.refusal().line("begincidchar <01> x") == 1u && !map.refusal().line("bcmap\n"));
+    auto lines = "% 1\r% 2\r\n% 3\nbegincidchar <> 5 endcidchar"s;
+    CHECK(hayro::Map::parse(lines).refusal().line(lines) == 4u);
 
     auto missing = hayro::Map::parse("/A usecmap", {{"A", "/B usecmap"}});
     CHECK(!missing && missing.refusal().cause() == hayro::Cause::no_file);

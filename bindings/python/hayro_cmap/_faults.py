@@ -54,9 +54,6 @@ class Segment(enum.IntEnum):
     COLLECTION = 6
 
 
-#: What is wrong with a binary file as a whole.
-BINARY = {Reason.HEADER, Reason.SEGMENT_LENGTH, Reason.SEGMENT_TYPE}
-
 #: The end of a line of a text.
 LINE_END = re.compile(rb"\r\n?|\n")
 
@@ -101,9 +98,10 @@ class Refused(ValueError):
 
         A line ends with LF, CR or CRLF. None for a binary file, and for one that isn't malformed.
         """
-        if self.offset is None or self.segment is not None or self.reason in BINARY:
+        data = bytes_of(data)
+        if self.offset is None or data[:5] == b"bcmap":
             return None
-        return 1 + len(LINE_END.findall(bytes_of(data)[: self.offset]))
+        return 1 + len(LINE_END.findall(data[: self.offset]))
 
     def __str__(self) -> str:
         at_fault = self.names[-1] if self.names else self.opened

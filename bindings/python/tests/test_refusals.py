@@ -114,6 +114,10 @@ class Refusals(unittest.TestCase):
                 self.assertEqual((fault.reason, fault.segment, fault.offset), (reason, Segment.CODESPACES, 16))
                 self.assertIsNone(fault.line(cut))
                 self.assertFalse(fault.words.startswith("byte"), fault.words)
+            # notdefs of five bytes
+            wide = bytes.fromhex("62636D617001 00000012 0A 00000008 05 0001")
+            fault = self.refusal(CMap.parse, wide, bundle=bundle)
+            self.assertEqual((fault.reason, fault.offset, fault.line(wide)), (Reason.CODE_LENGTH, 10, None))
 
     def test_names_of_any_bytes(self):
         fault = self.refusal(CMap.parse, uses(b"\xff\x1bJ\\"))

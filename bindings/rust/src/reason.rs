@@ -1,5 +1,7 @@
 //! What may be wrong with a file.
 
+use crate::refusal::Refusal;
+
 /// What is wrong with the file at fault.
 #[derive(Clone, Copy, Debug, PartialEq, Eq, Hash)]
 #[non_exhaustive]
@@ -72,4 +74,21 @@ pub enum Segment {
     Codespaces,
     /// The character collection.
     Collection,
+}
+
+impl Refusal {
+    /// The line of the offset in `file`, the text at fault: one more than the line ends before it. A line ends
+    /// with LF, CR or CRLF. `None` for a binary file, and where no offset is known.
+    ///
+    /// ```
+    /// let file = b"begincidchar\r\n<01> x";
+    /// let refusal = hayro_cmap::CMap::parse_explained(file, |_| None).unwrap_err();
+    /// assert_eq!((refusal.offset(), refusal.line(file)), (Some(20), Some(2)));
+    /// ```
+    pub fn line(&self, file: &[u8]) -> Option<usize> {
+        let before = file.get(..self.offset()?).filter(|_| !file.starts_with(b"bcmap"))?;
+        let feeds = before.iter().filter(|byte| **byte == b'\n').count();
+        let returns = before.split(|byte| *byte == b'\r').skip(1);
+        Some(1 + feeds + returns.filter(|after| !after.starts_with(b"\n")).count())
+    }
 }

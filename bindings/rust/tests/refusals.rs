@@ -257,6 +257,8 @@ fn files_are_read_past_their_faults() {
     assert_eq!(shown[0], "byte 39: a CID was expected");
     assert_eq!(shown[1], "AB: byte 15: a code has one to four bytes");
     assert_eq!((shown.len(), found.faults[2].cause()), (3, Cause::NoFile));
+    assert_eq!(found.faults[1].line(b"begincidchar\n<> 8\r<44> 9\nendcidchar /C usecmap"), Some(2));
+    assert_eq!((found.faults[0].line(data), found.faults[2].line(data)), (Some(1), None));
     assert_eq!(found.faults[2].names(), [b"AB".to_vec(), b"C".to_vec()]);
 }
 
