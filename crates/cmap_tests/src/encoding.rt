@@ -1,7 +1,7 @@
 //! Strings that show texts, read again.
 
 use crate::examples::{string_of_text, text_of_string};
-use crate::maps::map_over;
+use crate::maps::{map_over, simple_font};
 use cmap_encode::Unencodable;
 use cmap_unicode::{Extractor, simple_encoding};
 use hayro_cmap::{CMap, Fault};
@@ -79,11 +79,7 @@ fn texts_of_several_characters_are_tried_in_every_way(rt: HostRuntime) {
     let alloc = rt.alloc();
     let encoding = simple_encoding(alloc).expect(&rt, "out of memory");
     let to_unicode = map_over(alloc, TO_UNICODE, &[]).expect(&rt, "refused");
-    let font = Extractor {
-        encoding: &encoding,
-        to_unicode: Some(to_unicode.layers()),
-        collection: None,
-    };
+    let font = simple_font(&encoding, &to_unicode);
     let longest_first_fails = is_shown_by(alloc, &font, "abc", b"\x02\x03");
     assert!(rt; longest_first_fails);
     let fewest_bytes = is_shown_by(alloc, &font, "ab", b"\x01");

@@ -1,7 +1,7 @@
 //! The codes of strings with their CIDs and texts, by the maps of a font.
 
 use crate::examples::text_of_string;
-use crate::maps::map_over;
+use crate::maps::{map_over, simple_font};
 use cmap_unicode::{Extractor, simple_encoding, ucs2_name};
 use hayro_cmap::{BfString, Cid, CidFamily};
 use std::alloc::{AllocError, Global};
@@ -66,11 +66,7 @@ fn the_bytes_of_a_simple_font_are_codes(rt: HostRuntime) {
     let alloc = rt.alloc();
     let encoding = simple_encoding(alloc).expect(&rt, "out of memory");
     let to_unicode = map_over(alloc, TO_UNICODE, &[]).expect(&rt, "refused");
-    let font = Extractor {
-        encoding: &encoding,
-        to_unicode: Some(to_unicode.layers()),
-        collection: None,
-    };
+    let font = simple_font(&encoding, &to_unicode);
     let is_right = has_text(alloc, &font, b"\x20\x21\xFF\x20", "ff\u{FFFD}\u{FFFD}ff");
     assert!(rt; matches!(is_right, Ok(true)));
 }
