@@ -69,7 +69,7 @@ fn is_shown(index: &Index, fronts: &[bool], text: &[char]) -> bool
     false
 }
 
-/// Whether so many last characters of a text are the text of a code, and those before them are shown.
+/// Whether the last `taken` characters of a text are the text of a code, and some string shows those before them.
 fn ends_by(index: &Index, fronts: &[bool], text: &[char], taken: usize) -> bool
     requires some { 1 ≤ taken }
     requires within { taken ≤ length text.now }

@@ -24,7 +24,7 @@ pub(crate) fn outside_until(encoding: &Layers, code: Code) -> u32
     last
 }
 
-/// The same by the bytes before so many last ones, of which a code is known up to which all lie outside.
+/// The same by the bytes before the last `after` ones. Codes up to `last` are known to lie outside.
 fn outside_with_front(encoding: &Layers, code: Code, after: u8, last: u32) -> u32
     requires after { (1 ≤ after) × (after ≤ 3) }
     requires within { code.number ≤ last }
@@ -40,7 +40,7 @@ fn outside_with_front(encoding: &Layers, code: Code, after: u8, last: u32) -> u3
     last_with_front(code.number, after)
 }
 
-/// The last number with the same bytes before so many last ones.
+/// The last number with the same bytes before the last `after` ones.
 fn last_with_front(number: u32, after: u8) -> u32
     requires { after ≤ 3 }
     ensures within { number ≤ result }
@@ -55,7 +55,7 @@ fn last_with_front(number: u32, after: u8) -> u32
     }
 }
 
-/// Whether a codespace range has codes of this length with the bytes of this one before so many last ones.
+/// Whether a codespace range has codes of this length with the same bytes before the last `after` ones.
 fn may_begin(encoding: &Layers, code: Code, after: u8) -> bool
     requires { after ≤ 3 }
     ensures { IsTrue result ↔ MayBegin encoding.now (length_of code.len) code.number after }
@@ -66,7 +66,7 @@ fn may_begin(encoding: &Layers, code: Code, after: u8) -> bool
         .any(|layer| any_begins(layer.codespaces(), code, after))
 }
 
-/// Whether one of these does.
+/// Whether one of these codespace ranges has such codes.
 fn any_begins(spaces: &[Codespace], code: Code, after: u8) -> bool
     requires { after ≤ 3 }
     ensures { IsTrue result
@@ -75,7 +75,7 @@ fn any_begins(spaces: &[Codespace], code: Code, after: u8) -> bool
     spaces.iter().any(|space| begins_so(space, code, after))
 }
 
-/// Whether this one does.
+/// Whether this codespace range has such codes.
 fn begins_so(space: &Codespace, code: Code, after: u8) -> bool
     requires { after ≤ 3 }
     ensures { IsTrue result
@@ -92,7 +92,7 @@ fn begins_so(space: &Codespace, code: Code, after: u8) -> bool
     true
 }
 
-/// Whether the byte of a number that stands so many bytes before its last lies between those of others.
+/// Whether the byte of a number at a place, counted from its last byte, lies between those of two others.
 fn is_between(number: u32, low: u32, high: u32, place: u8) -> bool
     requires { place < 4 }
     ensures { IsTrue result
@@ -102,7 +102,7 @@ fn is_between(number: u32, low: u32, high: u32, place: u8) -> bool
     byte_of(low, place) <= byte && byte <= byte_of(high, place)
 }
 
-/// The byte of a number that stands so many bytes before its last.
+/// The byte of a number at a place, counted from its last byte.
 fn byte_of(number: u32, place: u8) -> u32
     requires { place < 4 }
     ensures { result ≡ byte_at number place }

@@ -66,7 +66,7 @@ pub(crate) fn next_text_section(lengths: TextLengths, entries: &[BfRange]) -> (E
     section_of(here, extent, count)
 }
 
-/// A section of so many declarations, or of those of single codes among them: of one or more.
+/// A section of `count` declarations, or of the single codes that they begin with: of one or more.
 fn section_of<T: HasRange>(entries: &[T], extent: Extent, count: usize) -> (Extent, usize)
     requires { 0 < length entries.now }
     ensures some { 0 < result.1 }
