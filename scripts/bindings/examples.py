@@ -1,5 +1,7 @@
 """The examples that decode a string, in C, C++, Rust and Python; those of a bundle, of threads, of declarations and of
-files that are written, in C; and those that write a ToUnicode CMap into a PDF file, in Rust and Python."""
+files that are written, in C; and those that make a ToUnicode CMap, which pdftotext reads in a PDF file."""
+
+from composite_font import pdf
 
 from .checks import needs, run
 from .known import (
@@ -23,7 +25,7 @@ BUNDLE = EXAMPLES / "bundle.c"
 THREADS = EXAMPLES / "threads.c"
 DECLARING = EXAMPLES / "declared.c"
 PREDEFINED = EXAMPLES / "predefined.c"
-MAKING = EXAMPLES / "to_unicode.c"
+MAKING = {"C": EXAMPLES / "to_unicode.c", "C++": EXAMPLES / "to_unicode.cc"}
 WRITING = EXAMPLES / "subset.c"
 # what glyphs stand for, one of them twice
 GLYPHS = ["o", "ffi", "c", "e", "日", "\U0001F600", "é", "o"]
@@ -114,6 +116,11 @@ def check_to_unicode(checks, setting, what, command, **environment):
     path = setting.work / "to_unicode.pdf"
     path.unlink(missing_ok=True)
     checks.ended(f"{what} writes a PDF file", run(*command, path, *GLYPHS, **environment), "")
+    check_text(checks, what, path)
+
+
+def check_text(checks, what, path):
+    """The text of a PDF file is that of the glyphs."""
     ran = run("pdftotext", "-enc", "UTF-8", "-nopgbrk", path, "-")
     checks.same(f"{what}: its text by pdftotext", (ran.status, ran.out.strip()), (0, "".join(GLYPHS)))
 
@@ -215,11 +222,25 @@ def check_made_file(checks, setting, command):
     checks.ended(f"{command_line(command)}: a text that isn't one", run(*command, "41="), "", status=1)
 
 
-@needs("gcc")
-def test_c_makes_a_file(checks, setting):
-    """The example of a ToUnicode CMap, plain and with the sanitizers."""
-    for program in [setting.programs.path(MAKING), setting.programs.sanitized(MAKING)]:
-        check_made_file(checks, setting, [program])
+@needs("gcc", "g++")
+def test_c_and_cpp_make_files(checks, setting):
+    """The examples of a ToUnicode CMap, plain and with the sanitizers."""
+    for source in MAKING.values():
+        for program in [setting.programs.path(source), setting.programs.sanitized(source)]:
+            check_made_file(checks, setting, [program])
+
+
+@needs("gcc", "g++", "pdftotext")
+def test_c_and_cpp_make_to_unicode(checks, setting):
+    """Each makes the ToUnicode CMap of a PDF file whose text pdftotext reads."""
+    codes = {text: f"{code:04X}" for code, text in enumerate(dict.fromkeys(GLYPHS), 1)}
+    string = "".join(codes[text] for text in GLYPHS)
+    for language, source in MAKING.items() if has_debian_files() else []:
+        made = run(setting.programs.path(source), *(f"{code}={text}" for text, code in codes.items()))
+        to_unicode, path = setting.work / "to_unicode.cmap", setting.work / "to_unicode.pdf"
+        to_unicode.write_text(made.out)
+        path.write_text(pdf("Identity-H", string, to_unicode))
+        check_text(checks, language, path)
 
 
 def check_written_file(checks, setting, command):
@@ -242,7 +263,7 @@ def test_c_writes_a_file_for_some_codes(checks, setting):
 @needs("gcc", "valgrind")
 def test_c_makes_and_writes_files_under_memcheck(checks, setting):
     """Every block is freed, and no address is wrong."""
-    check_made_file(checks, setting, [*MEMCHECK, setting.programs.path(MAKING)])
+    check_made_file(checks, setting, [*MEMCHECK, setting.programs.path(MAKING["C"])])
     check_written_file(checks, setting, [*MEMCHECK, setting.programs.path(WRITING)])
 
 
