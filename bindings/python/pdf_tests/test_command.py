@@ -85,7 +85,7 @@ class Command(Folder):
         self.assertIn("none.pdf: it can't be read", fault)
         self.assertRegex(
             fault.splitlines()[-1],
-            "^hayro_cmap: 1 files checked, 1 refused, 1 can't be read; .* of 3 shown codes have a text$",
+            "^hayro_cmap: 1 file checked, 1 refused, 1 can't be read; .* of 3 shown codes have a text$",
         )
 
     def test_quiet(self):

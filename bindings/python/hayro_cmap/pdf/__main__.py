@@ -122,7 +122,8 @@ def last_line(done: List[Result]) -> str:
     refused = sum(result.status == 1 for result in done)
     rest = f", {unread} can't be read" if unread else ""
     counted = share(sum(result.with_text for result in done), sum(result.shown for result in done))
-    return f"{len(done) - unread} files checked, {refused} refused{rest}; {counted}"
+    checked = len(done) - unread
+    return f"{checked} file{'' if checked == 1 else 's'} checked, {refused} refused{rest}; {counted}"
 
 
 def main(words=None) -> int:
