@@ -78,7 +78,7 @@ pub(crate) fn tidied<'d>(alloc: Global, file: File<'d>) -> Result<File<'d>, Allo
     ordered(tidy(alloc, &file)?)
 }
 
-/// The file with single codes before ranges.
+/// The file with the CIDs of single codes before those of ranges.
 fn ordered<'d>(mut file: File<'d>) -> Result<File<'d>, AllocError> {
     put_single_codes_first(&mut file.lists)?;
     Ok(file)

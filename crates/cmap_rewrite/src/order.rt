@@ -1,18 +1,17 @@
-//! The order of declarations. Where none overlap it says nothing; single codes before ranges, as in Adobe's own files,
-//! take fewer sections.
+//! The order of CIDs. Where no declarations overlap it says nothing; single codes before ranges, as in Adobe's own
+//! files, take fewer sections. Texts stay in the order of their codes, since MuPDF passes over what follows a code above
+//! FFFF in a section.
 
-use cmap_runs::runs::HasRange;
 use cmap_values::declarations::{ByLength, CidRange, Lists};
 use std::alloc::AllocError;
 
 /// How many declarations stay in the order of their codes: those of one section.
 const FEW: usize = 100;
 
-/// Puts single codes before ranges in each long list of declarations that don't overlap.
+/// Puts single codes before ranges in each long list of CIDs and of notdefs that don't overlap.
 pub(crate) fn put_single_codes_first(lists: &mut Lists) -> Result<(), AllocError> {
     order_by_length(&mut lists.cids)?;
-    order_by_length(&mut lists.notdefs)?;
-    order(&mut lists.bfs)
+    order_by_length(&mut lists.notdefs)
 }
 
 fn order_by_length(lists: &mut ByLength<Vec<CidRange>>) -> Result<(), AllocError> {
@@ -22,17 +21,17 @@ fn order_by_length(lists: &mut ByLength<Vec<CidRange>>) -> Result<(), AllocError
     order(&mut lists.four)
 }
 
-fn order<T: HasRange>(list: &mut Vec<T>) -> Result<(), AllocError> {
+fn order(list: &mut Vec<CidRange>) -> Result<(), AllocError> {
     if list.len() <= FEW || !are_apart(list.as_slice()) {
         return Ok(());
     }
-    list.sort_by_key(|entry| entry.range().start < entry.range().end)
+    list.sort_by_key(|entry| entry.range.start < entry.range.end)
 }
 
 /// Whether each declaration begins after the one before it has ended.
-fn are_apart<T: HasRange>(list: &[T]) -> bool {
+fn are_apart(list: &[CidRange]) -> bool {
     for index in 1..list.len() {
-        if list[index].range().start <= list[index - 1].range().end {
+        if list[index].range.start <= list[index - 1].range.end {
             return false;
         }
     }
