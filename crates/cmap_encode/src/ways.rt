@@ -63,7 +63,7 @@ fn best_way(index: &Index, ways: &[Option<Way>], text: &[char]) -> Option<Way>
     best
 }
 
-/// The way that takes so many characters at once.
+/// The way whose first code takes `taken` characters, if a string shows the text so.
 fn way_by(index: &Index, ways: &[Option<Way>], text: &[char], taken: usize) -> Option<Way>
     requires some { 1 ≤ taken }
     requires within { taken ≤ length text.now }
