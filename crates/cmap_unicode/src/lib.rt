@@ -7,6 +7,7 @@ mod collections;
 mod extractor;
 mod rows;
 mod simple_fonts;
+mod text_codes;
 
 pub use cids::{declared_cid, declared_stretch};
 pub use collections::ucs2_name;
