@@ -134,7 +134,7 @@ const OF_FILES: &[Form] = &[
     Form {
         name: "find",
         about: "Prints the codes that have a CID or a text",
-        flags: &[BASE, BUNDLE, NO_PREDEFINED, JSON, BUDGET, LENIENT],
+        flags: STRING_FLAGS,
         files: &[CMAP_FILE],
         arguments: Some(Arguments {
             id: ARGUMENT,

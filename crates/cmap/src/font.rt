@@ -12,13 +12,13 @@ use cmap_sources::reading::Manner;
 use cmap_unicode::{Extractor, ucs2_name};
 use hayro_cmap::{CMap, CidFamily};
 
-/// What the arguments of `decode`, `text` and `encode` ask for.
+/// What the arguments of `find`, `decode`, `text` and `encode` ask for.
 #[derive(Clone, Copy)]
 pub(crate) struct StringOptions<'m, 'w> {
     file: &'w str,
     to_unicode: Option<&'w str>,
-    /// Strings in hexadecimal digits; of `encode`, texts.
-    strings: &'m [&'w str],
+    /// Strings in hexadecimal digits; of `encode`, texts; of `find`, `cid:N` and `text:TEXT`.
+    pub(crate) strings: &'m [&'w str],
     pub(crate) sources: Sources<'m, 'w>,
     manner: Manner,
     pub(crate) json: bool,
@@ -88,7 +88,7 @@ pub(crate) fn font_and_texts(
 }
 
 /// The CMaps that the arguments ask for, with that of the collection if it is found.
-fn font_of(
+pub(crate) fn font_of(
     rt: &HostRuntime,
     options: &StringOptions<'_, '_>,
     bases: &mut Bases<'_>,

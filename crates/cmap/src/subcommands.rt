@@ -5,7 +5,7 @@ use crate::check::{CheckOptions, check};
 use crate::decode::decode;
 use crate::diff::{DiffOptions, diff};
 use crate::encode::encode;
-use crate::find::{FindOptions, find};
+use crate::find::find;
 use crate::font::StringOptions;
 use crate::info::{InfoOptions, info};
 use crate::list::{ListOptions, list};
@@ -26,7 +26,7 @@ use cmap_sources::failure::Failure;
 pub(crate) enum Subcommand<'m, 'w> {
     Info(InfoOptions<'m, 'w>),
     List(ListOptions<'m, 'w>),
-    Find(FindOptions<'m, 'w>),
+    Find(StringOptions<'m, 'w>),
     Diff(DiffOptions<'m, 'w>),
     Check(CheckOptions<'m, 'w>),
     Decode(StringOptions<'m, 'w>),
@@ -45,7 +45,7 @@ impl<'m, 'w> Subcommand<'m, 'w> {
         Some(match name {
             "info" => Subcommand::Info(InfoOptions::of(arguments)),
             "list" => Subcommand::List(ListOptions::of(arguments)),
-            "find" => Subcommand::Find(FindOptions::of(arguments)),
+            "find" => Subcommand::Find(StringOptions::of(arguments)),
             "diff" => Subcommand::Diff(DiffOptions::of(arguments)),
             "check" => Subcommand::Check(CheckOptions::of(arguments)),
             "decode" => Subcommand::Decode(StringOptions::of(arguments)),

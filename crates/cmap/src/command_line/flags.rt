@@ -141,7 +141,7 @@ pub(crate) const EFFECTIVE: Flag = Flag {
     help: "What codes have over all layers, in place of what each layer declares",
 };
 
-/// Of `decode` and `text`; `check` has an option of this name too.
+/// Of `find`, `decode`, `text` and `encode`; `check` has an option of this name too.
 pub(crate) const TO_UNICODE: Flag = Flag {
     id: "to-unicode-file",
     short: None,
