@@ -34,6 +34,7 @@ complete -c cmap -n "__fish_seen_subcommand_from $reading" -l lenient -d 'Read p
 complete -c cmap -n "__fish_seen_subcommand_from $reading check write" -l budget -x -d 'The most bytes of all files'
 complete -c cmap -n '__fish_seen_subcommand_from list' -l effective -d 'What codes have over all layers'
 complete -c cmap -n '__fish_seen_subcommand_from find decode text encode' -l to-unicode -r -d 'The ToUnicode CMap of the font'
+complete -c cmap -n '__fish_seen_subcommand_from encode' -l missing -x -d 'The code for what no string shows'
 
 complete -c cmap -n '__fish_seen_subcommand_from check' -l files-from -r -d 'A list of paths'
 complete -c cmap -n '__fish_seen_subcommand_from check' -s 0 -l null -d 'A zero byte ends each path'

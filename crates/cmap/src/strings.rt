@@ -69,7 +69,7 @@ fn add_list(rt: &HostRuntime, path: &str, strings: &mut Vec<Vec<u8>>) -> Result<
 }
 
 /// The bytes that hexadecimal digits spell, two for each.
-fn string_of(rt: &HostRuntime, digits: &str) -> Result<Vec<u8>, Failure> {
+pub(crate) fn string_of(rt: &HostRuntime, digits: &str) -> Result<Vec<u8>, Failure> {
     match hex::decode(rt.alloc(), digits.as_bytes()) {
         Ok(string) => Ok(string),
         Err(_) => Err(fault(rt, digits, "not hexadecimal digits in pairs")),

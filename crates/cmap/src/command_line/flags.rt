@@ -150,6 +150,14 @@ pub(crate) const TO_UNICODE: Flag = Flag {
     help: "The font's ToUnicode CMap, which gives codes their texts",
 };
 
+pub(crate) const MISSING: Flag = Flag {
+    id: "missing",
+    short: None,
+    long: "missing",
+    value: Value::Text("HEX"),
+    help: "The code that stands for each character that no string shows",
+};
+
 pub(crate) const FILES_FROM: Flag = Flag {
     id: "files-from",
     short: None,
