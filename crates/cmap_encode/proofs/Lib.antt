@@ -8,3 +8,4 @@ pub mod WaysFound
 pub mod WaysFollowed
 pub mod FrontsShown
 pub mod CodesOutside
+pub mod FirstsFound
