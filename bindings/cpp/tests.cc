@@ -218,6 +218,28 @@ static void strings_have_texts() {
     CHECK(found.size() == 102 && found[99].text == "b" && found[100].text == text && found[101].text == "b");
 }
 
+static void texts_have_strings() {
+    hayro::Extractor font(map_of("begincodespacerange <00> <7F> endcodespacerange begincidchar <44> 8 endcidchar"s),
+                          map_of("beginbfchar <41> <0066> <42> <00660069> endbfchar"s),
+                          map_of("beginbfchar <0008> <65E5> endbfchar"s));
+    hayro::Encoder encoder(font);
+    auto string = encoder.encode("ffi\u65E5");
+    CHECK(string && *string == "ABD" && font.text(*string) == "ffi\u65E5");
+    CHECK(encoder.encode("")->empty());
+    auto refused = encoder.encode("\u65E5x");
+    CHECK(!refused && refused.offset() == 3);
+    CHECK(encoder.encode("f\xFF"s).offset() == 1);
+
+    auto other = encoder.share();
+    encoder = hayro::Encoder();
+    CHECK(encoder.empty() && !encoder.encode("f") && *other.encode("f") == "A");
+
+    // A string that passes the first room.
+    hayro::Extractor wide(map_of("begincodespacerange <00000000> <00000001> endcodespacerange"s),
+                          map_of("beginbfchar <00000001> <0061> endbfchar"s));
+    CHECK(*hayro::Encoder(wide).encode("aa") == "\0\0\0\1\0\0\0\1"s);
+}
+
 static bool same(const hayro::CidRange &range, std::uint32_t first, std::uint32_t last, hayro::Cid cid) {
     return range.first == first && range.last == last && range.cid == cid;
 }
@@ -418,6 +440,7 @@ int main() {
     files_are_read_past_their_faults();
     strings_are_cut();
     strings_have_texts();
+    texts_have_strings();
     bytes_have_their_lengths();
     layers_are_a_view();
     layers_declare_cids_and_texts();
