@@ -13,15 +13,6 @@ import sys
 import hayro_cmap
 
 
-def texts_of(cmap, files):
-    """The map from the CIDs of a map's collection to Unicode, if there is a file of it."""
-    said = cmap.metadata
-    if said.registry is None or said.ordering is None:
-        return None
-    name = b"%b-%b-UCS2" % (said.registry, said.ordering)
-    return None if files(name) is None else hayro_cmap.CMap.open(name, files)
-
-
 def line_of(code, text):
     """The line of a code."""
     cid = "none" if code.cid is None else code.cid
@@ -31,7 +22,7 @@ def line_of(code, text):
 def main(folder, file, digits):
     files = hayro_cmap.folder(folder)
     with hayro_cmap.CMap.open(file, files) as cmap:
-        font = hayro_cmap.Extractor(cmap, to_unicode=cmap, collection=texts_of(cmap, files))
+        font = hayro_cmap.Extractor(cmap, to_unicode=cmap, files=files)
         for code, text in font.characters(bytes.fromhex(digits)):
             print(line_of(code, text))
 

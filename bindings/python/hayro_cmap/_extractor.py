@@ -1,23 +1,30 @@
 """The texts of strings."""
 
-import contextlib
 import functools
 import itertools
-import struct
-from ctypes import create_string_buffer, string_at
-from typing import Iterable, List, NamedTuple, Optional
+from ctypes import byref, c_size_t
+from typing import Any, Callable, Dict, Iterable, Iterator, List, NamedTuple, Optional, Tuple
 
-from ._library import NO_ROOM, CharacterInString, Extracted, Handle
-from ._map import CMap, Code
-from ._owned import checked, library
+from ._bundle import Bundle
+from ._candidates import candidates
+from ._library import NO_ROOM, Handle
+from ._map import CODE, CMap, Code, code_of_fields
+from ._owned import Owned, checked, library
+from ._reading import Files
+from ._room import Room
 from ._values import Buffer, bytes_of
-
-
-#: A hayro_cmap_character: its fields have no gaps between them.
-CHARACTER = struct.Struct("@IIBBBBINN")
 
 #: The encoding of a simple font, whose codes are single bytes (ISO 32000-1, 9.6).
 SINGLE_BYTES = b"1 begincodespacerange <00> <FF> endcodespacerange"
+
+#: How many bytes a string has at most that is put to the room of an extractor. Longer ones get rooms of their own.
+KEPT_ROOM = 1024
+
+#: How many characters an extractor keeps at most: all of a font whose codes have two bytes.
+KEPT_CHARACTERS = 65536
+
+#: How many codes are looked up together.
+CHUNK = 1024
 
 
 class Character(NamedTuple):
@@ -29,18 +36,49 @@ class Character(NamedTuple):
     text: Optional[str]
 
 
-class Extractor:
+class Extractor(Owned):
     """The maps of a font, by which the texts of its strings are found (ISO 32000-1, 9.10.2).
 
     `encoding` is the font's CMap, `to_unicode` its ToUnicode CMap, and `collection` a map from the CIDs of its character
-    collection to Unicode, as Adobe-Japan1-UCS2: `collection()` of the encoding finds it. A simple font has no CMap, and
-    codes of one byte: of it `encoding` is None. The maps are shared, so that they may be closed or used elsewhere; they
-    are freed by `close`, by `with`, or with the last reference. Several threads may use one extractor, one at a time.
+    collection to Unicode, as Adobe-Japan1-UCS2. Without that one but with `files` or a `bundle`, it is looked for there,
+    as `CMap.collection` of the encoding does: `Extractor(cmap, files=hayro_cmap.predefined)`. A simple font has no
+    CMap, and codes of one byte: of it `encoding` is None.
+
+    The maps are shared, so that they may be closed or used elsewhere; they are freed by `close`, by `with`, or with the
+    last reference. Several threads may use one extractor, one at a time. `share` gives a thread one of its own.
     """
 
-    def __init__(self, encoding: Optional[CMap], to_unicode: Optional[CMap] = None, collection: Optional[CMap] = None):
-        maps = [CMap.parse(SINGLE_BYTES) if encoding is None else encoding, to_unicode, collection]
+    _what = "the extractor"
+    _kind = tuple
+
+    def __init__(
+        self,
+        encoding: Optional[CMap],
+        to_unicode: Optional[CMap] = None,
+        collection: Optional[CMap] = None,
+        files: Optional[Files] = None,
+        bundle: Optional[Bundle] = None,
+    ):
+        if encoding is None:
+            encoding = CMap.parse(SINGLE_BYTES)
+        if collection is None and (files is not None or bundle is not None):
+            collection = encoding.collection(files, bundle)
+        maps = (encoding, to_unicode, collection)
         self._maps = [CMap(Handle()) if cmap is None else cmap.share() for cmap in maps]
+        super().__init__(tuple(cmap._handle for cmap in self._maps))
+        # no types are checked at each call: the arguments have them
+        self._extract = functools.partial(library["hayro_cmap_extract"], *map(byref, self._handle))
+        self._known: Dict[bytes, Character] = {}
+
+    @staticmethod
+    def _free(handles):
+        for handle in handles:
+            library.hayro_cmap_free(handle)
+
+    def share(self) -> "Extractor":
+        """Another extractor with the same maps, for another thread at the same time. Nothing is copied."""
+        with self._held():
+            return type(self)(*self._maps)
 
     def characters(self, string: Buffer) -> List[Character]:
         """The codes of a string, one after another, each with its CID and its text.
@@ -48,24 +86,53 @@ class Extractor:
         The text is that of the ToUnicode CMap, where it has one for the code; else that of the CID in the map of the
         collection. Codes in no codespace range are looked up too.
         """
-        string, found = bytes_of(string), []
-        room, text = (CharacterInString * (len(string) + 1))(), create_string_buffer(4 * len(string) + 4)
-        with contextlib.ExitStack() as stack:
-            handles = [stack.enter_context(cmap._held()) for cmap in self._maps]
-            status = NO_ROOM
-            while status == NO_ROOM:
-                extracted = Extracted()
-                arguments = [string, len(string), room, len(room), text, len(text), extracted]
-                status = checked(library.hayro_cmap_extract(*handles, *arguments))
-                found += characters_in(string_at(room, extracted.made * CHARACTER.size), text.raw)
-                string = string[extracted.taken :]
-                if status == NO_ROOM:
-                    text = create_string_buffer(2 * len(text))
-        return found
+        return list(itertools.chain.from_iterable(self._parts(string, self._characters_in)))
 
     def text(self, string: Buffer, missing: str = "\N{REPLACEMENT CHARACTER}") -> str:
         """The text of a string, with `missing` for each code that has none."""
-        return "".join(missing if it.text is None else it.text for it in self.characters(string))
+        return "".join(self._parts(string, Room.text, missing))
+
+    def _parts(self, string: Buffer, taken_from: Callable[..., Any], *options: Any) -> List[Any]:
+        """What is taken from a room of characters, each time that it is full, until all of the string has been there."""
+        string, parts, status = bytes_of(string), [], NO_ROOM
+        # as by `_held`, which takes longer than to extract a short string
+        with self._lock:
+            self._free_handle()
+            self._is_held = True
+            try:
+                room = self._room if len(string) <= KEPT_ROOM else Room(len(string))
+                while status == NO_ROOM:
+                    status = checked(self._extract(string, c_size_t(len(string)), *room.arguments))
+                    parts.append(taken_from(room, *options))
+                    if status == NO_ROOM:
+                        string, room = string[room.taken :], room.larger()
+            finally:
+                self._is_held = False
+        return parts
+
+    @functools.cached_property
+    def _room(self):
+        """The room that is kept from call to call."""
+        return Room(KEPT_ROOM)
+
+    def _characters_in(self, room):
+        """The characters in a room. Those that were found before are kept, by their codes as the library writes them."""
+        known, texts = self._known, room.texts
+        if len(known) > KEPT_CHARACTERS:
+            known.clear()
+        return [
+            known.get(code) or known.setdefault(code, character_of(code, has_text, texts[start : start + text_len]))
+            for code, has_text, start, text_len in room.characters()
+        ]
+
+    def items(self) -> Iterator[Tuple[bytes, str]]:
+        """Each code in a codespace range that has a text: its bytes, and the text that `characters` gives. So
+        `dict(font.items())` has all texts of a font.
+
+        They come in the order of their lengths, then of their bytes, and are looked for one after another: of a font
+        with 2^32 codes `itertools.islice` takes some.
+        """
+        return items_of(self.share())
 
     def characters_of(self, strings: Iterable[Buffer]) -> List[List[Character]]:
         """What `characters` gives for each of many strings, which takes less time than to ask for each."""
@@ -81,29 +148,22 @@ class Extractor:
     @functools.cached_property
     def _code_length(self):
         """How many bytes each code has, or None where codes have several lengths."""
-        lengths = {it.byte_len for layer in self._maps[0].layers for it in layer.codespaces} or {1}
+        with self._held():
+            lengths = {it.byte_len for layer in self._maps[0].layers for it in layer.codespaces} or {1}
         return lengths.pop() if len(lengths) == 1 else None
 
-    def close(self):
-        """Frees the maps, unless others share them. Each later use is a ValueError, but for a second `close`."""
-        for cmap in self._maps:
-            cmap.close()
 
-    def __enter__(self):
-        return self
+def items_of(font: Extractor) -> Iterator[Tuple[bytes, str]]:
+    """The codes of a font with their texts, which frees the font at last."""
+    with font:
+        codes = candidates(*font._maps)
+        for chunk in iter(lambda: list(itertools.islice(codes, CHUNK)), []):
+            for code, found in zip(chunk, font.characters_of(chunk)):
+                # the bytes may begin with a shorter code
+                if len(found) == 1 and found[0].code.in_codespace and found[0].text is not None:
+                    yield code, found[0].text
 
-    def __exit__(self, *_):
-        self.close()
 
-
-def characters_in(room: bytes, text: bytes) -> List[Character]:
-    """The characters of a room, whose texts stand in another one."""
-    return [
-        Character(
-            Code(code, byte_len, cid if has_cid else None, bool(in_codespace), bool(cut_short)),
-            text[start : start + text_len].decode() if has_text else None,
-        )
-        for code, cid, byte_len, in_codespace, has_cid, cut_short, has_text, start, text_len in CHARACTER.iter_unpack(
-            room
-        )
-    ]
+def character_of(code: bytes, has_text: int, text: bytes) -> Character:
+    """The character of a hayro_cmap_code and a text in UTF-8."""
+    return Character(code_of_fields(*CODE.unpack(code)), text.decode() if has_text else None)

@@ -5,11 +5,11 @@ import functools
 import os
 import struct
 from ctypes import c_int32, c_size_t, c_uint16, c_uint32, string_at
-from typing import Iterable, List, NamedTuple, Optional, Tuple, Union
+from typing import Iterable, Iterator, List, NamedTuple, Optional, Tuple, Union
 
 from . import _based
 from ._bundle import Bundle, held
-from ._effective import TextRun, effective
+from ._effective import TextRun, effective, text_at
 from ._faults import Cause, NotWritable, Refused
 from ._library import (
     ABSENT,
@@ -287,10 +287,7 @@ class CMap(Owned):
         codes, made, taken = (CodeInString * (len(text) + 1))(), c_size_t(), c_size_t()
         self._ask(library.hayro_cmap_decode, text, len(text), codes, len(codes), made, taken)
         found = string_at(codes, made.value * CODE.size)
-        return [
-            Code(code, byte_len, cid if has_cid else None, bool(in_codespace), bool(cut_short))
-            for code, cid, byte_len, in_codespace, has_cid, cut_short in CODE.iter_unpack(found)
-        ]
+        return [code_of_fields(*fields) for fields in CODE.iter_unpack(found)]
 
     def cid(self, code: int, byte_len: int) -> Optional[int]:
         """The CID of a code of `byte_len` bytes, or None. Codespace ranges aren't looked at."""
@@ -383,6 +380,15 @@ class CMap(Owned):
         ranges = [it for layer in layers for it in layer.codespaces] if codespaces is None else list(codespaces)
         return effective([it for layer in layers for it in reversed(layer.texts)], ranges)
 
+    def items(self, codespaces: Optional[Iterable[Codespace]] = None) -> Iterator[Tuple[bytes, str]]:
+        """Each code that has a text: its bytes, by `texts` of these codespace ranges, and the text. So
+        `dict(cmap.items())` has all texts of a map."""
+        return (
+            (code.to_bytes(run.byte_len, "big"), text_at(run.text, code - run.first))
+            for run in self.texts(codespaces)
+            for code in range(run.first, run.last + 1)
+        )
+
     def _put(self, call, *arguments, **options):
         """The bytes that a call on the map puts to a room, or None."""
         with self._held() as handle:
@@ -411,6 +417,11 @@ class CMap(Owned):
             room = (kind * needed.value)()
             status = checked(self._ask(call, *arguments, room, len(room), needed))
         return room[: needed.value] if status == OK else []
+
+
+def code_of_fields(code, cid, byte_len, in_codespace, has_cid, cut_short):
+    """The code of the fields of a hayro_cmap_code."""
+    return Code(code, byte_len, cid if has_cid else None, bool(in_codespace), bool(cut_short))
 
 
 def opened_or_none(name, files, bundle):

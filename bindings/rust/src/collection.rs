@@ -64,6 +64,20 @@ impl CidFamily {
             CidFamily::AdobeIdentity | CidFamily::Custom { .. } => None,
         }
     }
+
+    /// The name of the CMap from the CIDs of the family to Unicode: its registry, its ordering and `UCS2`, as
+    /// Adobe-Japan1-UCS2. Any family has one, also where nobody made such a CMap. ISO 32000-1, 9.10.2.
+    pub fn ucs2_name(&self) -> Vec<u8> {
+        let (registry, ordering): (&[u8], &[u8]) = match self {
+            CidFamily::AdobeJapan1 => (b"Adobe", b"Japan1"),
+            CidFamily::AdobeGB1 => (b"Adobe", b"GB1"),
+            CidFamily::AdobeCNS1 => (b"Adobe", b"CNS1"),
+            CidFamily::AdobeKorea1 => (b"Adobe", b"Korea1"),
+            CidFamily::AdobeIdentity => (b"Adobe", b"Identity"),
+            CidFamily::Custom { registry, ordering } => (registry, ordering),
+        };
+        [registry, ordering, b"UCS2"].join(&b'-')
+    }
 }
 
 /// A character collection. Adobe Technical Note 5014.

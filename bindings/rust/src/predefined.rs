@@ -1,6 +1,7 @@
 //! The predefined CMap files that a system has.
 
 use crate::CMapName;
+use crate::extractor::{Extractor, ucs2_name_of};
 use crate::map::CMap;
 use crate::options::ParseOptions;
 use crate::reading::MOST_FILES;
@@ -118,6 +119,30 @@ impl CMap {
         let files = files_of(name)?;
         let get_cmap = |name: CMapName<'_>| files.get(name.to_bytes()).map(Vec::as_slice);
         Ok(ParseOptions::new().open(name, get_cmap)?)
+    }
+}
+
+impl Extractor {
+    /// The maps of a font as [`Extractor::over`] has them, with the map of the character collection that the
+    /// system has, as Adobe-Japan1-UCS2, if it has one.
+    ///
+    /// ```no_run
+    /// use hayro_cmap::{CMap, Extractor};
+    ///
+    /// let encoding = CMap::open_predefined("90ms-RKSJ-H")?.expect("poppler-data isn't installed");
+    /// let font = Extractor::over_predefined(encoding, None)?;
+    /// assert_eq!(font.text(b"\x93\xFA\x96\x7B"), "日本");
+    /// # Ok::<(), hayro_cmap::OpenError>(())
+    /// ```
+    pub fn over_predefined(
+        encoding: CMap,
+        to_unicode: Option<CMap>,
+    ) -> Result<Extractor, OpenError> {
+        let collection = match ucs2_name_of(&encoding) {
+            Some(name) => CMap::open_predefined(CMapName::from_bytes(&name))?,
+            None => None,
+        };
+        Ok(Extractor::new(encoding, to_unicode, collection))
     }
 }
 

@@ -1,7 +1,7 @@
 //! Strings, layers, threads, and the files of Debian's package `poppler-data`.
 
 use hayro_cmap::{
-    BfString, CMap, CMapName, CidFamily, CidRange, Codespace, Extractor, WritingMode,
+    BfString, CMap, CMapName, CidFamily, CidRange, Codespace, Extractor, Reason, WritingMode,
 };
 use std::collections::HashMap;
 use std::fs;
@@ -60,6 +60,29 @@ fn a_text_is_that_of_the_code_or_else_of_the_cid() {
     assert_eq!(cids, [Some(7), Some(8), Some(9), None]);
     assert_eq!(font.text(b"ABC\x81"), "ff日\u{FFFD}\u{FFFD}");
     assert_eq!(font.text(b""), "");
+}
+
+#[test]
+fn the_map_of_the_collection_is_found() {
+    let collection = b"/CIDSystemInfo << /Registry (Some) /Ordering (One) /Supplement 0 >> def";
+    let encoding = b"/Base usecmap begincodespacerange <00> <FF> endcodespacerange
+                     begincidrange <41> <43> 7 endcidrange";
+    let files = |name: CMapName<'_>| -> Option<&'static [u8]> {
+        match name.to_bytes() {
+            b"Base" => Some(collection),
+            b"Some-One-UCS2" => Some(b"beginbfchar <0007> <0061> endbfchar"),
+            b"Broken-One-UCS2" => Some(b"beginbfchar <0007> x endbfchar"),
+            _ => None,
+        }
+    };
+    let font = |file| Extractor::over(CMap::parse(file, files).unwrap(), None, files);
+    assert_eq!(font(encoding).unwrap().text(b"AB"), "a\u{FFFD}");
+    let broken = b"/CIDSystemInfo << /Registry (Broken) /Ordering (One) /Supplement 0 >> def";
+    assert_eq!(font(broken).unwrap_err().reason(), Some(Reason::TextExpected));
+    let other = b"/CIDSystemInfo << /Registry (Other) /Ordering (One) /Supplement 0 >> def";
+    assert_eq!([font(other).unwrap().text(b"A"), font(b"").unwrap().text(b"A")], ["\u{FFFD}"; 2]);
+    assert_eq!(CidFamily::AdobeKorea1.ucs2_name(), b"Adobe-Korea1-UCS2");
+    assert_eq!(CidFamily::from_registry_ordering(b"A", b"B").ucs2_name(), b"A-B-UCS2");
 }
 
 #[test]

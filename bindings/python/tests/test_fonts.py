@@ -1,0 +1,228 @@
+"""The maps of a font, and the texts of its strings."""
+
+import itertools
+import random
+import unittest
+from concurrent.futures import ThreadPoolExecutor
+
+import hayro_cmap
+from hayro_cmap import CMap, Code, Extractor, Refused, to_unicode
+
+from .files import BROKEN, SMALL, needs_resources, predefined
+
+#: A font of codes of one and two bytes, with the CIDs 1 to 95 and 633 to 695, and a collection.
+TEXTS_OF_CIDS = b"2 beginbfrange <0001> <005F> <0020> <0279> <02B7> <3000> endbfrange"
+
+#: Codes of two bytes; the last one of four has no text.
+TO_UNICODE = b"beginbfchar <0041> <0061> <0042> <D83DDE00> <0043> <006600660069> endbfchar"
+
+
+def identity_font(texts=TO_UNICODE):
+    """A font of Identity-H with these texts."""
+    with CMap.identity() as identity, CMap.parse(texts) as cmap:
+        return Extractor(identity, cmap)
+
+
+class Texts(unittest.TestCase):
+    def test_codes_without_a_text(self):
+        with identity_font() as font:
+            for codes in ["ABC", "", "D", "DABC", "ABCD", "ADDB", "DDD", "DADBDCD"]:
+                string = codes.encode("utf-16-be")
+                found = font.characters(string)
+                self.assertEqual([it.code.code for it in found], list(map(ord, codes)))
+                for missing in ["\uFFFD", "", "[?]"]:
+                    self.assertEqual(
+                        font.text(string, missing), "".join(missing if it.text is None else it.text for it in found)
+                    )
+            self.assertEqual(font.text(b"\0A\0B\0D\0C"), "a\U0001F600\uFFFDffi")
+
+    def test_strings_of_all_lengths(self):
+        """Those that have rooms of their own, too."""
+        with identity_font() as font:
+            for codes in [0, 1, 511, 512, 513, 1024, 70_000]:
+                string = b"\0A\0D" * (codes // 2) + b"\0C" * (codes % 2)
+                expected = "a\uFFFD" * (codes // 2) + "ffi" * (codes % 2)
+                self.assertEqual(font.text(string), expected)
+                self.assertEqual(font.text(bytearray(string)), expected)
+                self.assertEqual("".join(it.text or "\uFFFD" for it in font.characters(string)), expected)
+
+    def test_texts_that_pass_the_room(self):
+        texts = b"beginbfchar <0041> <%b> <0042> <0062> endbfchar" % (b"65E5" * 4000)
+        with identity_font(texts) as font:
+            self.assertEqual(font.text(b"\0B\0A\0D\0B"), "b" + "日" * 4000 + "\uFFFDb")
+            self.assertEqual(font.text(b"\0A" * 20), "日" * 80_000)
+            self.assertEqual(len(font.characters(b"\0A" * 3 + b"\0B")), 4)
+
+    def test_codes_that_are_cut_short(self):
+        """A code that the string cuts short isn't the one that its bytes write."""
+        with identity_font(b"beginbfchar <0041> <0061> endbfchar") as font:
+            for _ in range(2):
+                self.assertEqual(font.characters(b"\0A"), [(Code(0x41, 2, 0x41, True, False), "a")])
+                self.assertEqual(font.characters(b"A")[0].code, Code(0x41, 1, None, False, True))
+
+    def test_more_characters_than_are_kept(self):
+        data = b"begincodespacerange <000000> <FFFFFF> endcodespacerange begincidrange <000000> <FFFFFF> 0 endcidrange"
+        with CMap.parse(data) as cmap, Extractor(cmap) as font:
+            for first in [0, 50_000, 0]:
+                codes = range(first, first + 50_000)
+                found = font.characters(b"".join(code.to_bytes(3, "big") for code in codes))
+                self.assertEqual([it.code.cid for it in found], list(codes))
+
+    def test_collection_of_the_encoding(self):
+        files = {"Adobe-Japan1-UCS2": TEXTS_OF_CIDS}
+        with CMap.parse(SMALL) as cmap:
+            for over in [{"files": files}, {"files": lambda name: files.get(name.decode())}]:
+                with Extractor(cmap, **over) as font:
+                    self.assertEqual(font.text(b"B\x81\x40"), "B\u3000")
+            with CMap.parse(b"") as none, Extractor(cmap, None, none, files=files) as font:
+                self.assertEqual(font.text(b"B"), "\uFFFD")
+            with Extractor(cmap, files={}) as font, Extractor(None, files=files) as simple:
+                self.assertEqual([font.text(b"B"), simple.text(b"B")], ["\uFFFD"] * 2)
+            self.assertRaises(Refused, Extractor, cmap, files={"Adobe-Japan1-UCS2": BROKEN})
+
+    @needs_resources
+    def test_collection_of_the_system(self):
+        with CMap.open("90ms-RKSJ-H") as cmap, Extractor(cmap, files=hayro_cmap.predefined) as font:
+            self.assertEqual(font.text("日本語".encode("cp932")), "日本語")
+
+
+class Uses(unittest.TestCase):
+    """Closing, and several threads."""
+
+    def test_use_after_close(self):
+        font = identity_font()
+        other = font.share()
+        font.close()
+        font.close()
+        uses = [
+            lambda: font.characters(b""),
+            lambda: font.text(b""),
+            lambda: font.characters_of([b""]),
+            lambda: font.items(),
+            lambda: font.share(),
+            lambda: font.__enter__(),
+        ]
+        for use in uses:
+            self.assertRaises(ValueError, use)
+        self.assertEqual([other.text(b"\0A")], ["a"])
+        other.close()
+
+    def test_use_within_a_use(self):
+        """As a handler of signals may have it: it is no deadlock."""
+        with identity_font() as font:
+            with font._held():
+                for use in [lambda: font.text(b"\0A"), font.close]:
+                    self.assertRaises(RuntimeError, use)
+            self.assertEqual(font.text(b"\0A"), "a")
+
+    def test_maps_that_are_closed(self):
+        with CMap.identity() as identity, CMap.parse(TO_UNICODE) as cmap:
+            font = Extractor(identity, cmap)
+        self.assertEqual(font.text(b"\0A"), "a")
+        items = font.items()
+        font.close()
+        self.assertEqual(dict(items), {b"\0A": "a", b"\0B": "\U0001F600", b"\0C": "ffi"})
+
+    def test_threads(self):
+        with identity_font() as font, ThreadPoolExecutor(8) as pool:
+            strings = [b"\0A" * count + b"\0C\0D" for count in range(400)] * 4
+            texts = list(pool.map(font.text, strings))
+            self.assertEqual(texts, ["a" * count + "ffi\uFFFD" for count in range(400)] * 4)
+
+
+def codes_in(codespaces):
+    """All codes of codespace ranges, given by their lowest and highest bytes."""
+    return {
+        bytes(code)
+        for low, high in codespaces
+        for code in itertools.product(*(range(least, most + 1) for least, most in zip(low, high)))
+    }
+
+
+class Items(unittest.TestCase):
+    """Each code in a codespace range that has a text is found, once and in order."""
+
+    def items_of(self, font, codespaces):
+        """The items, which are what `characters` gives for each code."""
+        items = list(font.items())
+        expected = {}
+        for code in codes_in(codespaces):
+            found = font.characters(code)
+            if len(found) == 1 and found[0].code.in_codespace and found[0].text is not None:
+                expected[code] = found[0].text
+        self.assertEqual(dict(items), expected)
+        codes = [code for code, _ in items]
+        self.assertEqual(codes, sorted(expected, key=lambda code: (len(code), code)))
+        return items
+
+    def test_simple_font(self):
+        with CMap.parse(b"beginbfrange <20> <7E> <0020> <0100> <01FF> <4E00> endbfrange") as cmap:
+            with Extractor(None, cmap) as font:
+                items = self.items_of(font, [(b"\x00", b"\xff")])
+        self.assertEqual((items[0], items[-1], len(items)), ((b" ", " "), (b"~", "~"), 95))
+
+    def test_texts_of_cids(self):
+        with CMap.parse(SMALL) as cmap, Extractor(cmap, files={"Adobe-Japan1-UCS2": TEXTS_OF_CIDS}) as font:
+            items = dict(self.items_of(font, [(b"\x00", b"\x80"), (b"\x81\x40", b"\x9f\xfc")]))
+        self.assertEqual((items[b"A"], items[b"\x81\x40"], len(items)), ("A", "\u3000", 95 + 63))
+
+    def test_codes_that_begin_with_a_code(self):
+        ranges = b"begincodespacerange <41> <41> <4000> <42FF> endcodespacerange"
+        declared = b" begincidrange <41> <41> 1 <4000> <42FF> 2 endcidrange beginnotdefrange <4240> <4280> 1 endnotdefrange"
+        with CMap.parse(ranges + declared) as cmap, CMap.parse(b"beginbfrange <0001> <0202> <0100> endbfrange") as texts:
+            with Extractor(cmap, None, texts) as font:
+                items = dict(self.items_of(font, [(b"\x41", b"\x41"), (b"\x40\x00", b"\x42\xff")]))
+        self.assertNotIn(b"\x41\x00", items)
+
+    def test_random_maps(self):
+        chosen = random.Random(7)
+
+        def row(length, width):
+            first = chosen.randrange(256**length)
+            return first, min(first + chosen.randrange(width), 256**length - 1)
+
+        for _ in range(40):
+            codespaces, parts = [], []
+            for length in chosen.choices([1, 2], k=3):
+                low, high = sorted(chosen.choices(range(256), k=2)), sorted(chosen.choices(range(256), k=2))
+                bounds = list(zip(low, high))[:length]
+                codespaces.append([bytes(min(it) for it in bounds), bytes(max(it) for it in bounds)])
+            for low, high in codespaces:
+                parts.append(f"begincodespacerange <{low.hex()}> <{high.hex()}> endcodespacerange")
+            for kind, length in zip(chosen.choices(["cid", "notdef"], k=12), chosen.choices([1, 2], k=12)):
+                first, last = row(length, 400)
+                codes = f"<{first:0{2 * length}x}> <{last:0{2 * length}x}>"
+                parts.append(f"begin{kind}range {codes} {chosen.randrange(600)} end{kind}range")
+            texts = [f"<{first:04x}> <{last:04x}> <{chosen.randrange(65536):04x}>" for first, last in [row(2, 99)] * 9]
+            of_cids = [f"<{cid:04x}> <{chosen.randrange(65536):04x}>" for cid in chosen.sample(range(700), 200)]
+            with CMap.parse(" ".join(parts).encode()) as encoding:
+                with CMap.parse(f"beginbfrange {' '.join(texts)} endbfrange".encode()) as own:
+                    with CMap.parse(f"beginbfchar {' '.join(of_cids)} endbfchar".encode()) as collection:
+                        with Extractor(encoding, own, collection) as font:
+                            self.items_of(font, codespaces)
+
+    def test_more_codes_than_can_be_listed(self):
+        ranges = b"begincodespacerange <00000000> <FFFFFFFF> endcodespacerange"
+        declared = b" beginnotdefrange <00000000> <FFFFFFFF> 1 endnotdefrange"
+        with CMap.parse(ranges + declared) as cmap, CMap.parse(b"beginbfchar <0001> <0041> endbfchar") as texts:
+            with Extractor(cmap, None, texts) as font:
+                found = list(itertools.islice(font.items(), 3000))
+        self.assertEqual(found[2999], ((2999).to_bytes(4, "big"), "A"))
+
+    def test_map(self):
+        with CMap.parse(TO_UNICODE + b" beginbfrange <010000> <010002> <0078> endbfrange") as cmap:
+            items = dict(cmap.items())
+        self.assertEqual(items[b"\x43"], "ffi")
+        self.assertEqual([items[bytes([1, 0, last])] for last in range(3)], ["x", "y", "z"])
+        with CMap.parse(to_unicode({1: "A", 2: "ffi"})) as cmap:
+            self.assertEqual(dict(cmap.items()), {b"\0\x01": "A", b"\0\x02": "ffi"})
+
+    @needs_resources
+    def test_predefined(self):
+        with CMap.open("90ms-RKSJ-H") as cmap, Extractor(cmap, files=hayro_cmap.predefined) as font:
+            bounds = [(b"\x00", b"\x80"), (b"\x81\x40", b"\x9f\xfc"), (b"\xa0", b"\xdf"), (b"\xe0\x40", b"\xfc\xfc")]
+            self.assertGreater(len(self.items_of(font, bounds)), 7000)
+
+
+if __name__ == "__main__":
+    unittest.main()
