@@ -2,10 +2,10 @@
 
 use crate::command_line::flags::MISSING;
 use crate::font::{StringOptions, font_and_texts};
-use crate::strings::string_of;
+use crate::strings::spelled;
 use clap::ArgMatches;
 use cmap_encode::Encoder;
-use cmap_report::encode::{encoded, push_string_json, push_string_line};
+use cmap_report::encode::{push_string_json, push_string_line, string_of};
 use cmap_sources::bases::Bases;
 use cmap_sources::failure::Failure;
 use cmap_sources::path_text::push_path;
@@ -51,7 +51,7 @@ fn missing_of(
     options: &EncodeOptions<'_, '_>,
 ) -> Result<Option<Vec<u8>>, Failure> {
     match options.missing {
-        Some(digits) => Ok(Some(string_of(rt, digits)?)),
+        Some(digits) => Ok(Some(spelled(rt, digits)?)),
         None => Ok(None),
     }
 }
@@ -81,7 +81,7 @@ impl Printer {
             Some(bytes) => Some(bytes.as_slice()),
             None => None,
         };
-        let found = encoded(rt.alloc(), &self.encoder, text, missing)?;
+        let found = string_of(rt.alloc(), &self.encoder, text, missing)?;
         let mut line = String::new(rt.alloc());
         if self.json {
             push_string_json(rt.alloc(), &mut line, text, &found)?;

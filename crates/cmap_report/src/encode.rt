@@ -21,7 +21,7 @@ pub struct Encoded {
 }
 
 /// The string of a text. With `missing`, these bytes stand for each character that can't be shown.
-pub fn encoded(
+pub fn string_of(
     alloc: Global,
     encoder: &Encoder,
     text: &str,
