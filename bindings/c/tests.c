@@ -283,8 +283,7 @@ static void a_string_is_extracted_up_to_the_rooms(void) {
     hayro_cmap_free(&encoding);
 }
 
-// An encoder of codes of one byte, of which the second has two characters, the third has none, and the fourth is that of a
-// CID with a text.
+// An encoder of codes of one byte: one with a character, one with two, one without a text, and one whose CID has a text.
 static hayro_cmap_encoder encoder_of_font(void) {
     hayro_cmap encoding = map_of(TEXT("begincodespacerange <00> <7F> endcodespacerange "
                                       "begincidchar <44> 8 endcidchar"));
