@@ -8,3 +8,5 @@ pub mod WaysFound
 pub mod WaysFollowed
 pub mod FrontsShown
 pub mod CodesOutside
+pub mod LossyShown
+pub mod FirstsFound

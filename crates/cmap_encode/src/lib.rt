@@ -3,6 +3,7 @@
 
 mod code;
 mod encoder;
+mod firsts;
 mod fronts;
 mod index;
 mod outside;
