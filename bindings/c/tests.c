@@ -283,8 +283,7 @@ static void a_string_is_extracted_up_to_the_rooms(void) {
     hayro_cmap_free(&encoding);
 }
 
-// An encoder of codes of one byte, of which the second has two characters, the third has none, and the fourth is that of a
-// CID with a text.
+// An encoder of codes of one byte: one with a character, one with two, one without a text, and one whose CID has a text.
 static hayro_cmap_encoder encoder_of_font(void) {
     hayro_cmap encoding = map_of(TEXT("begincodespacerange <00> <7F> endcodespacerange "
                                       "begincidchar <44> 8 endcidchar"));
@@ -321,6 +320,20 @@ static void texts_without_a_string_are_refused(void) {
     hayro_cmap_encoder_free(&encoder);
     CHECK(hayro_cmap_encode(&encoder, TEXT("f"), room, 4, &needed, &offset) == HAYRO_CMAP_ABSENT);
     CHECK(offset == 2 && needed == 9 && same(room, "\7\7\7\7", 4));
+}
+
+static void bytes_stand_for_characters_without_a_string(void) {
+    hayro_cmap_encoder encoder = encoder_of_font();
+    uint8_t room[8] = {7, 7, 7, 7, 7, 7, 7, 7};
+    size_t needed = 9;
+    CHECK(hayro_cmap_encode_lossy(&encoder, TEXT("xffi\xC3\xA9"), TEXT("?!"), room, 8, &needed) == HAYRO_CMAP_OK);
+    CHECK(needed == 6 && same(room, "?!AB?!\7\7", 8));
+    CHECK(hayro_cmap_encode_lossy(&encoder, TEXT("xffx"), TEXT(""), room, 1, &needed) == HAYRO_CMAP_NO_ROOM);
+    CHECK(needed == 2 && same(room, "?!AB?!\7\7", 8));
+    CHECK(hayro_cmap_encode_lossy(&encoder, TEXT("f\xC3"), TEXT("?"), room, 8, &needed) == HAYRO_CMAP_REFUSED);
+    hayro_cmap_encoder_free(&encoder);
+    CHECK(hayro_cmap_encode_lossy(&encoder, TEXT("f"), TEXT("?"), room, 8, &needed) == HAYRO_CMAP_ABSENT);
+    CHECK(needed == 2 && same(room, "?!AB?!\7\7", 8));
 }
 
 static void an_encoder_needs_an_encoding(void) {
@@ -787,6 +800,7 @@ int main(void) {
     a_string_is_extracted_up_to_the_rooms();
     texts_have_strings();
     texts_without_a_string_are_refused();
+    bytes_stand_for_characters_without_a_string();
     an_encoder_needs_an_encoding();
     a_shared_encoder_outlives_its_first_handle();
     files_are_opened_by_their_names();

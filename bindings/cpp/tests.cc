@@ -229,6 +229,7 @@ static void texts_have_strings() {
     auto refused = encoder.encode("\u65E5x");
     CHECK(!refused && refused.offset() == 3);
     CHECK(encoder.encode("f\xFF"s).offset() == 1);
+    CHECK(encoder.encode_lossy("xffi", "\0??"s) == "\0??AB"s && !encoder.encode_lossy("\xFF", "?"));
 
     auto other = encoder.share();
     encoder = hayro::Encoder();

@@ -3,6 +3,7 @@ use Rattle.std.proofs.Common.{◌≡◌, ℕ, List, Option, None, Some, Result, 
 use Rattle.std.specs.Prelude.{IfOk}
 use Rattle.std.specs.Result.{MatchResult}
 use Rattle.std.specs.Global.{Vec}
+use Rattle.std.specs.Str.{IsUtf8}
 use Rattle.std.specs.declared.alloc.AllocError.{AllocError}
 use Rattle.cmap_values.specs.Outcomes.{Outcome}
 use Rattle.cmap_values.specs.declared.fault.Fault.{Fault}
@@ -14,7 +15,7 @@ use Rattle.cmap_unicode.specs.TextsOfCodes.{Font}
 use Rattle.cmap_encode.specs.EncoderSeen.{IsEncoderOf}
 use Rattle.cmap_encode.specs.declared.encoder.Encoder.{Encoder}
 use Rattle.cmap_encode.specs.declared.encoder.Unencodable.{Unencodable}
-use Rattle.cmap_c_encoder.specs.Encoded.{EndsAs, IsBuilt, IsRefusedAt, IsStringOf, PutsString}
+use Rattle.cmap_c_encoder.specs.Encoded.{EndsAs, IsBuilt, IsLossyStringOf, IsRefusedAt, IsStringOf, PutsLossyString, PutsString}
 
 -- what holds of a font holds of that of the same maps
 pub of_font : (P : Font → Type 0) (encoding : List Layer) (texts to_unicode texts_of_cids collection : Option (List Layer)) → texts ≡ to_unicode → texts_of_cids ≡ collection
@@ -35,3 +36,9 @@ pub string_put : (font : Font) (text : List ℕ) (made : Result (Vec ℕ) (Fault
 string_put font text (Ok string) old new old_needed needed old_offset offset status is ends = inl (string.items, is.0, ends.0, ends.1)
 string_put font text (Err (fault.Refused refused)) old new old_needed needed old_offset offset status is ends = inr (inl (ends.0.0, rw ends.0.1 is.1), ends.1, ends.2)
 string_put font text (Err fault.Memory) old new old_needed needed old_offset offset status is ends = inr (inr ends.0, ends.1, ends.2)
+
+pub lossy_put : (font : Font) (missing text : List ℕ) (made : Result (Vec ℕ) (Fault Unencodable)) (old new : List ℕ) (old_needed needed old_offset offset status : ℕ)
+    → Outcome (λ string. IsLossyStringOf font missing text string.items) (λ _. IsUtf8 text → ⊥) made → EndsAs made old new old_needed needed old_offset offset status → PutsLossyString font missing text old new old_needed needed status
+lossy_put font missing text (Ok string) old new old_needed needed old_offset offset status is ends = inl (string.items, is.0, ends.0)
+lossy_put font missing text (Err (fault.Refused refused)) old new old_needed needed old_offset offset status is ends = inr (inl (ends.0.0, is.1), ends.1, ends.2)
+lossy_put font missing text (Err fault.Memory) old new old_needed needed old_offset offset status is ends = inr (inr ends.0.0, ends.1, ends.2)

@@ -10,7 +10,7 @@ use Rattle.cmap_handles.specs.Statuses.{number}
 use Rattle.cmap_handles.specs.declared.status.Status.TheVariants.{Done, NoMemory, Refused}
 use Rattle.cmap_unicode.specs.TextsOfCodes.{Font}
 use Rattle.cmap_encode.specs.EncoderSeen.{IsEncoderOf}
-use Rattle.cmap_encode.specs.Encodings.{IsEncodingOf, IsStuckAt}
+use Rattle.cmap_encode.specs.Encodings.{IsEncodingOf, IsLossyEncodingOf, IsStuckAt}
 use Rattle.cmap_encode.specs.declared.encoder.Encoder.{Encoder}
 use Rattle.cmap_encode.specs.declared.encoder.Unencodable.{Unencodable}
 
@@ -33,6 +33,16 @@ PutsString font text old new old_needed needed old_offset offset status =
     ((string : List ℕ) × IsStringOf font text string × IsPut string old new needed status × (offset ≡ old_offset))
     ⊎ (((((status ≡ number Refused) × IsRefusedAt font text offset) ⊎ ((status ≡ number NoMemory) × (offset ≡ old_offset))))
     × (new ≡ old) × (needed ≡ old_needed))
+
+-- the text is UTF-8, and the string shows it as far as strings do, with other bytes for the other characters
+abbrev pub IsLossyStringOf : Font → List ℕ → List ℕ → List ℕ → Type 0
+IsLossyStringOf font missing text string = IsUtf8 text × IsLossyEncodingOf font missing (chars text) string
+
+-- such a string goes to the room; or the text isn't UTF-8, or memory ran out, and nothing is written
+abbrev pub PutsLossyString : Font → List ℕ → List ℕ → List ℕ → List ℕ → ℕ → ℕ → ℕ → Type 0
+PutsLossyString font missing text old new old_needed needed status =
+    ((string : List ℕ) × IsLossyStringOf font missing text string × IsPut string old new needed status)
+    ⊎ ((((status ≡ number Refused) × (IsUtf8 text → ⊥)) ⊎ (status ≡ number NoMemory)) × (new ≡ old) × (needed ≡ old_needed))
 
 -- ---- private aid: of a string that was made
 abbrev pub EndsFailed : Fault Unencodable → ℕ → ℕ → ℕ → Type 0
