@@ -1,9 +1,9 @@
 /* Prints the string of a font that shows a text, in hexadecimal digits.
  *
- *     encode FILE TEXT
+ *     encode FILE TEXT [MISSING]
  *
- * The font has the predefined CMap Identity-H, so that its codes have two bytes, and FILE is its ToUnicode CMap,
- * which uses no other file. */
+ * The font has the predefined CMap Identity-H, so that its codes have two bytes. FILE is its ToUnicode CMap,
+ * which uses no other file. MISSING is a text that stands for each character that no string shows. */
 #include <hayro_cmap.h>
 #include <stdio.h>
 #include <stdlib.h>
@@ -51,18 +51,43 @@ static hayro_cmap_encoder encoder_of(const char *path) {
     return encoder;
 }
 
-int main(int argc, char **argv) {
-    if (argc != 3) fail("usage", "encode FILE TEXT");
-    hayro_cmap_encoder encoder = encoder_of(argv[1]);
-    const uint8_t *text = (const uint8_t *)argv[2];
-    /* A code has two bytes, and its text one byte or more. */
-    size_t len = strlen(argv[2]), needed, offset;
-    uint8_t *room = allocated(2 * len);
-    hayro_cmap_status status = hayro_cmap_encode(&encoder, text, len, room, 2 * len, &needed, &offset);
+/* A string of the font. */
+struct string {
+    uint8_t *bytes;
+    size_t len;
+};
+
+/* The string that shows a text. A code has two bytes, and its text one byte or more. */
+static struct string encoded(hayro_cmap_encoder *encoder, const char *text) {
+    size_t len = strlen(text), offset;
+    struct string string = {allocated(2 * len), 0};
+    hayro_cmap_status status = hayro_cmap_encode(encoder, (const uint8_t *)text, len, string.bytes, 2 * len,
+                                                 &string.len, &offset);
     if (status == HAYRO_CMAP_NO_MEMORY) fail("encode", "out of memory");
-    if (status != HAYRO_CMAP_OK) fail(argv[2] + offset, "no string shows this");
-    for (size_t i = 0; i < needed; i++) printf("%02X", room[i]);
+    if (status != HAYRO_CMAP_OK) fail(text + offset, "no string shows this");
+    return string;
+}
+
+/* The same with another string for each character that no string shows. */
+static struct string encoded_lossy(hayro_cmap_encoder *encoder, const char *text, struct string missing) {
+    size_t len = strlen(text), room = len * (2 + missing.len);
+    struct string string = {allocated(room), 0};
+    check("encode", hayro_cmap_encode_lossy(encoder, (const uint8_t *)text, len, missing.bytes, missing.len,
+                                            string.bytes, room, &string.len));
+    return string;
+}
+
+int main(int argc, char **argv) {
+    if (argc != 3 && argc != 4) fail("usage", "encode FILE TEXT [MISSING]");
+    hayro_cmap_encoder encoder = encoder_of(argv[1]);
+    struct string string = encoded(&encoder, argv[argc - 1]);
+    if (argc == 4) {
+        struct string missing = string;
+        string = encoded_lossy(&encoder, argv[2], missing);
+        free(missing.bytes);
+    }
+    for (size_t i = 0; i < string.len; i++) printf("%02X", string.bytes[i]);
     putchar('\n');
-    free(room);
+    free(string.bytes);
     hayro_cmap_encoder_free(&encoder);
 }

@@ -562,8 +562,8 @@ hayro_cmap_status hayro_cmap_encoder_share(hayro_cmap_encoder *encoder, hayro_cm
 void hayro_cmap_encoder_free(hayro_cmap_encoder *encoder);
 
 /* The string of the font that shows a text, which is UTF-8: hayro_cmap_extract reads the string as codes in
- * codespace ranges, whose texts, one after another, are this text. Of several strings it is the shortest, and of
- * several as short the one whose bytes are least.
+ * codespace ranges, whose texts, one after another, are this text. Of several strings it is the shortest, and
+ * of several as short the one whose bytes are least.
  *
  * With HAYRO_CMAP_OK the string stands at the head of `room`, and `needed` is how many bytes it has. With
  * HAYRO_CMAP_NO_ROOM `needed` is how many it has, and the room is as it was. With HAYRO_CMAP_REFUSED no string
@@ -573,8 +573,9 @@ void hayro_cmap_encoder_free(hayro_cmap_encoder *encoder);
 hayro_cmap_status hayro_cmap_encode(hayro_cmap_encoder *encoder, const uint8_t *text, size_t text_len,
                                     uint8_t *room, size_t room_len, size_t *needed, size_t *offset);
 
-/* The same with bytes in the place of each character that no string shows, as 20 for a space or 003F for a
- * question mark. With HAYRO_CMAP_REFUSED the text isn't UTF-8, and nothing is written. */
+/* The same as far as strings show the text: the longest front that some string shows, then the bytes of
+ * `missing` for the character after it, as 3F for a question mark, then what is left of the text likewise. With
+ * HAYRO_CMAP_REFUSED the text isn't UTF-8, and nothing is written. */
 hayro_cmap_status hayro_cmap_encode_lossy(hayro_cmap_encoder *encoder, const uint8_t *text,
                                           size_t text_len, const uint8_t *missing, size_t missing_len,
                                           uint8_t *room, size_t room_len, size_t *needed);

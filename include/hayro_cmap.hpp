@@ -820,8 +820,8 @@ public:
         return *std::move(string);
     }
 
-    // The same with bytes in the place of each character that no string shows; nothing where the text isn't
-    // UTF-8.
+    // The same as far as strings show the text: the longest front that some string shows, `missing` for the
+    // character after it, then what is left likewise. Nothing where the text isn't UTF-8.
     std::optional<std::string> encode_lossy(Bytes text, Bytes missing) {
         return detail::written_to(room_for(text), [&](auto room, auto len, auto needed) {
             return hayro_cmap_encode_lossy(handle(), text.data(), text.size(), missing.data(),

@@ -231,6 +231,9 @@ static void texts_have_strings() {
     CHECK(encoder.encode("f\xFF"s).offset() == 1);
     CHECK(encoder.encode_lossy("xffi", "\0??"s) == "\0??AB"s && !encoder.encode_lossy("\xFF", "?"));
 
+    auto simple = hayro::Extractor::simple(map_of("beginbfchar <00FF> <0061> endbfchar"s));
+    CHECK(*hayro::Encoder(simple).encode("aa") == "\xFF\xFF");
+
     auto other = encoder.share();
     encoder = hayro::Encoder();
     CHECK(encoder.empty() && !encoder.encode("f") && *other.encode("f") == "A");
@@ -433,6 +436,22 @@ static void threads_share_a_map() {
     for (bool it : right) CHECK(it);
 }
 
+static void threads_share_an_encoder() {
+    hayro::Extractor font(map_of("begincodespacerange <00> <7F> endcodespacerange"s),
+                          map_of("beginbfrange <41> <43> <0061> endbfrange"s));
+    hayro::Encoder encoder(font);
+    std::vector<std::thread> threads;
+    std::array<bool, 4> right{};
+    for (std::size_t at = 0; at < right.size(); at++)
+        threads.emplace_back([&place = right[at], own = encoder.share()]() mutable {
+            bool all = true;
+            for (int count = 0; count < 1000; count++) all = all && *own.encode("abc") == "ABC";
+            place = all;
+        });
+    for (auto &thread : threads) thread.join();
+    for (bool it : right) CHECK(it);
+}
+
 int main() {
     maps_are_moved();
     files_use_files();
@@ -453,6 +472,7 @@ int main() {
     files_are_made();
     maps_are_written();
     threads_share_a_map();
+    threads_share_an_encoder();
     CHECK(!hayro::version().empty());
     std::puts(failed ? "failed" : "ok");
     return failed;

@@ -238,6 +238,7 @@ def check_strings_of_texts(checks, setting, command):
     path = setting.once(to_unicode_file)
     for text, string in ENCODED.items():
         checks.ended(f"{command_line(command)}: {text}", run(*command, path, text), f"{string}\n")
+    checks.ended(f"{command_line(command)}: é for x", run(*command, path, "Rxx", "é"), "000100020002\n")
     ran = run(*command, path, "Reé")
     checks.ended(f"{command_line(command)}: a text without a string", ran, "", status=1)
     checks.same("what is said of it", ran.err, "eé: no string shows this\n")

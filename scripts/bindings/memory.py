@@ -96,5 +96,5 @@ def test_c_writes_a_file_for_some_codes_without_memory(checks, setting):
 @needs("gcc")
 def test_c_encodes_a_text_without_memory(checks, setting):
     """A small ToUnicode CMap."""
-    command = [setting.programs.path(EXAMPLES / "encode.c"), setting.once(to_unicode_file), "Réffi"]
+    command = [setting.programs.path(EXAMPLES / "encode.c"), setting.once(to_unicode_file), "Rxffi", "é"]
     refuse_each(checks, setting, "encode.c", command, "000100020003\n")
