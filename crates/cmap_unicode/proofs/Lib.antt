@@ -3,3 +3,4 @@ pub mod OneText
 pub mod TextsCounted
 pub mod RowsOfTexts
 pub mod StretchesDeclared
+pub mod TextsFilled

@@ -11,5 +11,5 @@ mod simple_fonts;
 pub use cids::{declared_cid, declared_stretch};
 pub use collections::ucs2_name;
 pub use extractor::{Character, Extractor};
-pub use rows::TextRow;
+pub use rows::{TextRow, texts_in_row};
 pub use simple_fonts::simple_encoding;
