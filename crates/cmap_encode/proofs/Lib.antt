@@ -2,7 +2,6 @@ pub mod Order
 pub mod Numbers
 pub mod CodesRead
 pub mod StringsShown
-pub mod FirstCodes
 pub mod Lookup
 pub mod WaysFound
 pub mod WaysFollowed
@@ -10,3 +9,10 @@ pub mod FrontsShown
 pub mod CodesOutside
 pub mod LossyShown
 pub mod FirstsFound
+pub mod WholeCodes
+pub mod Gathering
+pub mod RunsNumbered
+pub mod RunsAdded
+pub mod GatheredFound
+pub mod CidsAdded
+pub mod GatheredRows

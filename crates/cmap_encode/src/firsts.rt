@@ -1,7 +1,8 @@
 //! The first code of each key, where codes in a row are given to keys in a row.
 
-ghost use Rattle.std.specs.Prelude.{◌≡◌, ◌≤◌, All, IfOk, IfSome, option_map};
+ghost use Rattle.std.specs.Prelude.{◌≡◌, ◌+◌, ◌^◌, ◌<◌, ◌≤◌, All, IfOk, IfSome, option_map};
 ghost use Rattle.std.specs.Option.{option_copied};
+ghost use Rattle.cmap_values.specs.CodeLengths.{length_of};
 ghost use Rattle.cmap_encode.specs.FirstsSeen.{AreFirsts, IsCodeRun, IsKeyStretch, code_at, first_at, rank_of};
 
 use crate::code::Code;
@@ -30,6 +31,21 @@ impl HasRange for CodeRun {
 }
 
 impl CodeRun {
+    /// From a first key with its code on, keys for up to `more` codes after it, as far as there are keys.
+    pub(crate) fn from_key(key: u32, code: Code, more: u32) -> CodeRun
+        requires { code.number + more < 256 ^ length_of code.len }
+        ensures run { IsCodeRun result }
+        ensures key { result.range.start ≡ key }
+        ensures code { result.code ≡ code }
+        ensures more { (key ≤ result.range.end) × (result.range.end ≤ key + more) }
+    {
+        let end = key.saturating_add(more);
+        CodeRun {
+            range: Range { start: key, end },
+            code,
+        }
+    }
+
     /// The code of a key.
     fn code_at(self, key: u32) -> Code
         requires run { IsCodeRun self }

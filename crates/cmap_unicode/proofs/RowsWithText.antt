@@ -9,13 +9,11 @@ use Rattle.std.proofs.lemmas.List.{same_from_push, take_all, take_more}
 use Rattle.std.proofs.lemmas.Option.{none-some, same_Some}
 use Rattle.std.proofs.lemmas.Slice.Eq.{bytes_eq-Decides}
 use Rattle.cmap_runs.specs.declared.runs.Range.{Range}
-use Rattle.cmap_tokens.specs.Texts.{Text, more, one, text_of_characters}
+use Rattle.cmap_tokens.specs.Texts.{Text, more, one}
 use Rattle.cmap_tokens.specs.TextSeen.{text_seen}
 use Rattle.cmap_tokens.specs.declared.utf16.BfString.{BfString}
-use Rattle.cmap_values.specs.Files.{BfEntry}
 use Rattle.cmap_layers.specs.CodeRanges.{AreRangesOf, IsIn, joined}
 use Rattle.cmap_layers.specs.Layers.{Layer}
-use Rattle.cmap_layers.specs.Lookups.{bf_of, decided_text, last_bf}
 use Rattle.cmap_layers.proofs.CodeRanges as ranges
 use Rattle.cmap_unicode.specs.Characters.{characters_of}
 use Rattle.cmap_unicode.specs.Cids.{declared_cid}
@@ -25,7 +23,8 @@ use Rattle.cmap_unicode.specs.TextRows.{AreTexts, its_text}
 use Rattle.cmap_unicode.specs.TextsOfCodes.{Font, IsTextOf, text_in}
 use Rattle.cmap_unicode.specs.declared.rows.TextRow.{TextRow}
 use Rattle.cmap_unicode.proofs.OneText.{is_text, one_text}
-use Rattle.cmap_unicode.proofs.TextsCounted.{not_empty_at, same_text}
+use Rattle.cmap_unicode.proofs.TextsCounted.{same_text}
+use Rattle.cmap_unicode.proofs.TextsFilled.{text_filled}
 
 -- ---- the last character counts on
 counted_push : (front : List ℕ) (c k : ℕ) → counted_on (front ++ c ∷ []) k ≡ front ++ (c + k) ∷ []
@@ -152,26 +151,8 @@ module _ (font : Font) (len : ℕ) (characters : List ℕ) where
     added these (from, filled, to, is) = ranges.added (HasText font len characters) next last before these are le from filled to (λ code low high. is code (low, high))
 
 -- ---- no text is empty
-decided_filled : (code : ℕ) (entry : Option BfEntry) (below : Option (List ℕ)) → (below ≡ Some [] → ⊥) → decided_text code entry below ≡ Some [] → ⊥
-decided_filled code (Some entry) below lower is = not_empty_at entry.units (code - entry.start) is
-decided_filled code None below lower is = lower is
-
-layers_filled : (layers : List Layer) (code : ℕ) → bf_of layers code ≡ Some [] → ⊥
-layers_filled [] code is = none-some [] is
-layers_filled (layer ∷ layers) code is = decided_filled code (last_bf layer.lists.bfs code) (bf_of layers code) (layers_filled layers code) is
-
-same_characters : (cs : List ℕ) → characters_of (text_of_characters cs) ≡ cs
-same_characters [] = refl
-same_characters (c ∷ []) = refl
-same_characters (c ∷ d ∷ cs) = refl
-
-found_filled : (found : Option (List ℕ)) (text : Text) → (found ≡ Some [] → ⊥) → option_map text_of_characters found ≡ Some text → characters_of text ≡ [] → ⊥
-found_filled None text some is empty = none-some text is
-found_filled (Some cs) text some is empty = some (ap Some (sym (same_characters cs) ∙ ap characters_of (same_Some (text_of_characters cs) text is) ∙ empty))
-
 map_filled : (map : Option (List Layer)) (code : ℕ) (text : Text) → text_in map code ≡ Some text → characters_of text ≡ [] → ⊥
-map_filled None code text is empty = none-some text is
-map_filled (Some layers) code text is empty = found_filled (bf_of layers code) text (layers_filled layers code) is empty
+map_filled map code text is empty = omega (arith, text_filled map code text is, ap (λ (l : List ℕ). length l) empty)
 
 cids_filled : (collection : Option (List Layer)) (cid : Option ℕ) (text : Text) → option_and_then (text_in collection) cid ≡ Some text → characters_of text ≡ [] → ⊥
 cids_filled collection None text is empty = none-some text is

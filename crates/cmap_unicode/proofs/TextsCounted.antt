@@ -1,10 +1,9 @@
 -- Texts count on within a block of 1024 units, by which surrogates lie.
-use Rattle.std.proofs.Common.{◌≡◌, ℕ, Bool, ◌+◌, ◌-◌, ◌%◌, ◌<◌, ◌≤◌, ◌^◌, true, false, ◌&&◌, List, [], ◌∷◌, ◌++◌, inl, inr, length, take, Option, Some, None, option_map, refl, sym, ap, ◌∙◌, arith}
+use Rattle.std.proofs.Common.{◌≡◌, ℕ, Bool, ◌+◌, ◌-◌, ◌%◌, ◌<◌, ◌≤◌, ◌^◌, true, false, ◌&&◌, List, [], ◌∷◌, ◌++◌, inl, inr, length, take, Option, Some, None, option_map, refl, ap, ◌∙◌, arith}
 use Rattle.std.specs.Prelude.{if◌then◌else◌, nat_lt, option_and_then, slice_get}
 use Rattle.std.specs.Char.Utf16.{utf16_chars, lone_unit_char, surrogate_pair_char, is_high_surrogate, is_low_surrogate}
 use Rattle.std.proofs.lemmas.Bool.{cases_Bool, cases_lt, le-ltb, lt-ltb}
 use Rattle.std.proofs.lemmas.Bool.Decides.{nat_tests}
-use Rattle.std.proofs.lemmas.Option.{none-some}
 use Rattle.cmap_tokens.specs.Texts.{Text, all_some, characters, more, one, text_at, text_of_characters}
 use Rattle.cmap_unicode.specs.CountedTexts.{counted_on, text_after}
 
@@ -26,7 +25,7 @@ some_characters u (v ∷ us) e =
       | inr lone ↦ first_not_empty (lone_unit_char u) (utf16_chars (v ∷ us)) (rw lone at e)
     ]
 
-some_ended : (front : List ℕ) (v : ℕ) → characters (front ++ v ∷ []) ≡ Some [] → ⊥
+pub some_ended : (front : List ℕ) (v : ℕ) → characters (front ++ v ∷ []) ≡ Some [] → ⊥
 some_ended [] v = some_characters v []
 some_ended (u ∷ front) v = some_characters u (front ++ v ∷ [])
 
@@ -102,18 +101,6 @@ counted_at units last offset k is block =
           let later : 2 ^ 16 ≤ last + offset + k = omega (arith, past) in
           rw (at_offset units last offset is, le-ltb (last + offset) (2 ^ 16) past, le-ltb (last + offset + k) (2 ^ 16) later) refl
     ]
-
--- no text is empty
-ended_or_none : (b : Bool) (front : List ℕ) (v : ℕ) → (if b then characters (front ++ v ∷ []) else None) ≡ Some [] → ⊥
-ended_or_none true front v is = some_ended front v is
-ended_or_none false front v is = none-some [] is
-
-by_last : (units : List ℕ) (offset : ℕ) (last : Option ℕ) → slice_get units (length units - 1) ≡ last → text_at units offset ≡ Some [] → ⊥
-by_last units offset None at is = none-some [] (rw at at is)
-by_last units offset (Some last) at is = ended_or_none (nat_lt (last + offset) (2 ^ 16)) (take (length units - 1) units) (last + offset) (sym (at_offset units last offset at) ∙ is)
-
-pub not_empty_at : (units : List ℕ) (offset : ℕ) → text_at units offset ≡ Some [] → ⊥
-not_empty_at units offset = by_last units offset (slice_get units (length units - 1)) refl
 
 -- without a unit there is no text
 pub no_units : (offset k : ℕ) → text_at [] (offset + k) ≡ option_map (λ cs. counted_on cs k) (text_at [] offset)
