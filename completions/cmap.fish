@@ -1,6 +1,6 @@
 # fish completion for cmap
 
-set -l names info list find check decode lookup text where diff write repair make bundle
+set -l names info list find check decode lookup text encode where diff write repair make bundle
 set -l warnings all nothing-declared no-codespace outside-codespace overlap inverted-range crosses-row last-byte \
     no-text private-use noncharacter replacement-character null-character no-mapping name-differs mode-differs \
     count-differs long-section no-endcmap code-length odd-digits odd-text
@@ -12,6 +12,7 @@ complete -c cmap -n "not __fish_seen_subcommand_from $names" -f -a check -d 'Pri
 complete -c cmap -n "not __fish_seen_subcommand_from $names" -f -a decode -d 'Print the codes of strings'
 complete -c cmap -n "not __fish_seen_subcommand_from $names" -f -a lookup -d 'Print the CIDs and the texts of codes'
 complete -c cmap -n "not __fish_seen_subcommand_from $names" -f -a text -d 'Print the texts of strings'
+complete -c cmap -n "not __fish_seen_subcommand_from $names" -f -a encode -d 'Print the strings that show texts'
 complete -c cmap -n "not __fish_seen_subcommand_from $names" -f -a where -d 'Print the paths of files by their names'
 complete -c cmap -n "not __fish_seen_subcommand_from $names" -f -a diff -d 'Print what codes have in two files'
 complete -c cmap -n "not __fish_seen_subcommand_from $names" -f -a write -d 'Write a file anew'
@@ -26,13 +27,14 @@ complete -c cmap -n "$over $names" -l base -x -a '(__fish_complete_directories)'
 complete -c cmap -n "$over $names" -l bundle -r -d 'A bundle'
 complete -c cmap -n "$over $names" -l no-predefined -d 'Only --base and --bundle'
 
-set -l printing info list find check decode lookup text where diff
-set -l reading info list find decode lookup text diff
+set -l printing info list find check decode lookup text encode where diff
+set -l reading info list find decode lookup text encode diff
 complete -c cmap -n "__fish_seen_subcommand_from $printing" -l json -d 'An object of JSON per line'
 complete -c cmap -n "__fish_seen_subcommand_from $reading" -l lenient -d 'Read past faults'
 complete -c cmap -n "__fish_seen_subcommand_from $reading check write" -l budget -x -d 'The most bytes of all files'
 complete -c cmap -n '__fish_seen_subcommand_from list' -l effective -d 'What codes have over all layers'
-complete -c cmap -n '__fish_seen_subcommand_from decode text' -l to-unicode -r -d 'The ToUnicode CMap of the font'
+complete -c cmap -n '__fish_seen_subcommand_from find decode text encode' -l to-unicode -r -d 'The ToUnicode CMap of the font'
+complete -c cmap -n '__fish_seen_subcommand_from encode' -l missing -x -d 'The code for what no string shows'
 
 complete -c cmap -n '__fish_seen_subcommand_from check' -l files-from -r -d 'A list of paths'
 complete -c cmap -n '__fish_seen_subcommand_from check' -s 0 -l null -d 'A zero byte ends each path'

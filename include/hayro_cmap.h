@@ -11,15 +11,15 @@
  * Every call is proved to return on any bytes, and docs/PROVED.md says what is proved of its answers.
  * Nothing checks that the caller keeps these rules:
  *
- * - A handle, of a map or of a bundle, begins as HAYRO_CMAP_EMPTY. Only the calls below change it.
+ * - A handle, of a map, a bundle or an encoder, begins as HAYRO_CMAP_EMPTY. Only the calls below change it.
  *   Other values, as a `full` that is neither 0 nor 1, are undefined behaviour.
  *   It isn't copied: two copies would free one map twice. It may be moved to another place in memory,
  *   between calls, if the old place is never used again, or is set to HAYRO_CMAP_EMPTY.
- * - A handle is used by one call at a time: a lookup in a map, or reading a file over a bundle, counts
- *   as a write to the handle, though not to the map or the bundle. Any number of threads may use one
- *   map or bundle at once, each by a handle of its own, which hayro_cmap_share and
- *   hayro_cmap_bundle_share make. A handle may go to another thread, where a lock, or the start or the
- *   join of a thread, orders the calls.
+ * - A handle is used by one call at a time: a lookup in a map, reading a file over a bundle, or encoding a
+ *   text counts as a write to the handle, though not to the map, the bundle or the encoder. Any number of
+ *   threads may use one of these at once, each by a handle of its own, which hayro_cmap_share,
+ *   hayro_cmap_bundle_share and hayro_cmap_encoder_share make. A handle may go to another thread, where a
+ *   lock, or the start or the join of a thread, orders the calls.
  * - No pointer is null, not even where its length is 0; nor are those in a hayro_cmap_file, a
  *   hayro_cmap_declaration or a hayro_cmap_facts. Where one may be null, hayro_cmap_bytes,
  *   hayro_cmap_files, hayro_cmap_room, hayro_cmap_declarations and hayro_cmap_chosen give one to use in
@@ -27,14 +27,13 @@
  *   Each points to as many items as its length says, aligned as their type requires; together they
  *   have no more than PTRDIFF_MAX bytes.
  * - A room, and what a pointer points to that a call only writes to (`cid`, `supplement`, `needed`,
- *   `made`, `taken`, `found`, `names`, `extracted`, and `fault` of hayro_cmap_explain), may hold anything,
- *   as an uninitialised variable or a fresh block of malloc does: no answer depends on it. What a call
- *   doesn't write there stays as it is.
+ *   `offset`, `made`, `taken`, `found`, `names`, `extracted`, and `fault` of hayro_cmap_explain), may hold
+ *   anything, as an uninitialised variable or a fresh block of malloc does: no answer depends on it. What a
+ *   call doesn't write there stays as it is.
  * - What one parameter of a call points to doesn't overlap what another one points to, if the call
  *   writes to one of them. The bytes of a file, of a bundle and of names are read only during the
  *   call, and nobody writes to them meanwhile. They needn't stay after it.
- * - Each handle with a map or a bundle is freed once, or memory is lost. To free an empty handle does
- *   nothing.
+ * - Each handle that isn't empty is freed once, or memory is lost. To free an empty handle does nothing.
  * - malloc, realloc and free come from one allocator, which aligns blocks as C requires.
  * - No call from a signal handler, nor from the forked child of a process with threads. */
 #ifndef HAYRO_CMAP_H
@@ -67,7 +66,13 @@ typedef struct hayro_cmap_bundle {
     void *bundle;
 } hayro_cmap_bundle;
 
-/* A handle without a map, or without a bundle. */
+/* An encoder of a font, or none: it finds the strings that show texts. */
+typedef struct hayro_cmap_encoder {
+    bool full;
+    void *encoder;
+} hayro_cmap_encoder;
+
+/* A handle without a map, a bundle or an encoder. */
 #define HAYRO_CMAP_EMPTY {false, NULL}
 
 /* A file and the name by which other files use it. */
@@ -175,7 +180,7 @@ typedef struct hayro_cmap_facts {
 typedef enum hayro_cmap_status {
     HAYRO_CMAP_OK = 0,           /* there is an answer, and it is written */
     HAYRO_CMAP_REFUSED = 1,      /* the file, or one that it uses, is outside the grammar or missing;
-                                    or no file says what one is to say */
+                                    or no file says what one is to say; or no string shows the text */
     HAYRO_CMAP_NO_MEMORY = 2,    /* out of memory: an allocation failed */
     HAYRO_CMAP_OVER_BUDGET = 3,  /* the files that are opened have more bytes than the budget */
     HAYRO_CMAP_NOT_A_BUNDLE = 4, /* the bundle is invalid */
@@ -540,6 +545,40 @@ hayro_cmap_status hayro_cmap_make(const hayro_cmap_facts *facts,
  * written. */
 hayro_cmap_status hayro_cmap_write(hayro_cmap *map, const hayro_cmap_codes *codes, size_t codes_len,
                                    uint8_t *room, size_t room_len, size_t *needed);
+
+/* Makes the encoder of a font. `encoding`, `to_unicode` and `collection` are the maps of the font, as those of
+ * hayro_cmap_extract; the encoder doesn't keep them. A simple font has codes of one byte: its `encoding` is the
+ * map of a file with the codespace range <00> <FF> alone.
+ *
+ * An encoder that the handle has is freed. With HAYRO_CMAP_OK the handle has the encoder, else it is empty. An
+ * empty `encoding` is HAYRO_CMAP_ABSENT; the other status is HAYRO_CMAP_NO_MEMORY. */
+hayro_cmap_status hayro_cmap_encoder_build(hayro_cmap_encoder *encoder, hayro_cmap *encoding,
+                                           hayro_cmap *to_unicode, hayro_cmap *collection);
+
+/* Gives an `other` handle the same encoder, as hayro_cmap_share does with a map. */
+hayro_cmap_status hayro_cmap_encoder_share(hayro_cmap_encoder *encoder, hayro_cmap_encoder *other);
+
+/* Empties the handle, and frees the encoder if no other handle has it. */
+void hayro_cmap_encoder_free(hayro_cmap_encoder *encoder);
+
+/* The string of the font that shows a text, which is UTF-8: hayro_cmap_extract reads the string as codes in
+ * codespace ranges, whose texts, one after another, are this text. Of several strings it is the shortest, and
+ * of several as short the one whose bytes are least.
+ *
+ * With HAYRO_CMAP_OK the string stands at the head of `room`, and `needed` is how many bytes it has. With
+ * HAYRO_CMAP_NO_ROOM `needed` is how many it has, and the room is as it was. With HAYRO_CMAP_REFUSED no string
+ * shows the text, and only `offset` is written: of the fronts of the text that strings show, the longest ends
+ * there, in bytes; of a text that isn't UTF-8 the longest front that is. An empty handle is HAYRO_CMAP_ABSENT.
+ * Then, and with HAYRO_CMAP_NO_MEMORY, nothing is written. */
+hayro_cmap_status hayro_cmap_encode(hayro_cmap_encoder *encoder, const uint8_t *text, size_t text_len,
+                                    uint8_t *room, size_t room_len, size_t *needed, size_t *offset);
+
+/* The same as far as strings show the text: the longest front that some string shows, then the bytes of
+ * `missing` for the character after it, as 3F for a question mark, then what is left of the text likewise. With
+ * HAYRO_CMAP_REFUSED the text isn't UTF-8, and nothing is written. */
+hayro_cmap_status hayro_cmap_encode_lossy(hayro_cmap_encoder *encoder, const uint8_t *text,
+                                          size_t text_len, const uint8_t *missing, size_t missing_len,
+                                          uint8_t *room, size_t room_len, size_t *needed);
 
 /* The version of the library, as 1.0.0, written as a text is. */
 hayro_cmap_status hayro_cmap_version(uint8_t *room, size_t room_len, size_t *needed);

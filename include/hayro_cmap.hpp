@@ -7,9 +7,10 @@
 // It is hayro_cmap.h with classes that free what they own. A refused file is a value; std::bad_alloc is
 // thrown where memory ran out, and predefined_file says what it throws. What is noexcept takes no memory.
 //
-// - A Map or a Bundle is moved and not copied. One that was moved from is empty, and answers nothing.
-// - One thread at a time uses a Map or a Bundle: a lookup isn't const. Other threads take another of
-//   the same, by share(), which copies nothing.
+// - A Map, a Bundle or an Encoder is moved and not copied. One that was moved from is empty, and answers
+//   nothing.
+// - One thread at a time uses one of these: a lookup isn't const. Other threads take another of the same,
+//   by share(), which copies nothing.
 // - Bytes, Files and Span only show what they were made of, as std::string_view does.
 // - Texts are std::string: in UTF-8 those of codes, of any bytes those of names.
 #ifndef HAYRO_CMAP_HPP
@@ -232,20 +233,25 @@ template <class T> T *room_of(Span<T> room) noexcept {
 
 inline std::uint8_t *room_of(std::string &room) noexcept { return hayro_cmap_room(room.data()); }
 
-// What a call writes to a room, which is asked again where the first room is too short.
+// What a call writes to a room, which is asked again where this room is too short.
+template <class Ask> std::optional<std::string> written_to(std::string room, Ask ask) {
+    for (;;) {
+        std::size_t needed = 0;
+        Status status = with_memory(ask(room_of(room), room.size(), &needed));
+        if (status != HAYRO_CMAP_OK && status != HAYRO_CMAP_NO_ROOM) return std::nullopt;
+        room.resize(needed);
+        if (status == HAYRO_CMAP_OK) return room;
+    }
+}
+
+// The same of what is mostly short.
 template <class Ask> std::optional<std::string> written(Ask ask) {
     std::uint8_t first[64];
     std::size_t needed = 0;
-    Status status = ask(first, sizeof first, &needed);
+    Status status = with_memory(ask(first, sizeof first, &needed));
     if (status == HAYRO_CMAP_OK) return std::string(reinterpret_cast<const char *>(first), needed);
-    std::string room;
-    while (status == HAYRO_CMAP_NO_ROOM) {
-        room.resize(needed);
-        status = ask(room_of(room), room.size(), &needed);
-    }
-    if (with_memory(status) != HAYRO_CMAP_OK) return std::nullopt;
-    room.resize(needed);
-    return room;
+    if (status != HAYRO_CMAP_NO_ROOM) return std::nullopt;
+    return written_to(std::string(needed, '\0'), ask);
 }
 
 // The values that a call writes to a room, which is asked again where the first room is too short; none
@@ -758,6 +764,8 @@ public:
     }
 
 private:
+    friend class Encoder;
+
     // The name of the map from the CIDs of the collection to Unicode (ISO 32000-1, 9.10.2), by the first file
     // of the encoding that names one.
     std::optional<std::string> collection_name() {
@@ -778,6 +786,78 @@ private:
     Map encoding_;
     Map to_unicode_;
     Map collection_;
+};
+
+// The string that shows a text, or where the text is refused. As with std::optional, what isn't there isn't
+// asked for.
+class Encoded {
+public:
+    Encoded(std::string string) noexcept : either_(std::move(string)) {}
+    explicit Encoded(std::size_t offset) noexcept : either_(offset) {}
+
+    explicit operator bool() const noexcept { return std::holds_alternative<std::string>(either_); }
+    const std::string &operator*() const & noexcept { return *std::get_if<std::string>(&either_); }
+    std::string &&operator*() && noexcept { return std::move(*std::get_if<std::string>(&either_)); }
+    const std::string *operator->() const noexcept { return std::get_if<std::string>(&either_); }
+
+    // In bytes: of the fronts of the text that strings show, the longest ends there; of a text that isn't
+    // UTF-8, the longest front that is.
+    std::size_t offset() const noexcept { return *std::get_if<std::size_t>(&either_); }
+
+private:
+    std::variant<std::string, std::size_t> either_;
+};
+
+// Finds the strings of a font that show texts: what an Extractor reads, the other way round. It keeps no maps
+// of the font.
+class Encoder {
+public:
+    // None, which refuses all texts.
+    Encoder() noexcept = default;
+
+    explicit Encoder(Extractor &font) {
+        detail::with_memory(hayro_cmap_encoder_build(handle(), font.encoding_.handle(),
+                                                     font.to_unicode_.handle(),
+                                                     font.collection_.handle()));
+    }
+
+    // Another one of the same font, for another thread.
+    Encoder share() {
+        Encoder other;
+        detail::with_memory(hayro_cmap_encoder_share(handle(), other.handle()));
+        return other;
+    }
+
+    // The string whose codes lie in codespace ranges and have texts that are this text, one after another.
+    // Of several strings it is the shortest, and of several as short the one whose bytes are least.
+    Encoded encode(Bytes text) {
+        std::size_t offset = 0;
+        auto string = detail::written_to(room_for(text), [&](auto room, auto len, auto needed) {
+            return hayro_cmap_encode(handle(), text.data(), text.size(), room, len, needed, &offset);
+        });
+        if (!string) return Encoded(offset);
+        return *std::move(string);
+    }
+
+    // The same as far as strings show the text: the longest front that some string shows, `missing` for the
+    // character after it, then what is left likewise. Nothing where the text isn't UTF-8.
+    std::optional<std::string> encode_lossy(Bytes text, Bytes missing) {
+        return detail::written_to(room_for(text), [&](auto room, auto len, auto needed) {
+            return hayro_cmap_encode_lossy(handle(), text.data(), text.size(), missing.data(),
+                                           missing.size(), room, len, needed);
+        });
+    }
+
+    bool empty() const noexcept { return !handle_.get()->full; }
+
+    // For the calls of hayro_cmap.h. It stays the encoder's.
+    hayro_cmap_encoder *handle() noexcept { return handle_.get(); }
+
+private:
+    // Enough where codes have one or two bytes.
+    static std::string room_for(Bytes text) { return std::string(2 * text.size(), '\0'); }
+
+    detail::Owned<hayro_cmap_encoder, hayro_cmap_encoder_free> handle_;
 };
 
 // A map, or why there is none. As with std::optional, what isn't there isn't asked for.

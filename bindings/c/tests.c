@@ -283,6 +283,76 @@ static void a_string_is_extracted_up_to_the_rooms(void) {
     hayro_cmap_free(&encoding);
 }
 
+// An encoder of codes of one byte: one with a character, one with two, one without a text, and one whose CID has a text.
+static hayro_cmap_encoder encoder_of_font(void) {
+    hayro_cmap encoding = map_of(TEXT("begincodespacerange <00> <7F> endcodespacerange "
+                                      "begincidchar <44> 8 endcidchar"));
+    hayro_cmap to_unicode = map_of(TEXT("beginbfchar <41> <0066> <42> <00660069> endbfchar"));
+    hayro_cmap collection = map_of(TEXT("beginbfchar <0008> <65E5> endbfchar"));
+    hayro_cmap_encoder encoder = HAYRO_CMAP_EMPTY;
+    CHECK(hayro_cmap_encoder_build(&encoder, &encoding, &to_unicode, &collection) == HAYRO_CMAP_OK);
+    hayro_cmap_free(&collection);
+    hayro_cmap_free(&to_unicode);
+    hayro_cmap_free(&encoding);
+    return encoder;
+}
+
+static void texts_have_strings(void) {
+    hayro_cmap_encoder encoder = encoder_of_font();
+    uint8_t room[4] = {7, 7, 7, 7};
+    size_t needed = 9, offset = 9;
+    CHECK(hayro_cmap_encode(&encoder, TEXT("ffi\xE6\x97\xA5"), room, 4, &needed, &offset) == HAYRO_CMAP_OK);
+    CHECK(needed == 3 && offset == 9 && same(room, "ABD\7", 4));
+    CHECK(hayro_cmap_encode(&encoder, TEXT("ffff"), room, 3, &needed, &offset) == HAYRO_CMAP_NO_ROOM);
+    CHECK(needed == 4 && offset == 9 && same(room, "ABD\7", 4));
+    CHECK(hayro_cmap_encode(&encoder, TEXT(""), room, 0, &needed, &offset) == HAYRO_CMAP_OK && needed == 0);
+    hayro_cmap_encoder_free(&encoder);
+}
+
+static void texts_without_a_string_are_refused(void) {
+    hayro_cmap_encoder encoder = encoder_of_font();
+    uint8_t room[4] = {7, 7, 7, 7};
+    size_t needed = 9, offset = 9;
+    CHECK(hayro_cmap_encode(&encoder, TEXT("f\xE6\x97\xA5if"), room, 4, &needed, &offset) == HAYRO_CMAP_REFUSED);
+    CHECK(offset == 4);
+    CHECK(hayro_cmap_encode(&encoder, TEXT("fx\xFF"), room, 4, &needed, &offset) == HAYRO_CMAP_REFUSED);
+    CHECK(offset == 2 && needed == 9 && same(room, "\7\7\7\7", 4));
+    hayro_cmap_encoder_free(&encoder);
+    CHECK(hayro_cmap_encode(&encoder, TEXT("f"), room, 4, &needed, &offset) == HAYRO_CMAP_ABSENT);
+    CHECK(offset == 2 && needed == 9 && same(room, "\7\7\7\7", 4));
+}
+
+static void bytes_stand_for_characters_without_a_string(void) {
+    hayro_cmap_encoder encoder = encoder_of_font();
+    uint8_t room[8] = {7, 7, 7, 7, 7, 7, 7, 7};
+    size_t needed = 9;
+    CHECK(hayro_cmap_encode_lossy(&encoder, TEXT("xffi\xC3\xA9"), TEXT("?!"), room, 8, &needed) == HAYRO_CMAP_OK);
+    CHECK(needed == 6 && same(room, "?!AB?!\7\7", 8));
+    CHECK(hayro_cmap_encode_lossy(&encoder, TEXT("xffx"), TEXT(""), room, 1, &needed) == HAYRO_CMAP_NO_ROOM);
+    CHECK(needed == 2 && same(room, "?!AB?!\7\7", 8));
+    CHECK(hayro_cmap_encode_lossy(&encoder, TEXT("f\xC3"), TEXT("?"), room, 8, &needed) == HAYRO_CMAP_REFUSED);
+    hayro_cmap_encoder_free(&encoder);
+    CHECK(hayro_cmap_encode_lossy(&encoder, TEXT("f"), TEXT("?"), room, 8, &needed) == HAYRO_CMAP_ABSENT);
+    CHECK(needed == 2 && same(room, "?!AB?!\7\7", 8));
+}
+
+static void an_encoder_needs_an_encoding(void) {
+    hayro_cmap_encoder encoder = encoder_of_font();
+    hayro_cmap none = HAYRO_CMAP_EMPTY, to_unicode = map_of(TEXT("beginbfchar <41> <0066> endbfchar")), other = none;
+    CHECK(hayro_cmap_encoder_build(&encoder, &none, &to_unicode, &other) == HAYRO_CMAP_ABSENT && !encoder.full);
+    hayro_cmap_free(&to_unicode);
+}
+
+static void a_shared_encoder_outlives_its_first_handle(void) {
+    hayro_cmap_encoder encoder = encoder_of_font(), other = HAYRO_CMAP_EMPTY;
+    CHECK(hayro_cmap_encoder_share(&encoder, &other) == HAYRO_CMAP_OK);
+    hayro_cmap_encoder_free(&encoder);
+    uint8_t room[1] = {0};
+    size_t needed = 0, offset = 0;
+    CHECK(hayro_cmap_encode(&other, TEXT("fi"), room, 1, &needed, &offset) == HAYRO_CMAP_OK && room[0] == 'B');
+    CHECK(hayro_cmap_encoder_share(&encoder, &other) == HAYRO_CMAP_OK && !other.full);
+}
+
 static void files_are_opened_by_their_names(void) {
     hayro_cmap map = HAYRO_CMAP_EMPTY;
     CHECK(open_name(&map, TEXT("Base")) == HAYRO_CMAP_OK);
@@ -728,6 +798,11 @@ int main(void) {
     a_use_of_an_identity_needs_no_file();
     texts_come_from_the_code_or_the_cid();
     a_string_is_extracted_up_to_the_rooms();
+    texts_have_strings();
+    texts_without_a_string_are_refused();
+    bytes_stand_for_characters_without_a_string();
+    an_encoder_needs_an_encoding();
+    a_shared_encoder_outlives_its_first_handle();
     files_are_opened_by_their_names();
     names_lead_to_the_file_at_fault();
     files_are_read_past_their_faults();

@@ -235,6 +235,32 @@ static void collections_are_found() {
     CHECK(!hayro::Extractor::simple().find_collection(files) && !other.find_predefined_collection());
 }
 
+static void texts_have_strings() {
+    hayro::Extractor font(map_of("begincodespacerange <00> <7F> endcodespacerange begincidchar <44> 8 endcidchar"s),
+                          map_of("beginbfchar <41> <0066> <42> <00660069> endbfchar"s),
+                          map_of("beginbfchar <0008> <65E5> endbfchar"s));
+    hayro::Encoder encoder(font);
+    auto string = encoder.encode("ffi\u65E5");
+    CHECK(string && *string == "ABD" && font.text(*string) == "ffi\u65E5");
+    CHECK(encoder.encode("")->empty());
+    auto refused = encoder.encode("\u65E5x");
+    CHECK(!refused && refused.offset() == 3);
+    CHECK(encoder.encode("f\xFF"s).offset() == 1);
+    CHECK(encoder.encode_lossy("xffi", "\0??"s) == "\0??AB"s && !encoder.encode_lossy("\xFF", "?"));
+
+    auto simple = hayro::Extractor::simple(map_of("beginbfchar <00FF> <0061> endbfchar"s));
+    CHECK(*hayro::Encoder(simple).encode("aa") == "\xFF\xFF");
+
+    auto other = encoder.share();
+    encoder = hayro::Encoder();
+    CHECK(encoder.empty() && !encoder.encode("f") && *other.encode("f") == "A");
+
+    // A string that passes the first room.
+    hayro::Extractor wide(map_of("begincodespacerange <00000000> <00000001> endcodespacerange"s),
+                          map_of("beginbfchar <00000001> <0061> endbfchar"s));
+    CHECK(*hayro::Encoder(wide).encode("aa") == "\0\0\0\1\0\0\0\1"s);
+}
+
 static bool same(const hayro::CidRange &range, std::uint32_t first, std::uint32_t last, hayro::Cid cid) {
     return range.first == first && range.last == last && range.cid == cid;
 }
@@ -431,6 +457,22 @@ static void threads_share_a_map() {
     for (bool it : right) CHECK(it);
 }
 
+static void threads_share_an_encoder() {
+    hayro::Extractor font(map_of("begincodespacerange <00> <7F> endcodespacerange"s),
+                          map_of("beginbfrange <41> <43> <0061> endbfrange"s));
+    hayro::Encoder encoder(font);
+    std::vector<std::thread> threads;
+    std::array<bool, 4> right{};
+    for (std::size_t at = 0; at < right.size(); at++)
+        threads.emplace_back([&place = right[at], own = encoder.share()]() mutable {
+            bool all = true;
+            for (int count = 0; count < 1000; count++) all = all && *own.encode("abc") == "ABC";
+            place = all;
+        });
+    for (auto &thread : threads) thread.join();
+    for (bool it : right) CHECK(it);
+}
+
 int main() {
     maps_are_moved();
     files_use_files();
@@ -440,6 +482,7 @@ int main() {
     strings_are_cut();
     strings_have_texts();
     collections_are_found();
+    texts_have_strings();
     bytes_have_their_lengths();
     layers_are_a_view();
     layers_declare_cids_and_texts();
@@ -451,6 +494,7 @@ int main() {
     files_are_made();
     maps_are_written();
     threads_share_a_map();
+    threads_share_an_encoder();
     CHECK(!hayro::version().empty());
     std::puts(failed ? "failed" : "ok");
     return failed;

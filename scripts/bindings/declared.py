@@ -119,7 +119,7 @@ def python_in_c(module):
 def as_ctypes(declared):
     """The type of a parameter or a field of the header, as Python tells types apart."""
     kind = re.sub(r"\w+(\[\w+\])?$", "", declared.removeprefix("const ")).strip()
-    kind = re.sub(r"^hayro_cmap(_bundle)? \*$", "handle *", kind)
+    kind = re.sub(r"^hayro_cmap(_bundle|_encoder)? \*$", "handle *", kind)
     return "int32_t" if kind in ENUMS else kind.replace("size_t", "uint64_t")
 
 

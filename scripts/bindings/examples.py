@@ -6,6 +6,7 @@ from composite_font import pdf
 from .checks import needs, run
 from .known import (
     DECLARED,
+    ENCODED,
     MADE,
     MADE_OF,
     REFUSED,
@@ -17,6 +18,7 @@ from .known import (
     has_debian_files,
     refused_files,
     rows_of_strings,
+    to_unicode_file,
 )
 from .library import EXAMPLES, HELGRIND, MEMCHECK
 
@@ -27,6 +29,7 @@ DECLARING = EXAMPLES / "declared.c"
 PREDEFINED = EXAMPLES / "predefined.c"
 MAKING = {"C": EXAMPLES / "to_unicode.c", "C++": EXAMPLES / "to_unicode.cc"}
 WRITING = EXAMPLES / "subset.c"
+ENCODING = EXAMPLES / "encode.c"
 # what glyphs stand for, one of them twice
 GLYPHS = ["o", "ffi", "c", "e", "日", "\U0001F600", "é", "o"]
 
@@ -228,6 +231,30 @@ def test_c_and_cpp_make_files(checks, setting):
     for source in MAKING.values():
         for program in [setting.programs.path(source), setting.programs.sanitized(source)]:
             check_made_file(checks, setting, [program])
+
+
+def check_strings_of_texts(checks, setting, command):
+    """A command gives the string of a text by a ToUnicode CMap, or says where there is none."""
+    path = setting.once(to_unicode_file)
+    for text, string in ENCODED.items():
+        checks.ended(f"{command_line(command)}: {text}", run(*command, path, text), f"{string}\n")
+    checks.ended(f"{command_line(command)}: é for x", run(*command, path, "Rxx", "é"), "000100020002\n")
+    ran = run(*command, path, "Reé")
+    checks.ended(f"{command_line(command)}: a text without a string", ran, "", status=1)
+    checks.same("what is said of it", ran.err, "eé: no string shows this\n")
+
+
+@needs("gcc")
+def test_c_encodes_texts(checks, setting):
+    """The example of an encoder, plain and with the sanitizers."""
+    for program in [setting.programs.path(ENCODING), setting.programs.sanitized(ENCODING)]:
+        check_strings_of_texts(checks, setting, [program])
+
+
+@needs("gcc", "valgrind")
+def test_c_encodes_texts_under_memcheck(checks, setting):
+    """Every block is freed, and no address is wrong."""
+    check_strings_of_texts(checks, setting, [*MEMCHECK, setting.programs.path(ENCODING)])
 
 
 @needs("gcc", "g++", "pdftotext")

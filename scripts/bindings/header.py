@@ -9,7 +9,7 @@ from .library import C_TESTS, COMPILERS, TOP, WARNINGS
 HEADER = re.sub(r"/\*.*?\*/", "", (TOP / "include" / "hayro_cmap.h").read_text(), flags=re.S)
 CRATES = TOP / "crates"
 # the crates with calls of the header
-WITH_CALLS = ["cmap_c", "cmap_c_maps", "cmap_c_writer"]
+WITH_CALLS = ["cmap_c", "cmap_c_encoder", "cmap_c_maps", "cmap_c_writer"]
 VERSION = (TOP / "VERSION").read_text().strip()
 
 # how a type of the crates is written in the header
@@ -25,6 +25,7 @@ VALUES = {
 NAMED = {
     "MapHandle": "hayro_cmap",
     "BundleHandle": "hayro_cmap_bundle",
+    "EncoderHandle": "hayro_cmap_encoder",
     "BaseFile<'a>": "hayro_cmap_file",
     "BaseFile<'_>": "hayro_cmap_file",
     "Code": "hayro_cmap_code",
@@ -60,11 +61,11 @@ STRUCTS = [
     ("hayro_cmap_declaration", "cmap_c_writer/src/declaration.rt", "Declaration"),
     ("hayro_cmap_codes", "cmap_c_writer/src/chosen.rt", "ChosenCodes"),
 ]
-# the same of handles, which crate cmap_handles writes with the slot that they hold
-SLOTS = "cmap_handles/src/slot.rt"
+# the same of handles, with the file of the slot that they hold
 HANDLES = [
-    ("hayro_cmap", "cmap_handles/src/handle.rt", "Map"),
-    ("hayro_cmap_bundle", "cmap_handles/src/bundle.rt", "Bundle"),
+    ("hayro_cmap", "cmap_handles/src/handle.rt", "cmap_handles/src/slot.rt", "Map"),
+    ("hayro_cmap_bundle", "cmap_handles/src/bundle.rt", "cmap_handles/src/slot.rt", "Bundle"),
+    ("hayro_cmap_encoder", "cmap_c_encoder/src/handle.rt", "cmap_c_encoder/src/slot.rt", "Encoder"),
 ]
 NUMBERED = r"(?P<number>\d+)(?:, [\w()]+\))? => Some\({}::(?P<name>\w+)"
 # enums of the header: what the crates have no variant for, how and where they write a variant and its number, and what
@@ -185,8 +186,8 @@ def test_structs_are_those_of_the_crates(checks, _setting):
 
 def test_handles_are_those_of_the_crates(checks, _setting):
     """A flag and a pointer."""
-    for name, file, kind in HANDLES:
-        crate = fields_of_crates(file, f"{kind}Handle") + fields_of_crates(SLOTS, f"{kind}Slot")
+    for name, file, slots, kind in HANDLES:
+        crate = fields_of_crates(file, f"{kind}Handle") + fields_of_crates(slots, f"{kind}Slot")
         expected = [("full", "bool"), ("slot", f"{kind}Slot"), ("at", "*mut u8"), ("alloc", "Global")]
         checks.same(f"the fields of {kind}Handle", crate, expected)
         checks.same(f"the fields of {name}", fields_of_header(name), ["bool full", f"void *{kind.lower()}"])

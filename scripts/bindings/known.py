@@ -56,6 +56,11 @@ text 3 3 006600660069
 text 4 4 D83DDE00
 text 5 5 0053
 """
+# the ToUnicode CMap of the same codes, and the strings of texts by it that encode.c prints
+TO_UNICODE = b"""begincodespacerange <0000> <FFFF> endcodespacerange
+beginbfchar <0001> <0052> <0002> <00E9> <0003> <006600660069> <0004> <D83DDE00> <0005> <0053> endbfchar
+"""
+ENCODED = {"Réffi": "000100020003", "😀SS": "000400050005", "": ""}
 # codes for which subset.c writes the file of DECLARING, and what declared.c prints of that
 WRITTEN_FOR = ["41", "42", "8142", "8143"]
 WRITTEN = """cid <41> <41> 7
@@ -74,6 +79,13 @@ REFUSED = {
     "Unfounded": (b"/Nowhere usecmap", "Nowhere: no file has this name"),
 }
 MIDDLE = {"Middle": b"/Broken usecmap", "A": b""}
+
+
+def to_unicode_file(work):
+    """A ToUnicode CMap of a few codes."""
+    path = work / "to_unicode"
+    path.write_bytes(TO_UNICODE)
+    return path
 
 
 def declaring_file(work):

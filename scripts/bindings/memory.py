@@ -1,7 +1,7 @@
 """Requests for memory that are refused in turn: each example then ends with a message and a status."""
 
 from .checks import Failed, needs, run
-from .known import DECLARED, MADE_OF, WRITTEN_FOR, declaring_file
+from .known import DECLARED, MADE_OF, WRITTEN_FOR, declaring_file, to_unicode_file
 from .library import EXAMPLES, TOP
 
 # all that a program asks for afterwards
@@ -91,3 +91,10 @@ def test_c_writes_a_file_for_some_codes_without_memory(checks, setting):
     """A small file, for a few codes of one and of two bytes."""
     command = [setting.programs.path(EXAMPLES / "subset.c"), setting.once(declaring_file), *WRITTEN_FOR]
     refuse_each(checks, setting, "subset.c", command, run(*command).out)
+
+
+@needs("gcc")
+def test_c_encodes_a_text_without_memory(checks, setting):
+    """A small ToUnicode CMap."""
+    command = [setting.programs.path(EXAMPLES / "encode.c"), setting.once(to_unicode_file), "Rxffi", "é"]
+    refuse_each(checks, setting, "encode.c", command, "000100020003\n")

@@ -4,7 +4,7 @@ pub(crate) mod flags;
 
 use self::flags::{
     BASE, BINARY, BUDGET, BUNDLE, CMAP_NAME, CODES, COLLECTION, DENY, EFFECTIVE, FILES_FROM, FIRST,
-    FLATTEN, Flag, JSON, LENIENT, LINT, LINT_TO_UNICODE, NAME, NO_PREDEFINED, NULL, OUTPUT, QUIET,
+    FLATTEN, Flag, JSON, LENIENT, LINT, LINT_TO_UNICODE, MISSING, NAME, NO_PREDEFINED, NULL, OUTPUT, QUIET,
     TEXT_OUTPUT, TIDY, TO_UNICODE, USE, VERIFY, VERTICAL, values_of,
 };
 use clap::{Arg, ArgAction, ArgMatches, Command};
@@ -86,6 +86,18 @@ const STRING_FLAGS: &[Flag] = &[
     LENIENT,
 ];
 
+/// The options of `encode`.
+const ENCODE_FLAGS: &[Flag] = &[
+    BASE,
+    BUNDLE,
+    NO_PREDEFINED,
+    JSON,
+    TO_UNICODE,
+    MISSING,
+    BUDGET,
+    LENIENT,
+];
+
 /// The strings of `decode` and `text`.
 const STRINGS: Arguments = Arguments {
     id: ARGUMENT,
@@ -134,7 +146,7 @@ const OF_FILES: &[Form] = &[
     Form {
         name: "find",
         about: "Prints the codes that have a CID or a text",
-        flags: &[BASE, BUNDLE, NO_PREDEFINED, JSON, BUDGET, LENIENT],
+        flags: STRING_FLAGS,
         files: &[CMAP_FILE],
         arguments: Some(Arguments {
             id: ARGUMENT,
@@ -196,7 +208,7 @@ const OF_STRINGS: &[Form] = &[
     Form {
         name: "encode",
         about: "Prints the strings that show texts",
-        flags: STRING_FLAGS,
+        flags: ENCODE_FLAGS,
         files: &[CMAP_FILE],
         arguments: Some(TEXTS),
     },

@@ -1,61 +1,102 @@
 //! `cmap encode`: the strings of a font that show texts.
 
+use crate::command_line::flags::MISSING;
 use crate::font::{StringOptions, font_and_texts};
+use crate::strings::spelled;
+use clap::ArgMatches;
 use cmap_encode::Encoder;
-use cmap_report::encode::{encoded, push_string_json, push_string_line};
+use cmap_report::encode::{push_string_json, push_string_line, string_of};
 use cmap_sources::bases::Bases;
 use cmap_sources::failure::Failure;
 use cmap_sources::path_text::push_path;
 use cmap_sources::status::{ACCEPTED, REFUSED};
 
+/// What the arguments of `encode` ask for.
+#[derive(Clone, Copy)]
+pub(crate) struct EncodeOptions<'m, 'w> {
+    pub(crate) of_texts: StringOptions<'m, 'w>,
+    /// What stands for a character that can't be shown, in hexadecimal digits.
+    missing: Option<&'w str>,
+}
+
+impl<'m, 'w> EncodeOptions<'m, 'w> {
+    pub(crate) fn of(arguments: &'m ArgMatches<'w>) -> EncodeOptions<'m, 'w> {
+        EncodeOptions {
+            of_texts: StringOptions::of(arguments),
+            missing: MISSING.text(arguments),
+        }
+    }
+}
+
 /// Prints the string of each text. The status says whether each text has one.
 pub(crate) fn encode(
     rt: &HostRuntime,
-    options: &StringOptions<'_, '_>,
+    options: &EncodeOptions<'_, '_>,
     bases: &mut Bases<'_>,
 ) -> Result<u8, Failure> {
-    let (font, texts) = font_and_texts(rt, options, bases)?;
+    let missing = missing_of(rt, options)?;
+    let (font, texts) = font_and_texts(rt, &options.of_texts, bases)?;
     let encoder = Encoder::build(rt.alloc(), &font.extractor())?;
-    print_strings(rt, options.json, &encoder, &texts)
+    let printer = Printer {
+        encoder,
+        missing,
+        json: options.of_texts.json,
+    };
+    printer.print_strings(rt, &texts)
 }
 
-fn print_strings(
+/// The bytes that stand for a character that can't be shown.
+fn missing_of(
     rt: &HostRuntime,
+    options: &EncodeOptions<'_, '_>,
+) -> Result<Option<Vec<u8>>, Failure> {
+    match options.missing {
+        Some(digits) => Ok(Some(spelled(rt, digits)?)),
+        None => Ok(None),
+    }
+}
+
+/// What is needed for the string of a text.
+#[derive(Drop)]
+struct Printer {
+    encoder: Encoder,
+    missing: Option<Vec<u8>>,
     json: bool,
-    encoder: &Encoder,
-    texts: &[String],
-) -> Result<u8, Failure> {
-    let mut status = ACCEPTED;
-    for text in texts {
-        if !print_string(rt, json, encoder, text.as_str())? {
-            status = REFUSED;
+}
+
+impl Printer {
+    fn print_strings(&self, rt: &HostRuntime, texts: &[String]) -> Result<u8, Failure> {
+        let mut status = ACCEPTED;
+        for text in texts {
+            if !self.print_string(rt, text.as_str())? {
+                status = REFUSED;
+            }
+        }
+        Ok(status)
+    }
+
+    /// Prints the string of a text, and gives whether it shows the whole text.
+    fn print_string(&self, rt: &HostRuntime, text: &str) -> Result<bool, Failure> {
+        let missing = match &self.missing {
+            Some(bytes) => Some(bytes.as_slice()),
+            None => None,
+        };
+        let found = string_of(rt.alloc(), &self.encoder, text, missing)?;
+        let mut line = String::new(rt.alloc());
+        if self.json {
+            push_string_json(rt.alloc(), &mut line, text, &found)?;
+        } else {
+            push_string_line(rt.alloc(), &mut line, &found)?;
+        }
+        rt.print(line.as_str())?;
+        match found.stop {
+            None => Ok(true),
+            Some(stop) => report_stop(rt, text, stop.offset),
         }
     }
-    Ok(status)
 }
 
-/// Prints the string of a text, and gives whether there is one.
-fn print_string(
-    rt: &HostRuntime,
-    json: bool,
-    encoder: &Encoder,
-    text: &str,
-) -> Result<bool, Failure> {
-    let string = encoded(rt.alloc(), encoder, text)?;
-    let mut line = String::new(rt.alloc());
-    if json {
-        push_string_json(rt.alloc(), &mut line, text, &string)?;
-    } else {
-        push_string_line(rt.alloc(), &mut line, &string)?;
-    }
-    rt.print(line.as_str())?;
-    match string {
-        Ok(_) => Ok(true),
-        Err(stop) => report_stop(rt, text, stop.offset),
-    }
-}
-
-/// Reports how much of a text strings show; so there is no string.
+/// Reports how much of a text strings show.
 fn report_stop(rt: &HostRuntime, text: &str, offset: usize) -> Result<bool, Failure> {
     let mut shown = String::new(rt.alloc());
     push_path(&mut shown, text)?;

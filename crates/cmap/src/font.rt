@@ -9,16 +9,16 @@ use cmap_sources::bases::Bases;
 use cmap_sources::failure::Failure;
 use cmap_sources::inputs::{STANDARD_INPUT, map_needed, map_of, needed};
 use cmap_sources::reading::Manner;
-use cmap_unicode::{Extractor, ucs2_name};
-use hayro_cmap::{CMap, CidFamily};
+use cmap_unicode::{Extractor, collection_name};
+use hayro_cmap::CMap;
 
-/// What the arguments of `decode`, `text` and `encode` ask for.
+/// What the arguments of `find`, `decode`, `text` and `encode` ask for.
 #[derive(Clone, Copy)]
 pub(crate) struct StringOptions<'m, 'w> {
     file: &'w str,
     to_unicode: Option<&'w str>,
-    /// Strings in hexadecimal digits; of `encode`, texts.
-    strings: &'m [&'w str],
+    /// Strings in hexadecimal digits; of `encode`, texts; of `find`, `cid:N` and `text:TEXT`.
+    pub(crate) strings: &'m [&'w str],
     pub(crate) sources: Sources<'m, 'w>,
     manner: Manner,
     pub(crate) json: bool,
@@ -88,7 +88,7 @@ pub(crate) fn font_and_texts(
 }
 
 /// The CMaps that the arguments ask for, with that of the collection if it is found.
-fn font_of(
+pub(crate) fn font_of(
     rt: &HostRuntime,
     options: &StringOptions<'_, '_>,
     bases: &mut Bases<'_>,
@@ -121,10 +121,9 @@ fn collection_of(
     options: &StringOptions<'_, '_>,
     bases: &mut Bases<'_>,
 ) -> Result<Option<CMap>, Failure> {
-    let Some(family) = family_of(encoding) else {
+    let Some(name) = collection_name(rt.alloc(), encoding.layers())? else {
         return Ok(None);
     };
-    let name = ucs2_name(rt.alloc(), family)?;
     let Ok(path) = str::from_utf8(&name) else {
         return Ok(None);
     };
@@ -132,14 +131,4 @@ fn collection_of(
         return Ok(None);
     };
     Ok(Some(map_of(rt, path, bytes.as_slice(), options.manner, bases)?))
-}
-
-/// The character collection of the first layer that has one.
-fn family_of(map: &CMap) -> Option<&CidFamily> {
-    for layer in map.layers().as_slice() {
-        if let Some(collection) = &layer.metadata().character_collection {
-            return Some(&collection.family);
-        }
-    }
-    None
 }

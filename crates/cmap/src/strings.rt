@@ -10,7 +10,7 @@ pub(crate) fn strings_of(rt: &HostRuntime, arguments: &[&str]) -> Result<Vec<Vec
         if *argument == STANDARD_INPUT {
             add_list(rt, argument, &mut strings)?;
         } else {
-            strings.push(string_of(rt, argument)?)?;
+            strings.push(spelled(rt, argument)?)?;
         }
     }
     Ok(strings)
@@ -25,7 +25,7 @@ pub(crate) fn listed_strings(
     for argument in arguments {
         match argument.strip_prefix('@') {
             Some(path) => add_list(rt, path, &mut strings)?,
-            None => strings.push(string_of(rt, argument)?)?,
+            None => strings.push(spelled(rt, argument)?)?,
         }
     }
     Ok(strings)
@@ -62,14 +62,14 @@ fn add_list(rt: &HostRuntime, path: &str, strings: &mut Vec<Vec<u8>>) -> Result<
     let Ok(text) = str::from_utf8(&bytes) else {
         return Err(fault(rt, path, "not UTF-8"));
     };
-    for spelled in text.split_whitespace() {
-        strings.push(string_of(rt, spelled)?)?;
+    for digits in text.split_whitespace() {
+        strings.push(spelled(rt, digits)?)?;
     }
     Ok(())
 }
 
 /// The bytes that hexadecimal digits spell, two for each.
-fn string_of(rt: &HostRuntime, digits: &str) -> Result<Vec<u8>, Failure> {
+pub(crate) fn spelled(rt: &HostRuntime, digits: &str) -> Result<Vec<u8>, Failure> {
     match hex::decode(rt.alloc(), digits.as_bytes()) {
         Ok(string) => Ok(string),
         Err(_) => Err(fault(rt, digits, "not hexadecimal digits in pairs")),

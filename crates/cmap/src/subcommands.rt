@@ -4,8 +4,8 @@ use crate::bundle::bundle_options;
 use crate::check::{CheckOptions, check};
 use crate::decode::decode;
 use crate::diff::{DiffOptions, diff};
-use crate::encode::encode;
-use crate::find::{FindOptions, find};
+use crate::encode::{EncodeOptions, encode};
+use crate::find::find;
 use crate::font::StringOptions;
 use crate::info::{InfoOptions, info};
 use crate::list::{ListOptions, list};
@@ -26,12 +26,12 @@ use cmap_sources::failure::Failure;
 pub(crate) enum Subcommand<'m, 'w> {
     Info(InfoOptions<'m, 'w>),
     List(ListOptions<'m, 'w>),
-    Find(FindOptions<'m, 'w>),
+    Find(StringOptions<'m, 'w>),
     Diff(DiffOptions<'m, 'w>),
     Check(CheckOptions<'m, 'w>),
     Decode(StringOptions<'m, 'w>),
     Text(StringOptions<'m, 'w>),
-    Encode(StringOptions<'m, 'w>),
+    Encode(EncodeOptions<'m, 'w>),
     Lookup(LookupOptions<'m, 'w>),
     Where(LocateOptions<'m, 'w>),
     Rewrite(Rewriting<'m, 'w>),
@@ -45,12 +45,12 @@ impl<'m, 'w> Subcommand<'m, 'w> {
         Some(match name {
             "info" => Subcommand::Info(InfoOptions::of(arguments)),
             "list" => Subcommand::List(ListOptions::of(arguments)),
-            "find" => Subcommand::Find(FindOptions::of(arguments)),
+            "find" => Subcommand::Find(StringOptions::of(arguments)),
             "diff" => Subcommand::Diff(DiffOptions::of(arguments)),
             "check" => Subcommand::Check(CheckOptions::of(arguments)),
             "decode" => Subcommand::Decode(StringOptions::of(arguments)),
             "text" => Subcommand::Text(StringOptions::of(arguments)),
-            "encode" => Subcommand::Encode(StringOptions::of(arguments)),
+            "encode" => Subcommand::Encode(EncodeOptions::of(arguments)),
             "lookup" => Subcommand::Lookup(LookupOptions::of(arguments)),
             "where" => Subcommand::Where(LocateOptions::of(arguments)),
             "write" => Subcommand::Rewrite(Rewriting::writing(arguments)),
@@ -71,7 +71,7 @@ impl<'m, 'w> Subcommand<'m, 'w> {
             Subcommand::Check(options) => options.sources,
             Subcommand::Decode(options) => options.sources,
             Subcommand::Text(options) => options.sources,
-            Subcommand::Encode(options) => options.sources,
+            Subcommand::Encode(options) => options.of_texts.sources,
             Subcommand::Lookup(options) => options.sources,
             Subcommand::Where(options) => options.sources,
             Subcommand::Rewrite(rewriting) => rewriting.sources,

@@ -9,8 +9,7 @@ ghost use Rattle.cmap_handles.specs.Statuses.{number};
 ghost use Rattle.cmap_handles.specs.declared.status.Status.TheVariants.{Absent};
 
 use crate::decode::Code;
-use crate::layers::layers_lent;
-use cmap_handles::handle::MapHandle;
+use cmap_handles::handle::{MapHandle, lent};
 use cmap_handles::status::Status;
 use cmap_tokens::utf16::BfString;
 use cmap_unicode::{Character, Extractor};
@@ -71,8 +70,8 @@ pub extern "C" fn hayro_cmap_extract(
     };
     let texts = to_unicode.take(alloc);
     let texts_of_cids = collection.take(alloc);
-    let texts_layers = layers_lent(&texts);
-    let collection_layers = layers_lent(&texts_of_cids);
+    let texts_layers = lent(&texts);
+    let collection_layers = lent(&texts_of_cids);
     let font = Extractor {
         encoding: found.value(),
         to_unicode: texts_layers,

@@ -8,12 +8,11 @@ ghost use Rattle.cmap_handles.specs.Rooms.{IsPut};
 ghost use Rattle.cmap_handles.specs.Statuses.{number};
 ghost use Rattle.cmap_handles.specs.declared.status.Status.TheVariants.{Absent};
 
-use cmap_handles::handle::{MapHandle, TakenMap};
+use cmap_handles::handle::{MapHandle, TakenMap, lent};
 use cmap_handles::ranges::CodespaceRange;
 use cmap_handles::room::put_items;
 use cmap_handles::status::Status;
 use cmap_layers::layer::Layer;
-use cmap_layers::layers::Layers;
 use std::alloc::Global;
 
 /// How many layers the map has.
@@ -54,22 +53,12 @@ pub extern "C" fn hayro_cmap_codespaces(
     status
 }
 
-/// The layers of a map that was taken.
-pub(crate) fn layers_lent(found: &TakenMap) -> Option<&Layers>
-    ensures { option_copied result ≡ option_map (λ b. b.value) found.now }
-{
-    match found {
-        Some(shared) => Some(shared.value()),
-        None => None,
-    }
-}
-
 /// The layer at an index of a map that was taken, where it has one.
 pub(crate) fn layer_at(found: &TakenMap, layer: usize) -> Option<&Layer>
     ensures { option_map layer_seen (option_copied result)
         ≡ layer_in (option_map (λ b. b.value) found.now) layer }
 {
-    let layers = layers_lent(found)?.as_slice();
+    let layers = lent(found)?.as_slice();
     if layer < layers.len() {
         Some(&layers[layer])
     } else {

@@ -1,20 +1,16 @@
 -- Codes with the same first bytes as one that lies outside of all codespace ranges.
-use Rattle.std.proofs.Common.{◌≡◌, ℕ, ◌+◌, ◌/◌, ◌%◌, ◌^◌, ◌<◌, ◌≤◌, List, length, ap, subst, inl, inr, arith}
+use Rattle.std.proofs.Common.{◌≡◌, ℕ, ◌/◌, ◌%◌, ◌^◌, ◌<◌, ◌≤◌, List, length, ap, subst, inl, inr, arith}
 use Rattle.std.proofs.lemmas.Bool.{cases_lt}
 use Rattle.std.proofs.lemmas.List.{take_all}
 use Rattle.cmap_codespaces.specs.CodesWithin.{IsWithin, byte_at}
 use Rattle.cmap_values.specs.BigEndian.{big_endian}
 use Rattle.cmap_values.specs.Files.{Codespace}
 use Rattle.cmap_layers.specs.Layers.{Layer}
-use Rattle.cmap_unicode.specs.TextsOfCodes.{Font}
 use Rattle.cmap_encode.specs.Codes.{IsWhole}
-use Rattle.cmap_encode.specs.IndexSeen.{IsIndexed}
 use Rattle.cmap_encode.specs.Outside.{BeginsSo, IsInside, MayBegin}
-use Rattle.cmap_encode.specs.declared.index.Index.{Index}
-use Rattle.cmap_encode.proofs.FirstCodes.{not_whole}
 
 -- bytes before the last ones
-same_byte : (n m after k : ℕ) → n / 256 ^ after ≡ m / 256 ^ after → 1 ≤ after → after ≤ 3 → after ≤ k → k < 4 → byte_at n k ≡ byte_at m k
+pub same_byte : (n m after k : ℕ) → n / 256 ^ after ≡ m / 256 ^ after → 1 ≤ after → after ≤ 3 → after ≤ k → k < 4 → byte_at n k ≡ byte_at m k
 same_byte n m after k same some few le lt =
     elim (cases_lt after 2) [
       | inl one ↦ let is : after ≡ 1 = omega arith in by_one (subst (λ a. n / 256 ^ a ≡ m / 256 ^ a) is same) k (omega arith) lt
@@ -55,10 +51,5 @@ pub inside_begins : (layers : List Layer) (len n m after : ℕ) → n / 256 ^ af
 inside_begins layers len n m after same some few short (k, layer, lt, at, (j, space, below, is, within)) = (k, layer, lt, at, (j, space, below, is, begins_so len n m after space same some few short within))
 
 -- a whole code lies in a range
-whole_inside : (layers : List Layer) (bytes : List ℕ) → IsWhole layers bytes → IsInside layers (length bytes) (big_endian bytes)
+pub whole_inside : (layers : List Layer) (bytes : List ℕ) → IsWhole layers bytes → IsInside layers (length bytes) (big_endian bytes)
 whole_inside layers bytes whole = subst (λ b. IsInside layers (length bytes) (big_endian b)) (take_all (length bytes) bytes (omega arith)) whole.0.1.3
-
--- codes after one up to the last one, all outside
-pub passed_outside : (font : Font) (len first last : ℕ) (index : Index) → first ≤ last → ((number : ℕ) → first < number → number ≤ last → IsInside font.encoding len number → ⊥) → IsIndexed font len (first + 1) index → IsIndexed font len (last + 1) index
-passed_outside font len first last index le outside is = not_whole font len (first + 1) (last + 1) index (omega arith) (λ bytes long from to whole.
-    outside (big_endian bytes) (omega arith) (omega arith) (subst (λ n. IsInside font.encoding n (big_endian bytes)) long (whole_inside font.encoding bytes whole))) is

@@ -1,8 +1,8 @@
 -- Which fronts of a text strings show.
-use Rattle.std.proofs.Common.{◌≡◌, ℕ, ◌+◌, ◌-◌, ◌<◌, ◌≤◌, ◌⊎◌, Bool, true, false, List, [], ◌∷◌, ◌++◌, get_or, length, take, drop, Option, Some, None, refl, sym, ap, ◌∙◌, subst, inl, inr, arith, append_assoc, append-nil, length-append}
-use Rattle.std.specs.Prelude.{◌↔◌, IsTrue, if◌then◌else◌}
+use Rattle.std.proofs.Common.{◌≡◌, ℕ, zero, suc, ◌+◌, ◌-◌, ◌<◌, ◌≤◌, ◌⊎◌, Bool, true, false, List, [], ◌∷◌, ◌++◌, get_or, length, take, drop, Option, Some, None, refl, sym, ap, ◌∙◌, subst, inl, inr, arith, append_assoc, append-nil, length-append}
+use Rattle.std.specs.Prelude.{◌↔◌, IsTrue, if◌then◌else◌, is_some, option_map}
 use Rattle.std.proofs.lemmas.Bool.{cases_lt, false≢true}
-use Rattle.std.proofs.lemmas.List.{drop_at, get_or_append_left, get_or_push, length_push, nil_from_length, take-append-drop, take-take, take_at}
+use Rattle.std.proofs.lemmas.List.{drop_at, get_or_append_left, get_or_push, length-take-le, length_push, nil_from_length, take-append-drop, take-take, take_at}
 use Rattle.std.proofs.lemmas.List.Elements.{All-append, All-drop, All-nil, All-take}
 use Rattle.cmap_unicode.specs.Characters.{characters_of}
 use Rattle.cmap_unicode.specs.TextsOfCodes.{Font}
@@ -77,7 +77,7 @@ module _ (font : Font) where
       let few = (whole_length font.encoding bytes code.whole).1 in
       subst (IsFirstAmong (IsBefore 5 0) font text) found (is.codes text) bytes are (inl (omega (arith, few))) code
 
-  pub ends_found : (index : Index) (shown : List Bool) (text : List ℕ) (taken : ℕ) (code : Code) (d b : Bool) → IsIndexOf font index → AreShown font text shown → 1 ≤ taken → taken ≤ length text → length shown ≡ length text
+  ends_found : (index : Index) (shown : List Bool) (text : List ℕ) (taken : ℕ) (code : Code) (d b : Bool) → IsIndexOf font index → AreShown font text shown → 1 ≤ taken → taken ≤ length text → length shown ≡ length text
       → Some (code_bytes code) ≡ found_in index (drop (length text - taken) text) → b ≡ get_or shown (length text - taken) d → IsTrue b ↔ EndsBy font text taken
   ends_found index shown text taken code d b is are some within count found at =
       let (first_are, is_code) = has_code index (drop (length text - taken) text) (code_bytes code) is (sym found) in
@@ -86,8 +86,21 @@ module _ (font : Font) where
         λ ends. subst IsTrue (sym at) (here.1 ends.front),
       )
 
-  pub ends_missed : (index : Index) (text : List ℕ) (taken : ℕ) → IsIndexOf font index → None ≡ found_in index (drop (length text - taken) text) → IsTrue false ↔ EndsBy font text taken
+  ends_missed : (index : Index) (text : List ℕ) (taken : ℕ) → IsIndexOf font index → None ≡ found_in index (drop (length text - taken) text) → IsTrue false ↔ EndsBy font text taken
   ends_missed index text taken is none = (λ yes. absurd (false≢true yes), λ ends. absurd (has_none index (drop (length text - taken) text) ends.bytes is (sym none) ends.bytes_string ends.code))
+
+  -- those before them are shown, and a code is looked up for them
+  pub ends_looked : (index : Index) (shown : List Bool) (text : List ℕ) (taken : ℕ) (found : Option Code) → IsIndexOf font index → AreShown font text shown → 1 ≤ taken → taken ≤ length text → length shown ≡ length text
+      → option_map code_bytes found ≡ found_in index (drop (length text - taken) text) → get_or shown (length text - taken) false ≡ true → IsTrue (is_some found) ↔ EndsBy font text taken
+  ends_looked index shown text taken (Some code) is are some within count found at = ends_found index shown text taken code false true is are some within count found (sym at)
+  ends_looked index shown text taken None is are some within count none at = ends_missed index text taken is none
+
+  -- those before them aren't shown
+  pub ends_unshown : (shown : List Bool) (text : List ℕ) (taken : ℕ) (b : Bool) → AreShown font text shown → 1 ≤ taken → taken ≤ length text → length shown ≡ length text → b ≡ get_or shown (length text - taken) false → b ≡ false → IsTrue b ↔ EndsBy font text taken
+  ends_unshown shown text taken b are some within count at missing = (
+    λ yes. absurd (false≢true (sym missing ∙ yes)),
+    λ ends. at ∙ (are (length text - taken) false (omega arith)).1 ends.front,
+  )
 
   pub ends_shown : (text : List ℕ) (taken : ℕ) → EndsBy font text taken → HasEncoding font text
   ends_shown text taken ends =
@@ -143,6 +156,28 @@ module _ (font : Font) where
     below = omega (arith, was.below);
     shown = was.shown;
     longest = λ more from to shown. elim (cases_lt more count) [ inl before ↦ was.longest more from before shown | inr last ↦ let at : more ≡ count = omega arith in false≢true (is.1 (subst (λ n. HasEncoding font (take n text)) at shown)) ];
+  }
+
+  -- a code ends each longer front, and those before it aren't shown
+  none_longer : (index : Index) (text : List ℕ) (count longest : ℕ) → IsIndexOf font index → IsLongestBelow font text count longest → index.longest < count - longest → (most more : ℕ) → more < most → longest < more → more ≤ length text → HasEncoding font (take more text) → ⊥
+  none_longer index text count longest is below far zero more lt from to shown = absurd (omega arith)
+  none_longer index text count longest is below far (suc most) more lt from to shown =
+      elim (cases_lt more count) [
+        | inl before ↦ below.longest more from before shown
+        | inr later ↦
+            let long : length (take more text) ≡ more = length-take-le more text to in
+            not_shown index (take more text) (index.longest + 1) is (omega (arith, long)) (inl (omega arith)) (λ taken some few ends.
+            let left : length (take more text) - taken ≡ more - taken = omega (arith, long) in
+            let front : HasEncoding font (take (more - taken) text) = subst (HasEncoding font) (ap (λ n. take n (take more text)) left ∙ take-take (more - taken) more text (omega arith)) ends.front in
+            none_longer index text count longest is below far most (more - taken) (omega arith) (omega arith) (omega arith) front) shown
+      ]
+
+  -- so many fronts in a row aren't shown as the longest text of a code has characters
+  pub longest_stuck : (index : Index) (text : List ℕ) (count longest : ℕ) → IsIndexOf font index → count ≤ length text → IsLongestBelow font text count longest → index.longest < count - longest → IsLongestShown font text longest
+  longest_stuck index text count longest is within below far = record {
+    within = let lt = below.below in omega arith;
+    shown = below.shown;
+    longest = λ more from to. none_longer index text count longest is below far (more + 1) more (omega arith) from to;
   }
 
   pub longest_all : (text : List ℕ) (count longest : ℕ) → count ≡ length text + 1 → IsLongestBelow font text count longest → IsLongestShown font text longest

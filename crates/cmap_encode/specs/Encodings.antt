@@ -1,5 +1,5 @@
 -- The strings of a font that show a text, and the first of them.
-use Rattle.std.specs.Prelude.{◌≡◌, ℕ, ◌<◌, ◌≤◌, ◌⊎◌, IsTrue, List, [], ◌∷◌, ◌++◌, length, drop, take, flat_map, All, Some}
+use Rattle.std.specs.Prelude.{◌≡◌, ℕ, ◌+◌, ◌<◌, ◌≤◌, ◌⊎◌, IsTrue, List, [], ◌∷◌, ◌++◌, length, drop, take, flat_map, All, Some}
 use Rattle.std.specs.Char.{encode_utf8}
 use Rattle.cmap_tokens.specs.Texts.{Text}
 use Rattle.cmap_layers.specs.StringCodes.{IsNextCode}
@@ -54,3 +54,11 @@ pub record IsStuckAt (font : Font) (text : List ℕ) (offset : ℕ) : Type 0 whe
   pub count : ℕ
   pub longest : IsLongestShown font text count
   pub is_offset : offset ≡ length (flat_map encode_utf8 (take count text))
+
+-- the text piece by piece: of what is left, the longest front that some string shows, and other bytes for the character after it
+pub data IsLossyEncodingOf (font : Font) (missing : List ℕ) : List ℕ → List ℕ → Type 0 where
+  -- some string shows all of the text
+  whole : (text string : List ℕ) → IsEncodingOf font text string → IsLossyEncodingOf font missing text string
+  -- strings show so many characters of it, and no more; what comes after the next character is encoded likewise
+  stuck : (text front rest : List ℕ) (count : ℕ) → IsLongestShown font text count → count < length text → IsEncodingOf font (take count text) front
+      → IsLossyEncodingOf font missing (drop (count + 1) text) rest → IsLossyEncodingOf font missing text (front ++ (missing ++ rest))

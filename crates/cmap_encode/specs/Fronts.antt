@@ -1,8 +1,8 @@
 -- Private aid: which fronts of a text strings show.
-use Rattle.std.specs.Prelude.{◌↔◌, ℕ, ◌-◌, ◌<◌, Bool, IsTrue, List, drop, get_or, length, take}
+use Rattle.std.specs.Prelude.{◌≡◌, ◌↔◌, ℕ, ◌-◌, ◌<◌, Bool, IsTrue, List, ◌++◌, drop, get_or, length, take}
 use Rattle.cmap_unicode.specs.TextsOfCodes.{Font}
 use Rattle.cmap_encode.specs.Codes.{IsCodeOf}
-use Rattle.cmap_encode.specs.Encodings.{HasEncoding, IsString}
+use Rattle.cmap_encode.specs.Encodings.{HasEncoding, IsEncodingOf, IsLongestShown, IsString}
 
 -- of the empty front, that of one character, and so on, whether it is shown
 abbrev pub AreShown : Font → List ℕ → List Bool → Type 0
@@ -20,3 +20,12 @@ pub record IsLongestBelow (font : Font) (text : List ℕ) (limit count : ℕ) : 
   pub below : count < limit
   pub shown : HasEncoding font (take count text)
   pub longest : (more : ℕ) → count < more → more < limit → HasEncoding font (take more text) → ⊥
+
+-- the longest front of a text that strings show was encoded at the end of a string; this is left of the text
+pub record IsLongestAdded (font : Font) (text left old new : List ℕ) : Type 0 where
+  pub count : ℕ
+  pub longest : IsLongestShown font text count
+  pub rest : left ≡ drop count text
+  pub front : List ℕ
+  pub encoding : IsEncodingOf font (take count text) front
+  pub added : new ≡ old ++ front

@@ -1,12 +1,11 @@
 //! A code with its bytes.
 
 ghost use Rattle.std.specs.Prelude.{◌≡◌, ◌++◌, MatchOption, OnOk};
-ghost use Rattle.cmap_values.specs.BigEndian.{big_endian};
-ghost use Rattle.cmap_values.specs.CodeLengths.{length_of};
-ghost use Rattle.cmap_encode.specs.Codes.{IsWhole, aligned, code_bytes};
+ghost use Rattle.cmap_values.specs.Only.{HoldsOfNone};
+ghost use Rattle.cmap_layers.specs.StringCodes.{BeginsInside, IsShortestInside};
+ghost use Rattle.cmap_encode.specs.Codes.{aligned, code_bytes};
 
 use cmap_layers::layers::Layers;
-use cmap_layers::string_codes::StringCode;
 use cmap_values::code_length::CodeLength;
 use std::alloc::AllocError;
 
@@ -18,17 +17,15 @@ pub(crate) struct Code {
 }
 
 impl Code {
-    /// How a string that is this code is read, if the code lies in a codespace range and none of its
-    /// fronts does: so it is read wherever it stands.
-    pub(crate) fn whole(self, encoding: &Layers) -> Option<StringCode>
-        ensures { MatchOption result (IsWhole encoding.now (code_bytes self) → ⊥)
-            (λ code. IsWhole encoding.now (code_bytes self)
-            × (code.code ≡ big_endian (code_bytes self))
-            × (code.byte_len ≡ length_of self.len)) }
+    /// How many bytes the shortest front of the code has that lies in a codespace range, if one does. The
+    /// code itself is the longest of its fronts.
+    pub(crate) fn shortest_front(self, encoding: &Layers) -> Option<u8>
+        ensures { MatchOption result (HoldsOfNone (BeginsInside encoding.now (code_bytes self)))
+            (IsShortestInside encoding.now (code_bytes self)) }
     {
         let bytes = self.number.to_be_bytes();
-        let code = encoding.next_code(&bytes[4 - usize::from(self.len.count())..])?;
-        (code.in_codespace && code.byte_len == self.len.count()).then_some(code)
+        let front = encoding.next_code(&bytes[4 - usize::from(self.len.count())..])?;
+        front.in_codespace.then_some(front.byte_len)
     }
 
     /// Adds its bytes to a string.

@@ -31,15 +31,24 @@ fn utf8_len(alloc: Global, text: &[char]) -> Result<usize, AllocError>
 }
 
 /// How many characters the longest front of a text has that some string shows.
-fn longest_shown(alloc: Global, index: &Index, text: &[char]) -> Result<usize, AllocError>
+///
+/// Once as many fronts in a row aren't shown as the longest text of a code has characters, no longer one is.
+pub(crate) fn longest_shown(
+    alloc: Global,
+    index: &Index,
+    text: &[char],
+) -> Result<usize, AllocError>
     ensures within { IfOk result (λ count. count ≤ length text.now) }
     ensures longest { IfOk result (λ count. (font : Font) → IsIndexOf font index.now
         → IsLongestShown font text.now count) }
 {
-    let mut shown = Vec::with_capacity(alloc, text.len())?;
+    let mut shown = Vec::new(alloc);
     shown.push(true)?;
     let mut longest = 0;
     for count in 1..text.len() + 1 {
+        if count - longest > index.longest {
+            return Ok(longest);
+        }
         let is_shown = is_shown(index, &shown, &text[..count]);
         shown.push(is_shown)?;
         longest = longer(is_shown, count, longest);
@@ -78,8 +87,5 @@ fn ends_by(index: &Index, fronts: &[bool], text: &[char], taken: usize) -> bool
         → (IsTrue result ↔ EndsBy font text.now taken) }
 {
     let left = text.len() - taken;
-    match index.find(&text[left..]) {
-        Some(_code) => fronts[left],
-        None => false,
-    }
+    fronts[left] && index.find(&text[left..]).is_some()
 }

@@ -1,26 +1,28 @@
 //! The first code of each text of a font.
 
-ghost use Rattle.std.specs.Prelude.{◌≡◌, ◌+◌, ◌<◌, ◌≤◌, ◌^◌, ℕ, List, None, Some, IfOk, OnOk, length, option_map, if◌then◌else◌};
-ghost use Rattle.std.specs.Option.{option_or};
-ghost use Rattle.std.specs.Str.{bytes_eq};
-ghost use Rattle.cmap_tokens.specs.TextSeen.{text_seen};
-ghost use Rattle.cmap_values.specs.CodeLengths.{length_of};
-ghost use Rattle.cmap_unicode.specs.Characters.{characters_of, font_of};
+ghost use Rattle.std.specs.Prelude.{◌≡◌, All, IfOk, option_map};
+ghost use Rattle.std.specs.List.{AllZip};
+ghost use Rattle.std.specs.Global.{Vec as List_of};
+ghost use Rattle.cmap_unicode.specs.Characters.{font_of};
 ghost use Rattle.cmap_encode.specs.Codes.{code_bytes};
-ghost use Rattle.cmap_encode.specs.IndexSeen.{IsIndexOf, IsIndexed, found_in};
+ghost use Rattle.cmap_encode.specs.FirstsSeen.{AreFirsts, IsCodeRun};
+ghost use Rattle.cmap_encode.specs.IndexSeen.{IsIndexOf, found_in};
 
+use crate::by_cid::add_cids;
 use crate::code::Code;
-use crate::outside::outside_until;
-use cmap_tokens::utf16::BfString;
+use crate::firsts::{CodeRun, Firsts};
+use crate::gathered::Gathered;
 use cmap_unicode::Extractor;
-use cmap_values::code_length::CodeLength;
 use std::alloc::{AllocError, Global};
 use std::collections::BTreeMap;
 
 /// The first code of each text: the one of the fewest bytes, and of several the one of the least number.
 #[derive(Drop)]
 pub(crate) struct Index {
-    codes: BTreeMap<Vec<char>, Code>,
+    /// The index in `firsts` of the codes of each front: the characters before the last one.
+    numbers: BTreeMap<Vec<char>, usize>,
+    /// The first code of each last character.
+    firsts: Vec<Firsts>,
     /// How many characters the longest text has.
     pub(crate) longest: usize,
 }
@@ -30,117 +32,38 @@ impl Index {
     pub(crate) fn build(alloc: Global, font: &Extractor<'_>) -> Result<Index, AllocError>
         ensures { IfOk result (IsIndexOf (font_of font.now)) }
     {
-        let mut index = Index {
-            codes: BTreeMap::new(alloc),
-            longest: 0,
-        };
-        index.add_codes(alloc, font, CodeLength::One)?;
-        index.add_codes(alloc, font, CodeLength::Two)?;
-        index.add_codes(alloc, font, CodeLength::Three)?;
-        index.add_codes(alloc, font, CodeLength::Four)?;
-        Ok(index)
+        let gathered = Gathered::build(alloc, font)?;
+        let cids = Firsts::build(alloc, gathered.cids)?;
+        let mut texts = gathered.texts;
+        add_cids(alloc, &mut texts, font.collection, &cids)?;
+        Ok(Index {
+            numbers: texts.numbers,
+            firsts: firsts_of(alloc, texts.lists)?,
+            longest: texts.longest,
+        })
     }
 
     /// The code that it has for a text.
     pub(crate) fn find(&self, text: &[char]) -> Option<Code>
         ensures { option_map code_bytes result ≡ found_in self.now text.now }
     {
-        self.codes.get(text).copied()
-    }
-
-    /// Adds the codes of a length.
-    fn add_codes(
-        &mut self,
-        alloc: Global,
-        font: &Extractor<'_>,
-        len: CodeLength,
-    ) -> Result<(), AllocError>
-        requires { IsIndexed (font_of font.now) (length_of len) 0 self.old }
-        ensures { OnOk result (IsIndexed (font_of font.now) (length_of len + 1) 0 self.new) }
-    {
-        let end = code_count(len);
-        let mut next: u64 = 0;
-        while next < end {
-            let number = next as u32;
-            next = self.add_from(alloc, font, Code { number, len })?;
-        }
-        Ok(())
-    }
-
-    /// Adds a code, where it is to be added and has a text, and passes over the codes after it that have
-    /// none, or the same one. It gives the code with which to go on.
-    fn add_from(
-        &mut self,
-        alloc: Global,
-        font: &Extractor<'_>,
-        code: Code,
-    ) -> Result<u64, AllocError>
-        requires before { IsIndexed (font_of font.now) (length_of code.len) code.number self.old }
-        requires fits { code.number < 256 ^ length_of code.len }
-        ensures more { IfOk result (λ next. code.number < next) }
-        ensures index { IfOk result
-            (λ next. IsIndexed (font_of font.now) (length_of code.len) next self.new) }
-    {
-        let row = font.text_row(alloc, code.number, code.len)?;
-        let Some(text) = &row.text else {
-            return Ok(u64::from(row.last) + 1);
+        let [front @ .., last] = text else {
+            return None;
         };
-        if code.whole(font.encoding).is_none() {
-            return Ok(u64::from(outside_until(font.encoding, code)) + 1);
-        }
-        let characters = characters(alloc, text)?;
-        self.add_first(characters, code)?;
-        Ok(next_after(row.counts_on, code.number, row.last))
-    }
-
-    /// Adds a code for a text, unless there is one.
-    fn add_first(&mut self, text: Vec<char>, code: Code) -> Result<(), AllocError>
-        ensures found { OnOk result ((other : List ℕ) → found_in self.new other
-            ≡ option_or (found_in self.old other)
-            (if bytes_eq other text.items then Some (code_bytes code) else None)) }
-        ensures longest { (self.old.longest ≤ self.new.longest)
-            × (OnOk result (length text.items ≤ self.new.longest)) }
-    {
-        self.longest = self.longest.max(text.len());
-        if self.codes.contains_key(text.as_slice()) {
-            return Ok(());
-        }
-        self.codes.insert(text, code)?;
-        Ok(())
+        let number = self.numbers.get(front)?;
+        self.firsts.get(*number)?.find(u32::from(*last))
     }
 }
 
-/// The code after the first of a row that may have another text.
-fn next_after(counts_on: bool, first: u32, last: u32) -> u64
-    ensures { result ≡ (if counts_on then first else last) + 1 }
-{
-    let last = if counts_on { first } else { last };
-    u64::from(last) + 1
-}
-
-/// How many codes have this length.
-fn code_count(len: CodeLength) -> u64
-    ensures { result ≡ 256 ^ length_of len }
-{
-    match len {
-        CodeLength::One => 0x100,
-        CodeLength::Two => 0x1_0000,
-        CodeLength::Three => 0x100_0000,
-        CodeLength::Four => 0x1_0000_0000,
-    }
-}
-
-/// The characters of a text.
-fn characters(alloc: Global, text: &BfString) -> Result<Vec<char>, AllocError>
+/// The first code of each key, by each of the lists.
+fn firsts_of(alloc: Global, lists: Vec<Vec<CodeRun>>) -> Result<Vec<Firsts>, AllocError>
+    requires { All (λ (list : List_of CodeRun). All IsCodeRun list.items) lists.items }
     ensures { IfOk result
-        (λ characters. characters.items ≡ characters_of (text_seen text.now)) }
+        (λ all. AllZip (λ list. AreFirsts list.items) lists.items all.items) }
 {
-    match text {
-        BfString::Char(only) => {
-            let mut characters = Vec::new(alloc);
-            characters.push(*only)?;
-            Ok(characters)
-        }
-        BfString::String(text) => text.chars().collect(alloc),
+    let mut all = Vec::with_capacity(alloc, lists.len())?;
+    for runs in lists {
+        all.push(Firsts::build(alloc, runs)?)?;
     }
+    Ok(all)
 }

@@ -1,11 +1,16 @@
 //! Strings of a font that show a text, by the layers of its CMaps.
 #![tactic(auto)]
 
+mod by_cid;
 mod code;
 mod encoder;
+mod firsts;
 mod fronts;
+mod gathered;
 mod index;
 mod outside;
+mod runs_by_front;
 mod ways;
+mod whole;
 
 pub use encoder::{Encoder, Unencodable};

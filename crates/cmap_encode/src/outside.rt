@@ -41,7 +41,7 @@ fn outside_with_front(encoding: &Layers, code: Code, after: u8, last: u32) -> u3
 }
 
 /// The last number with the same bytes before the last `after` ones.
-fn last_with_front(number: u32, after: u8) -> u32
+pub(crate) fn last_with_front(number: u32, after: u8) -> u32
     requires { after ≤ 3 }
     ensures within { number ≤ result }
     ensures same { (other : ℕ) → number ≤ other → other ≤ result
@@ -76,7 +76,7 @@ fn any_begins(spaces: &[Codespace], code: Code, after: u8) -> bool
 }
 
 /// Whether this codespace range has such codes.
-fn begins_so(space: &Codespace, code: Code, after: u8) -> bool
+pub(crate) fn begins_so(space: &Codespace, code: Code, after: u8) -> bool
     requires { after ≤ 3 }
     ensures { IsTrue result
         ↔ BeginsSo (length_of code.len) code.number after (codespace_seen space.now) }
@@ -103,7 +103,7 @@ fn is_between(number: u32, low: u32, high: u32, place: u8) -> bool
 }
 
 /// The byte of a number at a place, counted from its last byte.
-fn byte_of(number: u32, place: u8) -> u32
+pub(crate) fn byte_of(number: u32, place: u8) -> u32
     requires { place < 4 }
     ensures { result ≡ byte_at number place }
 {

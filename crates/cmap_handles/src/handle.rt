@@ -1,6 +1,7 @@
 //! Maps that C holds.
 
 ghost use Rattle.std.specs.Prelude.{◌≡◌, None, Some, MatchResult, is_some, option_map};
+ghost use Rattle.std.specs.Option.{option_copied};
 ghost use Rattle.cmap_handles.specs.Statuses.{number};
 ghost use Rattle.cmap_handles.specs.declared.status.Status.TheVariants.{Done, NoMemory};
 
@@ -14,6 +15,16 @@ use std::mem;
 
 /// A map that was taken from a handle, if it had one.
 pub type TakenMap = Option<Box<Shared<Layers>>>;
+
+/// The map that was taken, to ask it.
+pub fn lent(found: &TakenMap) -> Option<&Layers>
+    ensures { option_copied result ≡ option_map (λ b. b.value) found.now }
+{
+    match found {
+        Some(shared) => Some(shared.value()),
+        None => None,
+    }
+}
 
 /// A map that C holds, or none. One that is empty is all zero bytes.
 #[repr(C)]

@@ -3,7 +3,7 @@
 
 pub mod bundle;
 pub mod handle;
-mod loose;
+pub mod loose;
 pub mod names;
 pub mod ranges;
 pub mod room;

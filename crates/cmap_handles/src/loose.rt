@@ -7,10 +7,13 @@ use std::alloc::Allocator;
 use std::marker::Model;
 
 /// A pointer that owns what a box owns.
-pub(crate) struct Loose<T, A: Allocator> {
-    pub(crate) at: *mut T,
-    pub(crate) alloc: A,
-    pub(crate) ghost value: { T },
+pub struct Loose<T, A: Allocator> {
+    /// Where the value lies.
+    pub at: *mut T,
+    /// What frees its block.
+    pub alloc: A,
+    /// The value.
+    pub ghost value: { T },
 }
 
 impl<T, A: Allocator> Model for Loose<T, A> {
@@ -19,7 +22,7 @@ impl<T, A: Allocator> Model for Loose<T, A> {
 
 impl<T: Drop, A: Allocator> Loose<T, A> {
     /// A pointer that owns what this box owns.
-    pub(crate) fn of(value: Box<T, A>) -> Loose<T, A>
+    pub fn of(value: Box<T, A>) -> Loose<T, A>
         ensures { result.value ≡ value.value }
     {
         let (at, alloc) = Box::into_raw_with_allocator(value);
@@ -27,7 +30,7 @@ impl<T: Drop, A: Allocator> Loose<T, A> {
     }
 
     /// A box that owns what the pointer owns.
-    pub(crate) fn into_box(self) -> Box<T, A>
+    pub fn into_box(self) -> Box<T, A>
         ensures { result.value ≡ self.value }
     {
         let Loose { at, alloc } = self;

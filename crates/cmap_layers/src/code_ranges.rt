@@ -7,7 +7,7 @@ use cmap_runs::runs::Range;
 use std::alloc::AllocError;
 
 /// Adds a range at the end. Where it begins just after the last one, the two are one.
-pub(crate) fn add_range(ranges: &mut Vec<Range>, range: Range) -> Result<(), AllocError>
+pub fn add_range(ranges: &mut Vec<Range>, range: Range) -> Result<(), AllocError>
     ensures { OnOk result (ranges.new.items ≡ joined ranges.old.items range) }
 {
     if is_continued_by(ranges, range.start) {

@@ -2,7 +2,7 @@
 //! layers of the files that it is based on come after it.
 #![tactic(auto)]
 
-mod code_ranges;
+pub mod code_ranges;
 mod codespaces;
 pub mod layer;
 pub mod layers;

@@ -62,7 +62,7 @@ pub fn nothing_declared<'m>(map: &CMap) -> Finding<'m> {
 /// Whether a map has a codespace range, or a declaration of CIDs or notdefs.
 fn has_codes_of_any_length(map: &CMap) -> bool {
     for len in LENGTHS {
-        if has_codes(map, *len) {
+        if has_codes(map.layers(), *len) {
             return true;
         }
     }

@@ -1,10 +1,9 @@
 -- Obstacles of bundles.
-use Rattle.std.proofs.Common.{◌≡◌, ◌∙◌, ℕ, zero, suc, ◌+◌, ◌<◌, ◌≤◌, ◌^◌, inl, inr, true, false, List, [], ◌∷◌, ◌++◌, Some, None, get_or, length, take, refl, ap, sym, subst, arith}
+use Rattle.std.proofs.Common.{◌≡◌, ◌∙◌, ℕ, zero, suc, ◌+◌, ◌<◌, ◌^◌, inl, inr, true, false, List, [], ◌∷◌, ◌++◌, Some, None, get_or, length, take, refl, ap, sym, subst, arith}
 use Rattle.std.specs.Prelude.{◌⊎◌, Option, IsSome, is_some}
 use lib.Dec.{eqb}
 use Rattle.std.specs.Option.{option_eq}
 use Rattle.std.specs.List.{All, Any, Contains, flat_map}
-use Rattle.std.specs.List.Sorted.{IsStrictlyIncreasing}
 use Rattle.std.proofs.lemmas.Bool.{cases_Bool, eqb-true}
 use Rattle.std.proofs.lemmas.List.{take_more}
 use Rattle.std.proofs.lemmas.List.Elements.{All-append, All-cons, All-contains, All-head, All-nil, All-push, All-tail, All-weaker}
@@ -18,10 +17,10 @@ use Rattle.cmap_values.specs.declared.fault.Fault.{Fault}
 use Rattle.cmap_values.specs.declared.file.File.{File as HeldFile}
 use Rattle.cmap_packed.specs.Bundles.{PrefixTables}
 use Rattle.cmap_packed.specs.PrefixWords.{CodeWord}
-use Rattle.cmap_maker.specs.Bundled.{HaveSymbols, files_seen}
-use Rattle.cmap_maker.specs.Gathered.{counts_in, deltas_in, segments_in, slot_segments}
-use Rattle.cmap_maker.specs.Slots.{AllHavePlaces, AreSlotsFor, AreSlotsOf, IsSlotFor, is_index, source_at}
-use Rattle.cmap_maker.specs.Tables.{HasManyNumbers, IsTableFor}
+use Rattle.cmap_maker.specs.Bundled.{AreSlotsOf, HaveSymbols, files_seen}
+use Rattle.cmap_maker.specs.Gathered.{AreTablesFor, counts_in, deltas_in, segments_in, slot_segments}
+use Rattle.cmap_maker.specs.Slots.{AllHavePlaces, AreSlotsFor, IsSlotFor, is_index, source_at}
+use Rattle.cmap_maker.specs.Tables.{table_for}
 use Rattle.cmap_writer.specs.Obstacles.{HasNoWord, IsLarge, IsObstacle, IsPreparedObstacle}
 use Rattle.cmap_writer.specs.PreparedFiles.{IsPrepared}
 use Rattle.cmap_writer.specs.Segments.{DeclareEach}
@@ -29,6 +28,7 @@ use Rattle.cmap_writer.specs.Spelled.{IsNoSymbol}
 use Rattle.cmap_maker.specs.Unwritables.{AreSound, HasLongSlot, IsBundleObstacle, IsObstacleOf, IsPlaceless, IsSlotObstacle, IsSlotsObstacle, IsSound, IsTablesObstacle, IsUnwritable, IsUnwritableAs, IsUnwritableAt, IsUnwritableOf, IsWholeObstacle}
 use Rattle.cmap_maker.specs.WordsMissing.{IsNoWordIf}
 use Rattle.cmap_maker.proofs.BundlesWritten.{is_index_tested}
+use Rattle.cmap_maker.proofs.TablesMade.{HasWordFor, HasWords, few_frequencies, has_words, some_table}
 use Rattle.cmap_writer.proofs.ObstaclesMet.{not_large}
 use Rattle.cmap_values.proofs.ElementsSeen.{any_at}
 use Rattle.cmap_writer.proofs.Told.{Any-left, Any-right}
@@ -90,33 +90,23 @@ sound_deltas slots sound = all_flat (λ (s : Segment). s.deltas.items) (λ n. n 
 sound_counts : (slots : List Slot) → AreSound slots → All (λ n. n < 2 ^ 8) (counts_in (segments_in slots))
 sound_counts slots sound = all_flat (λ (s : Segment). s.counts.items) (λ n. n < 2 ^ 8) (segments_in slots) (All-weaker IsSound (λ (s : Segment). All (λ n. n < 2 ^ 8) s.counts.items) (λ s h. h.counts) (segments_in slots) sound)
 
-rising_at : (numbers : List ℕ) → IsStrictlyIncreasing numbers → (k : ℕ) → k < length numbers → k ≤ get_or numbers k 0
-rising_at numbers rising zero within = omega arith
-rising_at numbers rising (suc k) within =
-    let e : k + 1 ≡ suc k = omega arith in
-    let next : get_or numbers k 0 < get_or numbers (suc k) 0 = subst (λ n. get_or numbers k 0 < get_or numbers n 0) e (rising k (omega (arith, within))) in
-    omega (arith, rising_at numbers rising k (omega (arith, within)), next)
-
--- numbers of one byte are few
-few_bytes : (xs : List ℕ) → All (λ n. n < 2 ^ 8) xs → HasManyNumbers xs → ⊥
-few_bytes xs small many =
-    let within : 256 < length many.numbers = omega (arith, many.many) in
-    omega (arith, All-contains (λ n. n < 2 ^ 8) xs (get_or many.numbers 256 0) small (many.among 256 0 within), rising_at many.numbers many.different 256 within)
-
-pub by_word : (slots : List Slot) (fault : Fault Obstacle) → IsNoWordIf (HasManyNumbers (deltas_in (segments_in slots)) ⊎ HasManyNumbers (counts_in (segments_in slots))) fault → RefusesWith (λ obstacle. AreSound slots → IsWholeObstacle slots obstacle) fault
-by_word slots (Refused NoWord) (inl many) = λ sound. many
-by_word slots (Refused NoWord) (inr many) = λ sound. absurd (few_bytes (counts_in (segments_in slots)) (sound_counts slots sound) many)
+pub by_word : (slots : List Slot) (fault : Fault Obstacle) → IsNoWordIf ((table_for (deltas_in (segments_in slots)) ≡ None) ⊎ (table_for (counts_in (segments_in slots)) ≡ None)) fault → RefusesWith (λ obstacle. AreSound slots → IsWholeObstacle slots obstacle) fault
+by_word slots (Refused NoWord) (inl none) = λ sound. none
+by_word slots (Refused NoWord) (inr none) = λ sound. let few = few_frequencies (counts_in (segments_in slots)) (2 ^ 8) (sound_counts slots sound) in absurd (some_table (counts_in (segments_in slots)) (omega (arith, few)) none)
 by_word slots (Refused other) h = absurd h
 by_word slots Memory h = tt
 
--- ---- tables of these numbers
-abbrev HasWordFor : List CodeWord → ℕ → Type 0
-HasWordFor table n = Any (λ w. w.symbol ≡ n) table
-
+-- ---- the tables for these numbers
 no_word : (table : List CodeWord) (n : ℕ) → HasWordFor table n → IsNoSymbol table n → ⊥
 no_word table n (k, w, within, is, symbol) none = none k w within (ap (λ (w : CodeWord). w.symbol) is ∙ symbol)
 
-module _ (tables : PrefixTables) (slots : List Slot) (deltas : IsTableFor (deltas_in (segments_in slots)) tables.delta) (counts : IsTableFor (counts_in (segments_in slots)) tables.count) where
+module _ (tables : PrefixTables) (slots : List Slot) (spelled : AreTablesFor slots tables) where
+  deltas : HasWords (deltas_in (segments_in slots)) tables.delta
+  deltas = has_words (deltas_in (segments_in slots)) tables.delta spelled.deltas
+
+  counts : HasWords (counts_in (segments_in slots)) tables.count
+  counts = has_words (counts_in (segments_in slots)) tables.count spelled.counts
+
   symbols_fit : AreSound slots → HaveSymbols tables
   symbols_fit sound = record {
     deltas = All-weaker (λ w. Contains (deltas_in (segments_in slots)) w.symbol) (λ w. w.symbol < 2 ^ 32) (λ w h. All-contains (λ n. n < 2 ^ 32) (deltas_in (segments_in slots)) w.symbol (sound_deltas slots sound) h) tables.delta deltas.handed;
@@ -133,7 +123,7 @@ module _ (tables : PrefixTables) (slots : List Slot) (deltas : IsTableFor (delta
 
   too_long : AreSound slots → IsTablesObstacle tables slots TooLong → HasLongSlot slots
   too_long sound (k, s, within, is, inl large) = absurd (excluded IsSound IsLarge (segments_in slots) sound (any_flat slot_segments IsLarge slots (k, s, within, is, large)) (λ x h l. h.small l))
-  too_long sound (k, s, within, is, inr long) = record { tables = tables; deltas = deltas; counts = counts; long = (k, s, within, is, long) }
+  too_long sound (k, s, within, is, inr long) = record { tables = tables; spelled = spelled; long = (k, s, within, is, long) }
 
   pub by_tables : (o : Obstacle) → IsTablesObstacle tables slots o → AreSound slots → IsWholeObstacle slots o
   by_tables NoWord h sound = absurd (words sound h)

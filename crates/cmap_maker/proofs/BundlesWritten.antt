@@ -14,9 +14,11 @@ use Rattle.cmap_values.specs.declared.file.File.{File as HeldFile}
 use Rattle.cmap_packed.specs.TableFronts.{TableAt}
 use Rattle.cmap_packed.specs.Bundles.{HoldsTables, IsBundle, PrefixTables, no_file_bytes}
 use Rattle.cmap_packed.specs.Fronts.{FramedAt, SizedAt}
-use Rattle.cmap_maker.specs.Bundled.{HaveSymbols, IsBundleOf, IsFileWritten, AreWritten, files_seen}
+use Rattle.cmap_maker.specs.Bundled.{AreSlotsOf, AreWritten, HaveSymbols, IsBundleOf, IsFileWritten, files_seen}
+use Rattle.cmap_writer.specs.Encoded.{HaveOneWordEach}
 use Rattle.cmap_writer.specs.Obstacles.{IsPreparedFor}
-use Rattle.cmap_maker.specs.Slots.{AllHavePlaces, AreSlotsFor, AreSlotsOf, AreSlotsWritten, IsBundleOfSlots, IsFileFor, IsNamedBundle, IsSlotFor, IsSlotWritten, is_index, places, source_at}
+use Rattle.cmap_maker.specs.Gathered.{AreTablesFor}
+use Rattle.cmap_maker.specs.Slots.{AllHavePlaces, AreSlotsFor, AreSlotsWritten, IsBundleOfSlots, IsFileFor, IsNamedBundle, IsSlotFor, IsSlotWritten, is_index, places, source_at}
 use Rattle.cmap_writer.specs.Written.{Appends, Writes, WritesAll, IsFramedFile}
 use Rattle.cmap_writer.specs.declared.prepared.Prepared.{Prepared}
 use Rattle.cmap_maker.specs.declared.slots.Slot.{Slot}
@@ -33,9 +35,9 @@ HoldsTables-written tables mid text (first, first_is, delta) (second, second_is,
   (tables.count, [], subst (λ bs. TableAt 1 bs (tables.count, [])) (append-nil second) (count []), refl),
 )
 
-pub bundle_written : (tables : PrefixTables) (slots : List Slot) (text mid bytes : List ℕ) → HoldsTables text tables → Appends [] mid (Writes SizedAt text) → (texts : List (List ℕ)) → Appends mid bytes (WritesAll (FramedAt 6) texts) → AreSlotsWritten tables slots texts → IsBundleOfSlots slots bytes
+pub bundle_written : (tables : PrefixTables) (slots : List Slot) (text mid bytes : List ℕ) → HoldsTables text tables → Appends [] mid (Writes SizedAt text) → (texts : List (List ℕ)) → Appends mid bytes (WritesAll (FramedAt 6) texts) → AreSlotsWritten tables slots texts → AreTablesFor slots tables → HaveOneWordEach tables → IsBundleOfSlots slots bytes
 unfolding IsBundle
-bundle_written tables slots text mid bytes holds (first, first_is, sized) texts (rest, rest_is, all) each = (
+bundle_written tables slots text mid bytes holds (first, first_is, sized) texts (rest, rest_is, all) each spelled alone = (
   tables,
   texts,
   (
@@ -45,6 +47,8 @@ bundle_written tables slots text mid bytes holds (first, first_is, sized) texts 
     (holds, AllOf-written (FramedAt 6) texts rest all),
   ),
   each,
+  spelled,
+  alone,
 )
 
 -- ---- a bundle of files by their indices
@@ -77,7 +81,7 @@ each_written tables (f ∷ files) (slot.Text x ∷ slots) texts each written = a
 each_written tables (f ∷ files) (slot.Absent ∷ slots) texts each written = absurd each
 
 pub bundle_of_files : (files : List File) (slots : List Slot) (bytes : List ℕ) → AreSlotsOf files slots → IsBundleOfSlots slots bytes → IsBundleOf files bytes
-bundle_of_files files slots bytes each (tables, texts, is, written) = record { tables = tables; texts = texts; is = is; each = each_written tables files slots texts each written }
+bundle_of_files files slots bytes each (tables, texts, is, written, spelled, alone) = record { tables = tables; texts = texts; is = is; each = each_written tables files slots texts each written; slots = slots; made = each; spelled = spelled }
 
 -- ---- a bundle of files by their names
 for_source : (tables : PrefixTables) (source : Option Source) (s : Slot) (text : List ℕ) → IsSlotFor source s → IsSlotWritten tables s text → IsFileFor tables source text
@@ -86,28 +90,31 @@ for_source tables None (slot.File p) text is written = absurd is
 for_source tables None (slot.Text t) text is written = absurd is
 for_source tables (Some source) slot.Absent text is written = absurd is
 for_source tables (Some source) (slot.File p) text is written = inl (file_written tables (file_seen source.file.now) p text is written)
-for_source tables (Some source) (slot.Text t) text (unsayable, is) written = inr (unsayable, (t, is, written))
+for_source tables (Some source) (slot.Text t) text (unsayable, is) (written, short) = inr (unsayable, (t, is, written))
 
-slots_length : (tables : PrefixTables) (slots : List Slot) (texts : List (List ℕ)) → AreSlotsWritten tables slots texts → length texts ≡ length slots
+pub slots_length : (tables : PrefixTables) (slots : List Slot) (texts : List (List ℕ)) → AreSlotsWritten tables slots texts → length texts ≡ length slots
 slots_length tables [] [] written = refl
 slots_length tables [] (t ∷ texts) written = absurd written
 slots_length tables (s ∷ slots) [] written = absurd written
 slots_length tables (s ∷ slots) (t ∷ texts) (here, written) = ap suc (slots_length tables slots texts written)
 
-slot_written : (tables : PrefixTables) (slots : List Slot) (texts : List (List ℕ)) (i : ℕ) (d : Slot) (e : List ℕ) → AreSlotsWritten tables slots texts → i < length slots → IsSlotWritten tables (get_or slots i d) (get_or texts i e)
+pub slot_written : (tables : PrefixTables) (slots : List Slot) (texts : List (List ℕ)) (i : ℕ) (d : Slot) (e : List ℕ) → AreSlotsWritten tables slots texts → i < length slots → IsSlotWritten tables (get_or slots i d) (get_or texts i e)
 slot_written tables [] texts i d e written within = absurd (omega arith)
 slot_written tables (s ∷ slots) [] i d e written within = absurd written
 slot_written tables (s ∷ slots) (t ∷ texts) zero d e (here, written) within = here
 slot_written tables (s ∷ slots) (t ∷ texts) (suc i) d e (here, written) within = slot_written tables slots texts i d e written (omega arith)
 
 pub bundle_of_sources : (sources : List Source) (slots : List Slot) (bytes : List ℕ) → AllHavePlaces sources → AreSlotsFor sources slots places → IsBundleOfSlots slots bytes → IsNamedBundle sources bytes
-bundle_of_sources sources slots bytes named (count, each) (tables, texts, is, written) = record {
+bundle_of_sources sources slots bytes named (count, each) (tables, texts, is, written, spelled, alone) = record {
   named = named;
   tables = tables;
   texts = texts;
   is = is;
   all = slots_length tables slots texts written ∙ count;
   each = λ place e within. for_source tables (source_at sources place) (get_or slots place slot.Absent) (get_or texts place e) (each place slot.Absent within) (slot_written tables slots texts place slot.Absent e written (omega (arith, count, within)));
+  slots = slots;
+  made = (count, each);
+  spelled = spelled;
 }
 
 -- ---- files that are written one after another
@@ -126,7 +133,7 @@ no_file_framed rest = FramedAt-written (codes "bcmap" ++ 0 ∷ []) [] no_file_by
 
 slot_framed : (tables : PrefixTables) (s : Slot) (text : List ℕ) → IsSlotWritten tables s text → IsFramedFile text
 slot_framed tables (slot.File p) text written = written.1
-slot_framed tables (slot.Text t) text (size, spaces, is, small, blank, framed) = framed
+slot_framed tables (slot.Text t) text ((size, spaces, is, small, blank, framed), short) = framed
 slot_framed tables slot.Absent text written = subst IsFramedFile (sym written) no_file_framed
 
 pub slots_written_none : (tables : PrefixTables) (old : List ℕ) → SlotsWrittenTo tables [] old old

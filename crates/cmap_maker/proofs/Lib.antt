@@ -1,7 +1,13 @@
 pub mod BundleObstacles
 pub mod BundlesAlike
+pub mod BundlesSure
 pub mod BundlesWritten
 pub mod ChainsFollowed
+pub mod ElementsChanged
+pub mod GroupsJoined
+pub mod HuffmanWords
+pub mod ListsInOrder
+pub mod NumbersCounted
 pub mod NumbersGathered
 pub mod SlotsAlone
 pub mod TablesMade

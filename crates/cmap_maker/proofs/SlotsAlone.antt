@@ -9,7 +9,8 @@ use Rattle.cmap_writer.specs.Arranged.{SegmentSeen, segment_seen}
 use Rattle.cmap_writer.specs.declared.segments.Segment.{Segment}
 use Rattle.cmap_writer.proofs.EntriesAlone.{arranged_alone}
 use Rattle.cmap_maker.specs.Gathered.{counts_in, deltas_in, segments_in, slot_segments}
-use Rattle.cmap_maker.specs.Slots.{AreSlotsFor, AreSlotsOf, IsSlotFor, source_at}
+use Rattle.cmap_maker.specs.Bundled.{AreSlotsOf}
+use Rattle.cmap_maker.specs.Slots.{AreSlotsFor, IsSlotFor, source_at}
 use Rattle.cmap_maker.specs.declared.slots.Slot.{Slot}
 use Rattle.cmap_maker.specs.declared.slots.Slot.TheVariants as slot
 use Rattle.cmap_maker.specs.declared.source.Source.{Source}

@@ -1,6 +1,8 @@
--- The numbers that files are spelled by.
-use Rattle.std.specs.Prelude.{ℕ, List, [], flat_map}
+-- The numbers that files are spelled by, and their tables.
+use Rattle.std.specs.Prelude.{◌≡◌, ℕ, List, [], Some, flat_map}
+use Rattle.cmap_packed.specs.Bundles.{PrefixTables}
 use Rattle.cmap_writer.specs.declared.segments.Segment.{Segment}
+use Rattle.cmap_maker.specs.Tables.{table_for}
 use Rattle.cmap_maker.specs.declared.slots.Slot.{Slot}
 use Rattle.cmap_maker.specs.declared.slots.Slot.TheVariants.{Absent, File, Text}
 
@@ -19,3 +21,8 @@ slot_segments Absent = []
 -- the segments of all files, in order
 abbrev pub segments_in : List Slot → List Segment
 segments_in slots = flat_map slot_segments slots
+
+-- the tables for all numbers of these files
+pub record AreTablesFor (slots : List Slot) (tables : PrefixTables) : Type 0 where
+  pub deltas : table_for (deltas_in (segments_in slots)) ≡ Some tables.delta
+  pub counts : table_for (counts_in (segments_in slots)) ≡ Some tables.count

@@ -1,5 +1,5 @@
 -- The files of a bundle, each at the index of its name.
-use Rattle.std.specs.Prelude.{◌≡◌, ◌==◌, ℕ, ◌<◌, ◌⊎◌, Bool, false, List, [], ◌∷◌, ◌++◌, All, IsSome, Option, Some, None, codes, get_or, length, if◌then◌else◌}
+use Rattle.std.specs.Prelude.{◌≡◌, ◌==◌, ℕ, ◌+◌, ◌<◌, ◌^◌, ◌⊎◌, Bool, false, List, [], ◌∷◌, ◌++◌, All, IsSome, Option, Some, None, codes, get_or, length, if◌then◌else◌}
 use Rattle.std.specs.Borrow.{Bor}
 use Rattle.cmap_tokens.specs.Gaps.{ends_comment}
 use Rattle.cmap_values.specs.CMapNames.{index_of_name}
@@ -8,11 +8,12 @@ use Rattle.cmap_values.specs.FilesSeen.{file_seen}
 use Rattle.cmap_packed.specs.Bundles.{IsBundle, PrefixTables, no_file_bytes}
 use Rattle.cmap_writer.specs.Written.{IsFramedFile}
 use Rattle.cmap_writer.specs.Keeps.{IsWritten}
-use Rattle.cmap_writer.specs.Encoded.{IsEncoded}
+use Rattle.cmap_writer.specs.Encoded.{HaveOneWordEach, IsEncoded}
 use Rattle.cmap_writer.specs.Obstacles.{IsObstacle, IsPreparedFor}
 use Rattle.cmap_writer.specs.PreparedFiles.{IsPrepared}
 use Rattle.cmap_writer.specs.declared.obstacle.Obstacle.{Obstacle}
 use Rattle.cmap_maker.specs.Bundled.{IsFileWritten}
+use Rattle.cmap_maker.specs.Gathered.{AreTablesFor}
 use Rattle.cmap_maker.specs.declared.slots.Slot.{Slot}
 use Rattle.cmap_maker.specs.declared.slots.Slot.TheVariants as slot
 use Rattle.cmap_maker.specs.declared.source.Source.{Source}
@@ -47,15 +48,6 @@ abbrev pub IsFileFor : PrefixTables → Option Source → List ℕ → Type 0
 IsFileFor tables None bytes = bytes ≡ no_file_bytes
 IsFileFor tables (Some source) bytes = IsFileWritten tables (file_seen source.file.now) bytes ⊎ (IsUnsayable (file_seen source.file.now) × ((text : Bor (List ℕ)) × (source.text ≡ Some text) × IsTextBehind text.now bytes))
 
--- each name has a place, and the bytes are a bundle which has for each known name, at its index, the file of the first source of this name
-pub record IsNamedBundle (sources : List Source) (bytes : List ℕ) : Type 0 where
-  pub named : AllHavePlaces sources
-  pub tables : PrefixTables
-  pub texts : List (List ℕ)
-  pub is : IsBundle bytes (record { tables = tables; files = texts })
-  pub all : length texts ≡ places
-  pub each : (place : ℕ) (d : List ℕ) → place < places → IsFileFor tables (source_at sources place) (get_or texts place d)
-
 -- what is to be written for a name
 abbrev pub IsSlotFor : Option Source → Slot → Type 0
 IsSlotFor None slot.Absent = Unit {0}
@@ -66,17 +58,23 @@ IsSlotFor _ _ = ⊥
 abbrev pub AreSlotsFor : List Source → List Slot → ℕ → Type 0
 AreSlotsFor sources slots count = (length slots ≡ count) × ((place : ℕ) (d : Slot) → place < count → IsSlotFor (source_at sources place) (get_or slots place d))
 
--- what is to be written of files
-abbrev pub AreSlotsOf : List File → List Slot → Type 0
-AreSlotsOf [] [] = Unit {0}
-AreSlotsOf (file ∷ files) (slot.File prepared ∷ slots) = IsPreparedFor file prepared × AreSlotsOf files slots
-AreSlotsOf files slots = ⊥
+-- each name has a place, and the bytes are a bundle with the tables for all numbers of the files, which has for each known name, at its index, the file of the first source of this name
+pub record IsNamedBundle (sources : List Source) (bytes : List ℕ) : Type 0 where
+  pub named : AllHavePlaces sources
+  pub tables : PrefixTables
+  pub texts : List (List ℕ)
+  pub is : IsBundle bytes (record { tables = tables; files = texts })
+  pub all : length texts ≡ places
+  pub each : (place : ℕ) (d : List ℕ) → place < places → IsFileFor tables (source_at sources place) (get_or texts place d)
+  pub slots : List Slot
+  pub made : AreSlotsFor sources slots places
+  pub spelled : AreTablesFor slots tables
 
 -- ---- private aid
 -- these bytes are what is to be written
 abbrev pub IsSlotWritten : PrefixTables → Slot → List ℕ → Type 0
 IsSlotWritten tables (slot.File prepared) bytes = IsEncoded tables prepared bytes × IsFramedFile bytes × ((file : File) → IsPrepared file prepared → IsWritten tables file bytes)
-IsSlotWritten tables (slot.Text text) bytes = IsTextBehind text.now bytes
+IsSlotWritten tables (slot.Text text) bytes = IsTextBehind text.now bytes × (11 + length text.now < 2 ^ 32)
 IsSlotWritten tables slot.Absent bytes = bytes ≡ no_file_bytes
 
 abbrev pub AreSlotsWritten : PrefixTables → List Slot → List (List ℕ) → Type 0
@@ -84,6 +82,6 @@ AreSlotsWritten tables [] [] = Unit {0}
 AreSlotsWritten tables (s ∷ slots) (text ∷ texts) = IsSlotWritten tables s text × AreSlotsWritten tables slots texts
 AreSlotsWritten tables slots texts = ⊥
 
--- the bytes are a bundle with what is to be written
+-- the bytes are a bundle with what is to be written, and with the tables for its numbers
 abbrev pub IsBundleOfSlots : List Slot → List ℕ → Type 0
-IsBundleOfSlots slots bytes = (tables : PrefixTables) × (texts : List (List ℕ)) × IsBundle bytes (record { tables = tables; files = texts }) × AreSlotsWritten tables slots texts
+IsBundleOfSlots slots bytes = (tables : PrefixTables) × (texts : List (List ℕ)) × IsBundle bytes (record { tables = tables; files = texts }) × AreSlotsWritten tables slots texts × AreTablesFor slots tables × HaveOneWordEach tables

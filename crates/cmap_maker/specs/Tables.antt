@@ -1,31 +1,36 @@
--- Tables of code words for symbols that were handed in.
-use Rattle.std.specs.Prelude.{◌≡◌, ◌⊎◌, ℕ, ◌<◌, ◌-◌, ◌≤◌, ◌^◌, List, [], ◌∷◌, ◌++◌, length, map}
-use Rattle.std.specs.List.{All, Any, Contains, slice_index_or}
-use Rattle.std.specs.List.Sorted.{IsStrictlyIncreasing}
+-- Tables of code words for numbers.
+use Rattle.std.specs.Prelude.{ℕ, ◌^◌, Bool, ◌==◌, ◌&&◌, ◌||◌, max, nat_le, nat_lt, if◌then◌else◌, List, Option, Some, None, count_by, length, map}
+use Rattle.std.specs.List.{list_all}
 use Rattle.cmap_packed.specs.PrefixWords.{CodeWord}
+use Rattle.cmap_maker.specs.Huffman.{Frequency, frequencies_in, huffman_words}
+use Rattle.cmap_maker.specs.InOrder.{in_order}
 
-abbrev pub symbols_of : List CodeWord → List ℕ
-symbols_of table = map (λ w. w.symbol) table
+-- a code word has at least one bit
+abbrev pub filled : CodeWord → CodeWord
+filled w = record { len = max 1 w.len; symbol = w.symbol }
 
--- two lists have the same numbers, in whatever order and however often
-pub record HasSameNumbers (xs ys : List ℕ) : Type 0 where
-  pub kept : All (Contains ys) xs
-  pub found : All (Contains xs) ys
+-- a code word is shorter than another one, or as long, and its symbol is lower
+abbrev pub is_shorter : CodeWord → CodeWord → Bool
+is_shorter v w = nat_lt v.len w.len || ((v.len == w.len) && nat_lt v.symbol w.symbol)
 
--- there are 2 ^ 16 different numbers or more in a list
-pub record HasManyNumbers (xs : List ℕ) : Type 0 where
-  pub numbers : List ℕ
-  pub different : IsStrictlyIncreasing numbers
-  pub among : All (Contains xs) numbers
-  pub many : 2 ^ 16 ≤ length numbers
+-- the words of Huffman's method, the shortest first
+abbrev pub huffman_table : List Frequency → List CodeWord
+huffman_table frequencies = map filled (in_order is_shorter (huffman_words frequencies))
 
--- a number is one of those before, or it is added to them and is not the last of them
-abbrev pub CountsNumber : List ℕ → ℕ → List ℕ → Type 0
-CountsNumber before number after =
-    ((after ≡ before) × Contains before number)
-    ⊎ ((after ≡ before ++ number ∷ []) × (0 < length before → slice_index_or before (length before - 1) 0 ≡ number → ⊥))
+-- a word of sixteen bits for each number
+abbrev pub flat_table : List Frequency → List CodeWord
+flat_table frequencies = map (λ f. record { len = 16; symbol = f.number }) frequencies
 
--- each of these numbers has a code word, and no other has one
-pub record IsTableFor (numbers : List ℕ) (table : List CodeWord) : Type 0 where
-  pub known : All (λ n. Any (λ w. w.symbol ≡ n) table) numbers
-  pub handed : All (λ w. Contains numbers w.symbol) table
+-- each word has at most 32 bits, and fewer than 2 ^ 16 words have as many
+abbrev pub fits : List CodeWord → Bool
+fits table = list_all (λ w. nat_le w.len 32 && nat_lt (count_by (λ v. v.len == w.len) table) (2 ^ 16)) table
+
+-- the table for numbers that come so often, the rarest first: by Huffman's method, or else words of sixteen bits, which fewer than 2 ^ 16 numbers can have
+abbrev pub table_of : List Frequency → Option (List CodeWord)
+table_of frequencies =
+    if fits (huffman_table frequencies) then Some (huffman_table frequencies) else (
+    if nat_lt (length frequencies) (2 ^ 16) then Some (flat_table frequencies) else None
+    )
+
+abbrev pub table_for : List ℕ → Option (List CodeWord)
+table_for numbers = table_of (frequencies_in numbers)

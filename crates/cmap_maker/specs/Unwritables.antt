@@ -8,10 +8,10 @@ use Rattle.cmap_writer.specs.Obstacles.{HasNoWord, IsLarge, IsLongBy, IsObstacle
 use Rattle.cmap_writer.specs.declared.obstacle.Obstacle.{Obstacle}
 use Rattle.cmap_writer.specs.declared.obstacle.Obstacle.TheVariants.{NoPlace, NoWord, TooLong}
 use Rattle.cmap_writer.specs.declared.segments.Segment.{Segment}
-use Rattle.cmap_maker.specs.Bundled.{HaveSymbols}
-use Rattle.cmap_maker.specs.Gathered.{counts_in, deltas_in, segments_in, slot_segments}
-use Rattle.cmap_maker.specs.Slots.{AllHavePlaces, AreSlotsFor, AreSlotsOf, places, source_at}
-use Rattle.cmap_maker.specs.Tables.{HasManyNumbers, IsTableFor}
+use Rattle.cmap_maker.specs.Bundled.{AreSlotsOf, HaveSymbols}
+use Rattle.cmap_maker.specs.Gathered.{AreTablesFor, deltas_in, segments_in, slot_segments}
+use Rattle.cmap_maker.specs.Slots.{AllHavePlaces, AreSlotsFor, places, source_at}
+use Rattle.cmap_maker.specs.Tables.{table_for}
 use Rattle.cmap_maker.specs.declared.slots.Slot.{Slot}
 use Rattle.cmap_maker.specs.declared.slots.Slot.TheVariants as slot
 use Rattle.cmap_maker.specs.declared.unwritable.Unwritable.{Unwritable}
@@ -44,16 +44,15 @@ IsLongSlot tables (slot.File prepared) = IsLongBy tables prepared
 IsLongSlot tables (slot.Text text) = 2 ^ 32 ≤ 11 + length text.now
 IsLongSlot tables slot.Absent = ⊥
 
--- one of these is too long by tables of their numbers
+-- one of these is too long by the tables for their numbers
 pub record HasLongSlot (slots : List Slot) : Type 0 where
   pub tables : PrefixTables
-  pub deltas : IsTableFor (deltas_in (segments_in slots)) tables.delta
-  pub counts : IsTableFor (counts_in (segments_in slots)) tables.count
+  pub spelled : AreTablesFor slots tables
   pub long : Any (IsLongSlot tables) slots
 
--- these can't stand in one bundle: they have 2 ^ 16 different deltas or more, or one of them is too long
+-- these can't stand in one bundle: there is no table for their deltas, or one of them is too long
 abbrev pub IsWholeObstacle : List Slot → Obstacle → Type 0
-IsWholeObstacle slots NoWord = HasManyNumbers (deltas_in (segments_in slots))
+IsWholeObstacle slots NoWord = table_for (deltas_in (segments_in slots)) ≡ None
 IsWholeObstacle slots TooLong = HasLongSlot slots
 IsWholeObstacle slots other = ⊥
 

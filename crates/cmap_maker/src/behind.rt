@@ -25,6 +25,7 @@ pub(crate) fn push_text(
     out: &mut Vec<u8>,
 ) -> Result<(), Fault<Obstacle>>
     ensures written { IfOk result (λ _. Appends out.old.items out.new.items (IsTextBehind text.now)) }
+    ensures short { IfOk result (λ _. 11 + length text.now < 2 ^ 32) }
     ensures err { IfErr result (IsTooLongIf (2 ^ 32 ≤ 11 + length text.now)) }
 {
     let payload = text_payload(alloc, text)?;

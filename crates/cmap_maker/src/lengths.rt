@@ -1,88 +1,147 @@
-//! How long the code words of symbols are: by Huffman's method, so that all together take the fewest bits.
+//! How long the code words of numbers are: by Huffman's method, so that all together take the fewest bits.
 
-ghost use Rattle.std.specs.Prelude.{◌≡◌, ◌≤◌, ◌+◌, IfOk, length};
+ghost use Rattle.std.specs.Prelude.{◌≡◌, ◌+◌, ◌<◌, ◌≤◌, ◌^◌, [], All, IfOk, length, map, sum_by};
+ghost use Rattle.cmap_maker.specs.Groups.{AreQueues, AreRising, IsJoinedNext, IsSized, TakesRarest, merged};
+ghost use Rattle.cmap_maker.specs.Huffman.{alone, both, join, longer, words_joined};
+ghost use Rattle.cmap_maker.specs.Seen.{frequencies_seen, frequency_seen, group_seen, groups_seen, option_seen, words_seen};
 
+use crate::frequencies::Frequency;
 use std::alloc::{AllocError, Global};
-use std::cmp::Reverse;
-use std::collections::BinaryHeap;
+use std::collections::VecDeque;
 
-/// A node of the tree of code words: how often its symbols come, and its index.
-type Node = Reverse<(u64, usize)>;
-
-/// A tree of code words that is being made. The leaves come first.
-#[derive(Drop)]
-struct Tree {
-    /// The node above each node, and of one that has none yet the node itself.
-    parents: Vec<usize>,
-    /// The nodes that have none above.
-    tops: BinaryHeap<Node>,
+/// A number, and how many bits its code word has.
+#[derive(Clone, Copy)]
+pub(crate) struct WordLength {
+    pub(crate) number: u32,
+    pub(crate) len: usize,
 }
 
-impl Tree {
-    /// The leaves, of symbols that come this many times.
-    fn leaves(alloc: Global, times: &[u64]) -> Result<Tree, AllocError>
-        ensures { IfOk result (λ tree. length tree.parents.items ≡ length times.now) }
+/// Numbers whose code words have one beginning: how often they come in all, and how many bits each word
+/// has after that beginning.
+#[derive(Drop)]
+struct Group {
+    times: u64,
+    words: Vec<WordLength>,
+}
+
+impl Group {
+    /// One number.
+    fn alone(alloc: Global, frequency: Frequency) -> Result<Group, AllocError>
+        ensures { IfOk result (λ group. group_seen group ≡ alone (frequency_seen frequency)) }
     {
-        let mut tree = Tree {
-            parents: Vec::with_capacity(alloc, times.len())?,
-            tops: BinaryHeap::new(alloc),
-        };
-        for i in 0..times.len() {
-            tree.parents.push(i)?;
-            tree.tops.push(Reverse((times[i], i)))?;
-        }
-        Ok(tree)
+        let Frequency { number, times } = frequency;
+        let words = vec![in alloc; WordLength { number, len: 0 }; 1]?;
+        Ok(Group { times, words })
     }
 
-    /// Makes one node above the two that come the fewest times; of equal ones those with the lowest indices.
-    fn join(&mut self) -> Result<(), AllocError>
-        ensures { IfOk result (λ _. length self.new.parents.items ≡ length self.old.parents.items + 1) }
+    /// The numbers of both. Each word begins with one bit more.
+    fn join(mut self, other: Group) -> Result<Group, AllocError>
+        requires few { self.times + other.times < 2 ^ 64 }
+        requires sized { IsSized (group_seen self) }
+        requires other { IsSized (group_seen other) }
+        ensures { IfOk result (λ group. group_seen group ≡ both (group_seen self) (group_seen other)) }
     {
-        let node = self.parents.len();
-        let mut sum: u64 = 0;
-        for _ in 0..2 {
-            if let Some(Reverse((times, below))) = self.tops.pop() {
-                sum = sum.saturating_add(times);
-                if let Some(above) = self.parents.get_mut(below) {
-                    *above = node;
-                }
-            }
+        self.words.extend_from_slice(&other.words)?;
+        lengthen(&mut self.words);
+        Ok(Group {
+            times: self.times + other.times,
+            words: self.words,
+        })
+    }
+}
+
+/// Gives each word one bit more.
+fn lengthen(words: &mut [WordLength])
+    requires { All (λ w. w.len + 1 < 2 ^ 64) words.old }
+    ensures { words_seen words.new ≡ map longer (words_seen words.old) }
+{
+    for i in 0..words.len() {
+        let WordLength { number, len } = words[i];
+        words[i] = WordLength {
+            number,
+            len: len + 1,
+        };
+    }
+}
+
+/// Groups of numbers, each queue in the order of how often they come: those of one number, and those that
+/// were joined.
+#[derive(Drop)]
+struct Groups {
+    alone: VecDeque<Group>,
+    joined: VecDeque<Group>,
+}
+
+impl Groups {
+    /// Each number alone.
+    fn of_each(alloc: Global, frequencies: &[Frequency]) -> Result<Groups, AllocError>
+        ensures alone { IfOk result (λ groups. groups_seen groups.alone.items ≡ map alone (frequencies_seen frequencies.now)) }
+        ensures joined { IfOk result (λ groups. groups.joined.items ≡ []) }
+    {
+        let mut groups = Groups {
+            alone: VecDeque::new(alloc),
+            joined: VecDeque::new(alloc),
+        };
+        for frequency in frequencies {
+            groups.alone.push_back(Group::alone(alloc, *frequency)?)?;
         }
-        self.parents.push(node)?;
-        self.tops.push(Reverse((sum, node)))?;
+        Ok(groups)
+    }
+
+    /// Joins the two groups that come the fewest times.
+    fn join(&mut self) -> Result<(), AllocError>
+        requires queues { AreQueues (groups_seen self.old.alone.items) (groups_seen self.old.joined.items) }
+        requires two { 2 ≤ length (merged (groups_seen self.old.alone.items) (groups_seen self.old.joined.items)) }
+        ensures order { IfOk result (λ _. merged (groups_seen self.new.alone.items) (groups_seen self.new.joined.items) ≡ join (merged (groups_seen self.old.alone.items) (groups_seen self.old.joined.items))) }
+        ensures queues { IfOk result (λ _. AreQueues (groups_seen self.new.alone.items) (groups_seen self.new.joined.items)) }
+    {
+        let Some(first) = self.take_rarest() else {
+            return Ok(());
+        };
+        let Some(second) = self.take_rarest() else {
+            return Ok(());
+        };
+        self.joined.push_back(first.join(second)?)?;
         Ok(())
     }
-}
 
-/// The length of the code word of each symbol, of which each comes this many times. One symbol alone
-/// has a word of one bit.
-pub(crate) fn word_lengths(alloc: Global, times: &[u64]) -> Result<Vec<u8>, AllocError>
-    ensures { IfOk result (λ lens. length lens.items ≡ length times.now) }
-{
-    let parents = parents_of(alloc, times)?;
-    let mut depths = vec![in alloc; 0u8; parents.len()]?;
-    for node in (0..parents.len()).rev() {
-        let above = parents[node];
-        if node < above {
-            if let Some(depth) = depths.get(above).copied() {
-                depths[node] = depth.saturating_add(1);
-            }
+    /// Takes the group that comes the fewest times; of equal ones one that wasn't joined.
+    fn take_rarest(&mut self) -> Option<Group>
+        ensures { TakesRarest (groups_seen self.old.alone.items) (groups_seen self.old.joined.items) (option_seen result) (groups_seen self.new.alone.items) (groups_seen self.new.joined.items) }
+    {
+        if self.is_joined_next() {
+            self.joined.pop_front()
+        } else {
+            self.alone.pop_front()
         }
     }
-    depths.truncate(times.len());
-    if let [only] = depths.as_mut_slice() {
-        *only = 1;
+
+    /// Whether the next group is one that was joined.
+    fn is_joined_next(&self) -> bool
+        ensures { IsJoinedNext (groups_seen self.now.alone.items) (groups_seen self.now.joined.items) result }
+    {
+        match (self.alone.front(), self.joined.front()) {
+            (Some(alone), Some(joined)) => joined.times < alone.times,
+            (alone, _) => alone.is_none(),
+        }
     }
-    Ok(depths)
 }
 
-/// The node above each node, and of the root the root itself.
-fn parents_of(alloc: Global, times: &[u64]) -> Result<Vec<usize>, AllocError>
-    ensures { IfOk result (λ parents. length times.now ≤ length parents.items) }
+/// The lengths of the code words of numbers that come so often, the rarest first.
+pub(crate) fn word_lengths(
+    alloc: Global,
+    frequencies: &[Frequency],
+) -> Result<Vec<WordLength>, AllocError>
+    requires rising { AreRising (map alone (frequencies_seen frequencies.now)) }
+    requires few { sum_by (λ f. f.times) frequencies.now < 2 ^ 64 }
+    ensures { IfOk result (λ words. words_seen words.items ≡ words_joined (map alone (frequencies_seen frequencies.now))) }
 {
-    let mut tree = Tree::leaves(alloc, times)?;
-    for _ in 1..times.len() {
-        tree.join()?;
+    let mut groups = Groups::of_each(alloc, frequencies)?;
+    for _ in 1..frequencies.len() {
+        groups.join()?;
     }
-    Ok(tree.parents)
+    match groups.take_rarest() {
+        Some(group) => Ok(group.words),
+        None => Ok(Vec::new(alloc)),
+    }
 }

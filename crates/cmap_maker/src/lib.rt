@@ -4,6 +4,7 @@
 
 mod behind;
 mod bundle;
+mod frequencies;
 mod lengths;
 mod slots;
 mod source;

@@ -1,14 +1,20 @@
 //! Tables of code words for the numbers that files are spelled by: the more often a number comes,
 //! the shorter its word.
 
-ghost use Rattle.std.specs.Prelude.{◌≡◌, ◌⊎◌, ◌^◌, ◌≤◌, ◌++◌, All, Any, Contains, IfErr, IfOk, length, map};
-ghost use Rattle.std.specs.List.Sorted.{IsNonDecreasing, IsPermutation, IsStrictlyIncreasing};
-ghost use Rattle.cmap_maker.specs.Gathered.{counts_in, deltas_in, segments_in, slot_segments};
-ghost use Rattle.cmap_maker.specs.Tables.{CountsNumber, HasManyNumbers, HasSameNumbers, IsTableFor, symbols_of};
-ghost use Rattle.cmap_maker.specs.TablesHeld.{frequent, lengthy};
+ghost use Rattle.std.specs.Prelude.{◌≡◌, ◌⊎◌, ◌<◌, ◌≤◌, ◌^◌, ◌++◌, IfErr, IfOk, MatchOption, None, Some, false, length, map, sum_by, true};
+ghost use Rattle.cmap_packed.specs.PrefixWords.{lengths_from, lengths_of};
+ghost use Rattle.cmap_writer.specs.Encoded.{HasOneWordEach, HaveOneWordEach};
+ghost use Rattle.cmap_writer.specs.EncodersSeen.{encoders_seen};
+ghost use Rattle.cmap_maker.specs.Gathered.{AreTablesFor, counts_in, deltas_in, segments_in, slot_segments};
+ghost use Rattle.cmap_maker.specs.Counted.{AreDistinct, AreSortedWords};
+ghost use Rattle.cmap_maker.specs.Huffman.{huffman_words, is_rarer};
+ghost use Rattle.cmap_maker.specs.InOrder.{AreInOrder};
+ghost use Rattle.cmap_maker.specs.Seen.{frequencies_seen, words_seen};
+ghost use Rattle.cmap_maker.specs.Tables.{filled, fits, flat_table, huffman_table, is_shorter, table_for};
 ghost use Rattle.cmap_maker.specs.WordsMissing.{IsNoWordIf};
 
-use crate::lengths::word_lengths;
+use crate::frequencies::{Frequency, frequencies_of};
+use crate::lengths::{WordLength, word_lengths};
 use crate::slots::Slot;
 use cmap_values::fault::Fault;
 use cmap_writer::segments::Segment;
@@ -42,25 +48,11 @@ impl Symbols {
     }
 }
 
-/// A symbol, and how often it comes.
-#[derive(Clone, Copy)]
-struct Frequency {
-    symbol: u32,
-    times: u64,
-}
-
-/// A symbol, and how many bits its code word has.
-#[derive(Clone, Copy)]
-struct WordLength {
-    symbol: u32,
-    len: u8,
-}
-
 /// Tables with a code word for each number that these files are spelled by.
 pub(crate) fn tables_for(alloc: Global, slots: &[Slot<'_>]) -> Result<Encoders, Fault<Obstacle>>
-    ensures deltas { IfOk result (λ tables. IsTableFor (deltas_in (segments_in slots.now)) tables.delta) }
-    ensures counts { IfOk result (λ tables. IsTableFor (counts_in (segments_in slots.now)) tables.count) }
-    ensures err { IfErr result (IsNoWordIf (HasManyNumbers (deltas_in (segments_in slots.now)) ⊎ HasManyNumbers (counts_in (segments_in slots.now)))) }
+    ensures made { IfOk result (λ tables. AreTablesFor slots.now (encoders_seen tables)) }
+    ensures alone { IfOk result (λ tables. HaveOneWordEach (encoders_seen tables)) }
+    ensures err { IfErr result (IsNoWordIf ((table_for (deltas_in (segments_in slots.now)) ≡ None) ⊎ (table_for (counts_in (segments_in slots.now)) ≡ None))) }
 {
     let Symbols { deltas, counts } = gather(alloc, slots)?;
     Ok(Encoders {
@@ -94,117 +86,97 @@ fn segments_of<'s>(slot: &'s Slot<'_>) -> &'s [Segment]
     }
 }
 
-/// A table with a code word for each of these symbols, and for no other. They take the fewest bits in all
-/// where no word needs more than 32 of them, and 16 bits each elsewhere.
-fn encoder_for(alloc: Global, mut symbols: Vec<u32>) -> Result<Encoder, Fault<Obstacle>>
-    ensures known { IfOk result (λ encoder. All (λ s. Any (λ w. w.symbol ≡ s) encoder) symbols.items) }
-    ensures handed { IfOk result (λ encoder. All (λ w. Contains symbols.items w.symbol) encoder) }
-    ensures err { IfErr result (IsNoWordIf (HasManyNumbers symbols.items)) }
+/// The table for these numbers.
+fn encoder_for(alloc: Global, numbers: Vec<u32>) -> Result<Encoder, Fault<Obstacle>>
+    ensures made { IfOk result (λ encoder. table_for numbers.items ≡ Some encoder) }
+    ensures alone { IfOk result (λ encoder. HasOneWordEach encoder) }
+    ensures err { IfErr result (IsNoWordIf (table_for numbers.items ≡ None)) }
 {
-    symbols.sort()?;
-    let words = words_of(alloc, &frequencies_of(alloc, &symbols)?)?;
-    encoder_of(alloc, &words)
-}
-
-/// A table with these symbols, whose code words have these lengths; or 16 bits each where no table has
-/// such lengths.
-fn encoder_of(alloc: Global, words: &[WordLength]) -> Result<Encoder, Fault<Obstacle>>
-    ensures symbols { IfOk result (λ encoder. symbols_of encoder ≡ lengthy words.now) }
-    ensures err { IfErr result (IsNoWordIf (2 ^ 16 ≤ length (lengthy words.now))) }
-{
-    let counts = counts_of(alloc, words)?;
-    let symbols = ordered_symbols(alloc, words)?;
-    match Encoder::new(alloc, counts, &symbols)? {
+    let frequencies = frequencies_of(alloc, numbers)?;
+    match huffman_encoder(alloc, &frequencies)? {
         Some(encoder) => Ok(encoder),
-        None => flat_encoder(alloc, &symbols),
+        None => flat_encoder(alloc, &frequencies),
     }
 }
 
-/// The symbols of these words, in order.
-fn ordered_symbols(alloc: Global, words: &[WordLength]) -> Result<Vec<u32>, AllocError>
-    ensures { IfOk result (λ symbols. symbols.items ≡ lengthy words.now) }
+/// The table by Huffman's method. `None` where a word has more than 32 bits, or 2^16 words or more have
+/// as many bits.
+fn huffman_encoder(alloc: Global, frequencies: &[Frequency]) -> Result<Option<Encoder>, AllocError>
+    requires order { AreInOrder is_rarer (frequencies_seen frequencies.now) }
+    requires distinct { AreDistinct (frequencies_seen frequencies.now) }
+    requires few { sum_by (λ f. f.times) frequencies.now < 2 ^ 64 }
+    ensures { IfOk result (λ found. MatchOption found (fits (huffman_table (frequencies_seen frequencies.now)) ≡ false)
+        (λ encoder. (encoder ≡ huffman_table (frequencies_seen frequencies.now)) × (fits (huffman_table (frequencies_seen frequencies.now)) ≡ true) × HasOneWordEach encoder)) }
 {
-    words.iter().map(|word| word.symbol).collect(alloc)
+    let words = sorted_words(alloc, frequencies)?;
+    match counts_of(alloc, &words)? {
+        Some(counts) => Encoder::new(alloc, counts, &numbers_of_words(alloc, &words)?),
+        None => Ok(None),
+    }
 }
 
-/// A table with a code word of 16 bits for each of these symbols.
-fn flat_encoder(alloc: Global, symbols: &[u32]) -> Result<Encoder, Fault<Obstacle>>
-    ensures symbols { IfOk result (λ encoder. symbols_of encoder ≡ symbols.now) }
-    ensures err { IfErr result (IsNoWordIf (2 ^ 16 ≤ length symbols.now)) }
+/// The words of Huffman's method, the shortest first.
+fn sorted_words(alloc: Global, frequencies: &[Frequency]) -> Result<Vec<WordLength>, AllocError>
+    requires order { AreInOrder is_rarer (frequencies_seen frequencies.now) }
+    requires distinct { AreDistinct (frequencies_seen frequencies.now) }
+    requires few { sum_by (λ f. f.times) frequencies.now < 2 ^ 64 }
+    ensures { IfOk result (λ words. AreSortedWords (huffman_words (frequencies_seen frequencies.now)) (words_seen words.items)) }
 {
-    let Ok(count) = u16::try_from(symbols.len()) else {
+    let mut words = word_lengths(alloc, frequencies)?;
+    words.sort_by_key(|word| (word.len, word.number))?;
+    Ok(words)
+}
+
+/// The numbers of these words, in order.
+fn numbers_of_words(alloc: Global, words: &[WordLength]) -> Result<Vec<u32>, AllocError>
+    ensures { IfOk result (λ numbers. numbers.items ≡ map (λ word. word.number) words.now) }
+{
+    words.iter().map(|word| word.number).collect(alloc)
+}
+
+/// How many of these words, the shortest first, have each number of bits from 1 to 32; each word has at
+/// least one. `None` where a word has more, or 2^16 words or more have as many.
+fn counts_of(alloc: Global, words: &[WordLength]) -> Result<Option<Vec<u16>>, AllocError>
+    requires { AreInOrder is_shorter (words_seen words.now) }
+    ensures { IfOk result (λ found. MatchOption found (fits (map filled (words_seen words.now)) ≡ false)
+        (λ counts. (length counts.items ≡ 32) × (lengths_from 1 counts.items ≡ lengths_of (map filled (words_seen words.now))) × (fits (map filled (words_seen words.now)) ≡ true))) }
+{
+    let mut counts = vec![in alloc; 0u16; LONGEST]?;
+    for word in words {
+        let Some(count) = counts.get_mut(word.len.saturating_sub(1)) else {
+            return Ok(None);
+        };
+        let Some(more) = count.checked_add(1) else {
+            return Ok(None);
+        };
+        *count = more;
+    }
+    Ok(Some(counts))
+}
+
+/// A table with a code word of 16 bits for each of these numbers.
+fn flat_encoder(alloc: Global, frequencies: &[Frequency]) -> Result<Encoder, Fault<Obstacle>>
+    ensures made { IfOk result (λ encoder. (encoder ≡ flat_table (frequencies_seen frequencies.now)) × (length frequencies.now < 2 ^ 16)) }
+    ensures err { IfErr result (IsNoWordIf (2 ^ 16 ≤ length frequencies.now)) }
+{
+    let Ok(count) = u16::try_from(frequencies.len()) else {
         return Err(Fault::Refused(Obstacle::NoWord));
     };
     let mut counts = vec![in alloc; 0u16; FLAT]?;
     counts[FLAT - 1] = count;
-    match Encoder::new(alloc, counts, symbols)? {
+    let numbers = numbers_of_frequencies(alloc, frequencies)?;
+    match Encoder::new(alloc, counts, &numbers)? {
         Some(encoder) => Ok(encoder),
         None => Err(Fault::Refused(Obstacle::NoWord)),
     }
 }
 
-/// How often each of these symbols comes, which are in order.
-fn frequencies_of(alloc: Global, symbols: &[u32]) -> Result<Vec<Frequency>, AllocError>
-    requires { IsNonDecreasing symbols.now }
-    ensures rising { IfOk result (λ frequencies. IsStrictlyIncreasing (frequent frequencies.items)) }
-    ensures same { IfOk result (λ frequencies. HasSameNumbers symbols.now (frequent frequencies.items)) }
-{
-    let mut frequencies = Vec::new(alloc);
-    for symbol in symbols {
-        count_symbol(&mut frequencies, *symbol)?;
-    }
-    Ok(frequencies)
-}
-
-/// Counts a symbol: the last of these once more, or a new one after them.
-fn count_symbol(frequencies: &mut Vec<Frequency>, symbol: u32) -> Result<(), AllocError>
-    ensures { IfOk result (λ _. CountsNumber (frequent frequencies.old.items) symbol (frequent frequencies.new.items)) }
-{
-    if let Some(last) = frequencies.last_mut() {
-        if last.symbol == symbol {
-            last.times = last.times.saturating_add(1);
-            return Ok(());
-        }
-    }
-    frequencies.push(Frequency { symbol, times: 1 })?;
-    Ok(())
-}
-
-/// The same symbols in the order of their code words, each with the length of its word.
-fn words_of(alloc: Global, frequencies: &[Frequency]) -> Result<Vec<WordLength>, AllocError>
-    ensures { IfOk result (λ words. IsPermutation (frequent frequencies.now) (lengthy words.items)) }
-{
-    let lens = word_lengths(alloc, &times_of(alloc, frequencies)?)?;
-    let mut words = Vec::with_capacity(alloc, frequencies.len())?;
-    for i in 0..frequencies.len() {
-        words.push(WordLength {
-            symbol: frequencies[i].symbol,
-            len: lens[i],
-        })?;
-    }
-    words.sort_by_key(|word| word.len)?;
-    Ok(words)
-}
-
-/// How often each of these symbols comes.
-fn times_of(alloc: Global, frequencies: &[Frequency]) -> Result<Vec<u64>, AllocError>
-    ensures { IfOk result (λ times. times.items ≡ map (λ frequency. frequency.times) frequencies.now) }
+/// These numbers, in order.
+fn numbers_of_frequencies(alloc: Global, frequencies: &[Frequency]) -> Result<Vec<u32>, AllocError>
+    ensures { IfOk result (λ numbers. numbers.items ≡ map (λ f. f.number) frequencies.now) }
 {
     frequencies
         .iter()
-        .map(|frequency| frequency.times)
+        .map(|frequency| frequency.number)
         .collect(alloc)
-}
-
-/// How many words there are of each length, from 1 to 32.
-fn counts_of(alloc: Global, words: &[WordLength]) -> Result<Vec<u16>, AllocError>
-    ensures { IfOk result (λ counts. length counts.items ≡ 32) }
-{
-    let mut counts = vec![in alloc; 0u16; LONGEST]?;
-    for word in words {
-        if let Some(count) = counts.get_mut(usize::from(word.len).saturating_sub(1)) {
-            *count = count.saturating_add(1);
-        }
-    }
-    Ok(counts)
 }

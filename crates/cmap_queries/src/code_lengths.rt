@@ -1,7 +1,7 @@
 //! The lengths that codes have, and the one that codes of a text are printed with.
 
 use hayro_cmap::runs::Range;
-use hayro_cmap::{CMap, CodeLength, Layer, Layers};
+use hayro_cmap::{CodeLength, Layer, Layers};
 
 /// The lengths that codes have.
 pub const LENGTHS: &[CodeLength] = &[
@@ -13,8 +13,8 @@ pub const LENGTHS: &[CodeLength] = &[
 
 /// Whether a codespace range, or a declaration of CIDs or notdefs, of some layer has codes of this
 /// length.
-pub fn has_codes(map: &CMap, len: CodeLength) -> bool {
-    map.layers()
+pub fn has_codes(layers: &Layers, len: CodeLength) -> bool {
+    layers
         .as_slice()
         .iter()
         .any(|layer| declares_codes(layer, len))

@@ -11,16 +11,44 @@ use cmap_values::fault::Fault;
 use serde_json::Value;
 use std::alloc::{AllocError, Global};
 
-/// The string that shows a text, or how much of the text strings show.
-pub fn encoded(
+/// What a text is encoded as.
+#[derive(Drop)]
+pub struct Encoded {
+    /// The string that shows it, or one with other bytes for what can't be shown.
+    pub string: Option<Vec<u8>>,
+    /// Where no string shows more of it.
+    pub stop: Option<Unencodable>,
+}
+
+/// The string of a text. With `missing`, these bytes stand for each character that can't be shown.
+pub fn string_of(
     alloc: Global,
     encoder: &Encoder,
     text: &str,
-) -> Result<Result<Vec<u8>, Unencodable>, AllocError> {
+    missing: Option<&[u8]>,
+) -> Result<Encoded, AllocError> {
     match encoder.encode(alloc, text) {
-        Ok(string) => Ok(Ok(string)),
-        Err(Fault::Refused(stop)) => Ok(Err(stop)),
+        Ok(string) => Ok(Encoded {
+            string: Some(string),
+            stop: None,
+        }),
+        Err(Fault::Refused(stop)) => Ok(Encoded {
+            string: with_missing(alloc, encoder, text, missing)?,
+            stop: Some(stop),
+        }),
         Err(Fault::Memory) => Err(AllocError),
+    }
+}
+
+fn with_missing(
+    alloc: Global,
+    encoder: &Encoder,
+    text: &str,
+    missing: Option<&[u8]>,
+) -> Result<Option<Vec<u8>>, AllocError> {
+    match missing {
+        Some(missing) => Ok(Some(encoder.encode_lossy(alloc, text, missing)?)),
+        None => Ok(None),
     }
 }
 
@@ -28,11 +56,11 @@ pub fn encoded(
 pub fn push_string_line(
     alloc: Global,
     out: &mut String,
-    string: &Result<Vec<u8>, Unencodable>,
+    encoded: &Encoded,
 ) -> Result<(), AllocError> {
-    match string {
-        Ok(string) => out.push_str(byte_digits(alloc, string)?.as_str())?,
-        Err(_) => out.push('-')?,
+    match &encoded.string {
+        Some(string) => out.push_str(byte_digits(alloc, string)?.as_str())?,
+        None => out.push('-')?,
     }
     out.push('\n')
 }
@@ -42,30 +70,30 @@ pub fn push_string_json(
     alloc: Global,
     out: &mut String,
     text: &str,
-    string: &Result<Vec<u8>, Unencodable>,
+    encoded: &Encoded,
 ) -> Result<(), AllocError>
     ensures line { OnOk result (AddsLine (string_bytes out.old) (string_bytes out.new)) }
 
     // Also where memory runs out.
     ensures printable { AddsOfLine (string_bytes out.old) (string_bytes out.new) }
 {
-    let object = string_object(alloc, text, string)?;
+    let object = string_object(alloc, text, encoded)?;
     json::push_line(alloc, out, &object)
 }
 
 fn string_object(
     alloc: Global,
     text: &str,
-    string: &Result<Vec<u8>, Unencodable>,
+    encoded: &Encoded,
 ) -> Result<Value, AllocError> {
     let mut object = Object::new(alloc);
     object.set_text("text", text);
-    match string {
-        Ok(string) => object.set_string("string", byte_digits(alloc, string)),
-        Err(stop) => {
-            object.set("string", Value::Null);
-            object.set("byte", Value::from(stop.offset));
-        }
+    match &encoded.string {
+        Some(string) => object.set_string("string", byte_digits(alloc, string)),
+        None => object.set("string", Value::Null),
+    }
+    if let Some(stop) = encoded.stop {
+        object.set("byte", Value::from(stop.offset));
     }
     object.finish()
 }

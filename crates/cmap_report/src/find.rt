@@ -8,9 +8,10 @@ use cmap_escape::digits::code_digits;
 use cmap_escape::object::Object;
 use cmap_escape::{escape, json};
 use cmap_queries::arguments::decimal;
-use cmap_queries::code_lengths::{LENGTHS, has_codes, text_code_len};
+use cmap_queries::code_lengths::{LENGTHS, has_codes, last_code, text_code_len};
+use cmap_unicode::Extractor;
 use hayro_cmap::runs::Range;
-use hayro_cmap::{CMap, CodeLength};
+use hayro_cmap::{CodeLength, Layers};
 use serde_json::Value;
 use std::alloc::{AllocError, Global};
 
@@ -55,8 +56,8 @@ struct Codes {
 }
 
 /// Whether there are codes that an argument asks for.
-pub fn is_found(alloc: Global, map: &CMap, wanted: Wanted<'_>) -> Result<bool, AllocError> {
-    Ok(!codes_of(alloc, map, wanted)?.is_empty())
+pub fn is_found(alloc: Global, font: &Extractor<'_>, wanted: Wanted<'_>) -> Result<bool, AllocError> {
+    Ok(!codes_of(alloc, font, wanted)?.is_empty())
 }
 
 /// Adds a line for each range of codes that an argument asks for, or one with `-` if there are none. The
@@ -64,13 +65,13 @@ pub fn is_found(alloc: Global, map: &CMap, wanted: Wanted<'_>) -> Result<bool, A
 pub fn push_codes(
     alloc: Global,
     out: &mut String,
-    map: &CMap,
+    font: &Extractor<'_>,
     argument: &str,
     wanted: Wanted<'_>,
 ) -> Result<(), AllocError> {
     let mut word = String::new(alloc);
     escape::push_text(&mut word, argument)?;
-    push_found(out, word.as_str(), &codes_of(alloc, map, wanted)?)
+    push_found(out, word.as_str(), &codes_of(alloc, font, wanted)?)
 }
 
 /// Adds a line for each range of codes.
@@ -94,7 +95,7 @@ fn push_found_line(out: &mut String, word: &str, codes: Codes) -> Result<(), All
 pub fn push_json(
     alloc: Global,
     out: &mut String,
-    map: &CMap,
+    font: &Extractor<'_>,
     argument: &str,
     wanted: Wanted<'_>,
 ) -> Result<(), AllocError>
@@ -103,26 +104,26 @@ pub fn push_json(
     // Also where memory runs out.
     ensures printable { AddsOfLine (string_bytes out.old) (string_bytes out.new) }
 {
-    let object = codes_object(alloc, map, argument, wanted)?;
+    let object = codes_object(alloc, font, argument, wanted)?;
     json::push_line(alloc, out, &object)
 }
 
 fn codes_object(
     alloc: Global,
-    map: &CMap,
+    font: &Extractor<'_>,
     argument: &str,
     wanted: Wanted<'_>,
 ) -> Result<Value, AllocError> {
     let mut object = Object::new(alloc);
     object.set_text("word", argument);
-    object.set_list("codes", code_lists(alloc, map, wanted));
+    object.set_list("codes", code_lists(alloc, font, wanted));
     object.finish()
 }
 
 /// The codes that are asked for, each range as a list of its two ends.
-fn code_lists(alloc: Global, map: &CMap, wanted: Wanted<'_>) -> Result<Vec<Value>, AllocError> {
+fn code_lists(alloc: Global, font: &Extractor<'_>, wanted: Wanted<'_>) -> Result<Vec<Value>, AllocError> {
     let mut ranges = Vec::new(alloc);
-    for codes in &codes_of(alloc, map, wanted)? {
+    for codes in &codes_of(alloc, font, wanted)? {
         ranges.push(range_list(alloc, *codes)?)?;
     }
     Ok(ranges)
@@ -147,19 +148,24 @@ fn push_end(
 }
 
 /// The codes that are asked for.
-fn codes_of(alloc: Global, map: &CMap, wanted: Wanted<'_>) -> Result<Vec<Codes>, AllocError> {
-    match wanted {
-        Wanted::Cid(cid) => codes_of_cid(alloc, map, cid),
-        Wanted::Text(text) => codes_of_text(alloc, map, text),
+fn codes_of(
+    alloc: Global,
+    font: &Extractor<'_>,
+    wanted: Wanted<'_>,
+) -> Result<Vec<Codes>, AllocError> {
+    match (wanted, font.collection, font.to_unicode) {
+        (Wanted::Cid(cid), _, _) => codes_of_cid(alloc, font.encoding, cid),
+        (Wanted::Text(text), None, Some(map)) => codes_of_text_in(alloc, map, font.encoding, text),
+        (Wanted::Text(text), _, _) => codes_of_text(alloc, font, text),
     }
 }
 
-/// The codes of a CID, for each length that codes of the map have.
-fn codes_of_cid(alloc: Global, map: &CMap, cid: u32) -> Result<Vec<Codes>, AllocError> {
+/// The codes of a CID, for each length that codes of the font have.
+fn codes_of_cid(alloc: Global, encoding: &Layers, cid: u32) -> Result<Vec<Codes>, AllocError> {
     let mut found = Vec::new(alloc);
     for len in LENGTHS {
-        if has_codes(map, *len) {
-            let ranges = map.codes_of_cid(alloc, cid, *len)?;
+        if has_codes(encoding, *len) {
+            let ranges = encoding.codes_of_cid(alloc, cid, *len)?;
             add_ranges(&mut found, &ranges, *len)?;
         }
     }
@@ -168,10 +174,10 @@ fn codes_of_cid(alloc: Global, map: &CMap, cid: u32) -> Result<Vec<Codes>, Alloc
 
 /// Adds the codes of ranges that have this length.
 fn add_ranges(found: &mut Vec<Codes>, ranges: &[Range], len: CodeLength) -> Result<(), AllocError> {
-    let largest = largest_code(len);
+    let last = last_code(len);
     for range in ranges {
-        if range.start <= largest {
-            let (start, end) = (range.start, range.end.min(largest));
+        if range.start <= last {
+            let (start, end) = (range.start, range.end.min(last));
             found.push(Codes {
                 byte_len: len.count(),
                 range: Range { start, end },
@@ -181,24 +187,63 @@ fn add_ranges(found: &mut Vec<Codes>, ranges: &[Range], len: CodeLength) -> Resu
     Ok(())
 }
 
-/// The largest code of a length.
-fn largest_code(len: CodeLength) -> u32 {
-    match len {
-        CodeLength::One => 0xFF,
-        CodeLength::Two => 0xFFFF,
-        CodeLength::Three => 0xFF_FFFF,
-        CodeLength::Four => u32::MAX,
-    }
-}
-
-/// The codes of a text.
-fn codes_of_text(alloc: Global, map: &CMap, text: &str) -> Result<Vec<Codes>, AllocError> {
+/// The codes of a text by a ToUnicode CMap alone, whose declarations have no lengths.
+fn codes_of_text_in(
+    alloc: Global,
+    map: &Layers,
+    encoding: &Layers,
+    text: &str,
+) -> Result<Vec<Codes>, AllocError> {
     let mut found = Vec::new(alloc);
-    for range in &map.layers().codes_of_text(alloc, text)? {
+    for range in &map.codes_of_text(alloc, text)? {
         found.push(Codes {
-            byte_len: text_code_len(map.layers(), *range),
+            byte_len: text_code_len(encoding, *range),
             range: *range,
         })?;
     }
     Ok(found)
+}
+
+/// The codes of a text, for each length that codes of the font have.
+fn codes_of_text(
+    alloc: Global,
+    font: &Extractor<'_>,
+    text: &str,
+) -> Result<Vec<Codes>, AllocError> {
+    let mut found = Vec::new(alloc);
+    for len in LENGTHS {
+        if has_codes(font.encoding, *len) {
+            let ranges = font.codes_of_text(alloc, text, *len)?;
+            add_readable(&mut found, font.encoding, &ranges, *len)?;
+        }
+    }
+    Ok(found)
+}
+
+/// Adds ranges of codes of this length, but for those whose first code lies in a codespace range of another
+/// length alone: a ToUnicode CMap gives texts to codes of any length.
+fn add_readable(
+    found: &mut Vec<Codes>,
+    encoding: &Layers,
+    ranges: &[Range],
+    len: CodeLength,
+) -> Result<(), AllocError> {
+    for range in ranges {
+        if encoding.in_codespace(range.start, len.count())
+            || !is_in_codespace(encoding, range.start)
+        {
+            found.push(Codes {
+                byte_len: len.count(),
+                range: *range,
+            })?;
+        }
+    }
+    Ok(())
+}
+
+/// Whether a code lies in a codespace range, as a code of some length.
+fn is_in_codespace(encoding: &Layers, code: u32) -> bool {
+    LENGTHS
+        .iter()
+        .any(|len| encoding.in_codespace(code, len.count()))
 }

@@ -1,11 +1,11 @@
 //! Strings that show texts, read again.
 
-use crate::examples::{string_of_text, text_of_string};
+use crate::examples::{lossy_string_of_text, string_of_text, text_of_string};
 use crate::maps::{map_over, simple_font};
 use cmap_encode::Unencodable;
 use cmap_unicode::{Extractor, simple_encoding};
 use hayro_cmap::{CMap, Fault};
-use std::alloc::Global;
+use std::alloc::{AllocError, Global};
 
 /// Some codes of the CMap 90ms-RKSJ-H.
 const ENCODING: &[u8] =
@@ -36,6 +36,14 @@ fn refused_at(alloc: Global, font: &Extractor<'_>, text: &str) -> Option<usize> 
     match string_of_text(alloc, font, text) {
         Err(Fault::Refused(Unencodable { offset })) => Some(offset),
         _ => None,
+    }
+}
+
+/// Whether a text is shown by a string as far as strings go, with a question mark where they stop.
+fn is_shown_in_part(alloc: Global, font: &Extractor<'_>, text: &str, bytes: &[u8]) -> bool {
+    match lossy_string_of_text(alloc, font, text, b"?") {
+        Ok(string) => string.as_slice() == bytes,
+        Err(AllocError) => false,
     }
 }
 
@@ -88,4 +96,30 @@ fn texts_of_several_characters_are_tried_in_every_way(rt: HostRuntime) {
     assert!(rt; least_code);
     let stuck = refused_at(alloc, &font, "abb") == Some(2);
     assert!(rt; stuck);
+}
+
+#[test]
+fn a_question_mark_stands_for_each_missing_character(rt: HostRuntime) {
+    let alloc = rt.alloc();
+    let encoding = map_over(alloc, ENCODING, &[]).expect(&rt, "refused");
+    let collection = map_over(alloc, COLLECTION, &[]).expect(&rt, "refused");
+    let font = japanese(&encoding, &collection);
+    let between = is_shown_in_part(alloc, &font, "日😀A😀😀", b"\x93\xFA?\x41??");
+    assert!(rt; between);
+    let nothing_missing = is_shown_in_part(alloc, &font, "日本", b"\x93\xFA\x96\x7B");
+    assert!(rt; nothing_missing);
+    let nothing = is_shown_in_part(alloc, &font, "", b"");
+    assert!(rt; nothing);
+}
+
+#[test]
+fn a_missing_character_ends_the_longest_front(rt: HostRuntime) {
+    let alloc = rt.alloc();
+    let encoding = simple_encoding(alloc).expect(&rt, "out of memory");
+    let to_unicode = map_over(alloc, TO_UNICODE, &[]).expect(&rt, "refused");
+    let font = simple_font(&encoding, &to_unicode);
+    let after_the_longest = is_shown_in_part(alloc, &font, "abbab", b"\x01?\x01");
+    assert!(rt; after_the_longest);
+    let at_the_end = is_shown_in_part(alloc, &font, "bcb", b"\x03?");
+    assert!(rt; at_the_end);
 }

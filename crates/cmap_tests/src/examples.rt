@@ -89,6 +89,16 @@ pub fn string_of_text(
     Encoder::build(alloc, font)?.encode(alloc, text)
 }
 
+/// The string of a font that shows a text, with `missing` for each character at which strings stop.
+pub fn lossy_string_of_text(
+    alloc: Global,
+    font: &Extractor<'_>,
+    text: &str,
+    missing: &[u8],
+) -> Result<Vec<u8>, AllocError> {
+    Encoder::build(alloc, font)?.encode_lossy(alloc, text, missing)
+}
+
 /// Whether two maps give the same CIDs to codes of two bytes.
 pub fn have_same_cids(left: &CMap, right: &CMap) -> bool {
     first_cid_difference(left.layers(), right.layers(), CodeLength::Two).is_none()

@@ -3,3 +3,5 @@ pub mod OneText
 pub mod TextsCounted
 pub mod RowsOfTexts
 pub mod StretchesDeclared
+pub mod TextsFilled
+pub mod RowsWithText

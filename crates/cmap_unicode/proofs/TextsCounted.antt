@@ -25,7 +25,7 @@ some_characters u (v ∷ us) e =
       | inr lone ↦ first_not_empty (lone_unit_char u) (utf16_chars (v ∷ us)) (rw lone at e)
     ]
 
-some_ended : (front : List ℕ) (v : ℕ) → characters (front ++ v ∷ []) ≡ Some [] → ⊥
+pub some_ended : (front : List ℕ) (v : ℕ) → characters (front ++ v ∷ []) ≡ Some [] → ⊥
 some_ended [] v = some_characters v []
 some_ended (u ∷ front) v = some_characters u (front ++ v ∷ [])
 

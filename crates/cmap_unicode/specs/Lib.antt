@@ -6,3 +6,4 @@ pub mod LayersTried
 pub mod CountedTexts
 pub mod TextRows
 pub mod SimpleFonts
+pub mod CodesOfTexts

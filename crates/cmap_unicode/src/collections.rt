@@ -1,10 +1,11 @@
 //! The maps from the CIDs of character collections to Unicode.
 
-ghost use Rattle.std.specs.Prelude.{◌≡◌, IfOk, IfSome};
+ghost use Rattle.std.specs.Prelude.{◌≡◌, IfOk, IfSome, option_map};
 ghost use Rattle.cmap_values.specs.MetadataSeen.{family_seen};
 ghost use Rattle.cmap_values.specs.Names.{ucs2_cmap_of};
-ghost use Rattle.cmap_unicode.specs.Collections.{ucs2_name_of};
+ghost use Rattle.cmap_unicode.specs.Collections.{collection_name_of, family_in, ucs2_name_of};
 
+use cmap_layers::layers::Layers;
 use cmap_values::character_collection::CidFamily;
 use std::alloc::{AllocError, Global};
 
@@ -25,4 +26,30 @@ pub fn ucs2_name(alloc: Global, family: &CidFamily) -> Result<Vec<u8>, AllocErro
     name.extend_from_slice(family.ordering())?;
     name.extend_from_slice(b"-UCS2")?;
     Ok(name)
+}
+
+/// The name of the CMap from the CIDs of an encoding to Unicode, by the character collection that the file
+/// of its first layer with one names; `None` where none names one. ISO 32000-1, 9.10.2.
+///
+/// It fails only if memory runs out.
+pub fn collection_name(alloc: Global, encoding: &Layers) -> Result<Option<Vec<u8>>, AllocError>
+    ensures { IfOk result
+        (λ name. option_map (λ bytes. bytes.items) name ≡ collection_name_of encoding.now) }
+{
+    match family_of(encoding) {
+        Some(family) => Ok(Some(ucs2_name(alloc, family)?)),
+        None => Ok(None),
+    }
+}
+
+/// The family of the character collection of the first layer that has one.
+fn family_of(encoding: &Layers) -> Option<&CidFamily>
+    ensures { option_map (λ family. family_seen family.now) result ≡ family_in encoding.now }
+{
+    for layer in encoding.as_slice() {
+        if let Some(collection) = &layer.metadata().character_collection {
+            return Some(&collection.family);
+        }
+    }
+    None
 }

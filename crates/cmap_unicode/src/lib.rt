@@ -7,9 +7,10 @@ mod collections;
 mod extractor;
 mod rows;
 mod simple_fonts;
+mod text_codes;
 
 pub use cids::{declared_cid, declared_stretch};
-pub use collections::ucs2_name;
+pub use collections::{collection_name, ucs2_name};
 pub use extractor::{Character, Extractor};
-pub use rows::TextRow;
+pub use rows::{TextRow, texts_in_row};
 pub use simple_fonts::simple_encoding;

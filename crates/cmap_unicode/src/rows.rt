@@ -42,7 +42,7 @@ impl Extractor<'_> {
     ) -> Result<TextRow, AllocError>
         ensures { IfOk result (IsTextRow (font_of self.now) (length_of len) first) }
     {
-        let by_code = row_in(alloc, self.to_unicode, first)?;
+        let by_code = texts_in_row(alloc, self.to_unicode, first)?;
         if by_code.text.is_some() {
             return Ok(by_code);
         }
@@ -51,6 +51,30 @@ impl Extractor<'_> {
         by_cid.last = by_cid.last.min(by_code.last);
         Ok(by_cid)
     }
+}
+
+/// The texts that a map gives to codes from `first` on, by the codes' numbers alone. They count on. So
+/// a ToUnicode CMap gives texts to codes, and the map of a character collection to CIDs. A map that is
+/// absent gives none.
+///
+/// It fails only if memory runs out.
+pub fn texts_in_row(alloc: Global, map: Option<&Layers>, first: u32) -> Result<TextRow, AllocError>
+    ensures texts { IfOk result (AreTexts (text_in (option_copied map.entry)) first) }
+    ensures counts { IfOk result (λ row. row.counts_on ≡ true) }
+{
+    let Some(map) = map else {
+        return Ok(TextRow {
+            text: None,
+            counts_on: true,
+            last: u32::MAX,
+        });
+    };
+    let text = map.text(alloc, first, &mut Looks::new())?;
+    Ok(TextRow {
+        text,
+        counts_on: true,
+        last: last_in_row(map, first),
+    })
 }
 
 /// The texts of codes from `first` on that have these CIDs in a collection's map.
@@ -72,7 +96,7 @@ fn row_of_cids(
             last: stretch.last,
         }),
         Cids::Same(cid) => {
-            let text = row_in(alloc, collection, cid)?.text;
+            let text = texts_in_row(alloc, collection, cid)?.text;
             Ok(TextRow {
                 text,
                 counts_on: false,
@@ -80,31 +104,11 @@ fn row_of_cids(
             })
         }
         Cids::CountOn(cid) => {
-            let mut row = row_in(alloc, collection, cid)?;
+            let mut row = texts_in_row(alloc, collection, cid)?;
             row.last = first + (stretch.last - first).min(row.last - cid);
             Ok(row)
         }
     }
-}
-
-/// The texts of codes from `first` on in a map, if there is one.
-fn row_in(alloc: Global, map: Option<&Layers>, first: u32) -> Result<TextRow, AllocError>
-    ensures texts { IfOk result (AreTexts (text_in (option_copied map.entry)) first) }
-    ensures counts { IfOk result (λ row. row.counts_on ≡ true) }
-{
-    let Some(map) = map else {
-        return Ok(TextRow {
-            text: None,
-            counts_on: true,
-            last: u32::MAX,
-        });
-    };
-    let text = map.text(alloc, first, &mut Looks::new())?;
-    Ok(TextRow {
-        text,
-        counts_on: true,
-        last: last_in_row(map, first),
-    })
 }
 
 /// The last code up to which the texts of a map count on from that of `first`.

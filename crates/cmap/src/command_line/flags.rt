@@ -141,13 +141,21 @@ pub(crate) const EFFECTIVE: Flag = Flag {
     help: "What codes have over all layers, in place of what each layer declares",
 };
 
-/// Of `decode` and `text`; `check` has an option of this name too.
+/// Of `find`, `decode`, `text` and `encode`; `check` has an option of this name too.
 pub(crate) const TO_UNICODE: Flag = Flag {
     id: "to-unicode-file",
     short: None,
     long: "to-unicode",
     value: Value::Text("FILE"),
     help: "The font's ToUnicode CMap, which gives codes their texts",
+};
+
+pub(crate) const MISSING: Flag = Flag {
+    id: "missing",
+    short: None,
+    long: "missing",
+    value: Value::Text("HEX"),
+    help: "The code that stands for each character that no string shows",
 };
 
 pub(crate) const FILES_FROM: Flag = Flag {

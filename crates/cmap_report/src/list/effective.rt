@@ -10,7 +10,7 @@ use std::alloc::{AllocError, Global};
 pub fn effective_lines(alloc: Global, map: &CMap) -> Result<Vec<Line>, AllocError> {
     let mut lines = Vec::new(alloc);
     for len in LENGTHS {
-        if has_codes(map, *len) {
+        if has_codes(map.layers(), *len) {
             add_cids(&mut lines, map, *len)?;
         }
     }

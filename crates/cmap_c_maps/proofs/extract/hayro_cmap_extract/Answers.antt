@@ -19,7 +19,7 @@ returns c = record {
   collection = c.put_back-2.ensures ∙ c.take-texts_of_cids.ensures.map;
   characters = of_map _ c.in-Some.found.value c.value.result.now _ _ c.in-Some.ensures.map (c.value.ensures ∙ c.deref.ensures)
       (of_font (λ font. IsExtracted font c.args.string.now c.args.characters.now c.extract-status.new.characters c.args.text.now c.extract-status.new.text c.extract-status.new.extracted c.extract-status.result) _ _ _ _ _
-      (c.layers_lent-texts_layers.ensures ∙ c.take-texts.ensures.map) (c.layers_lent-collection_layers.ensures ∙ c.take-texts_of_cids.ensures.map) c.extract-status.ensures);
+      (c.lent-texts_layers.ensures ∙ c.take-texts.ensures.map) (c.lent-collection_layers.ensures ∙ c.take-texts_of_cids.ensures.map) c.extract-status.ensures);
 }
 
 pub extract-status-requires : goal.extract-status-requires

@@ -1,18 +1,15 @@
-use Rattle.std.proofs.Common.{◌-◌, false, length, refl, sym, ap, ◌∙◌}
-use Rattle.std.specs.Prelude.{option_map}
+use Rattle.std.proofs.Common.{◌-◌, length, refl, ap, ◌∙◌}
 use Rattle.std.proofs.lemmas.List.{take_rest}
-use Rattle.cmap_encode.specs.Codes.{code_bytes}
 use Rattle.cmap_encode.specs.IndexSeen.{found_in}
-use Rattle.cmap_encode.proofs.FrontsShown.{ends_found, ends_missed}
+use Rattle.cmap_encode.proofs.FrontsShown.{ends_looked, ends_unshown}
 use Rattle.cmap_encode.proofs.fronts.ends_by.Goals as goal
 
-pub returns-in-Some : goal.returns-in-Some
-returns-in-Some c = λ font is are.
+pub returns-then-fronts-left : goal.returns-then-fronts-left
+returns-then-fronts-left c = λ font is are.
     let text = c.args.text.now in let index = c.args.index.now in let left = length text - c.args.taken in
-    let found = ap (option_map code_bytes) (sym c.in-Some.is) ∙ c.find.ensures ∙ ap (found_in index) (take_rest text left) in
-    ends_found font index c.args.fronts.now text c.args.taken c.in-Some._code false _ is are c.requires.some c.requires.within c.requires.fronts found refl
+    let found = c.find.ensures ∙ ap (found_in index) (take_rest text left) in
+    rw c.is_some.ensures (ends_looked font index c.args.fronts.now text c.args.taken c.find.result is are c.requires.some c.requires.within c.requires.fronts found c.if-fronts-left.true)
 
-pub returns-in-None : goal.returns-in-None
-returns-in-None c = λ font is are.
-    let text = c.args.text.now in let index = c.args.index.now in let left = length text - c.args.taken in
-    ends_missed font index text c.args.taken is (ap (option_map code_bytes) (sym c.in-None.is) ∙ c.find.ensures ∙ ap (found_in index) (take_rest text left))
+pub returns-else-fronts-left : goal.returns-else-fronts-left
+returns-else-fronts-left c = λ font is are.
+    ends_unshown font c.args.fronts.now c.args.text.now c.args.taken _ are c.requires.some c.requires.within c.requires.fronts refl c.if-fronts-left.false

@@ -5,12 +5,12 @@ use Rattle.cmap_unicode.specs.TextsOfCodes.{Font}
 use Rattle.cmap_encode.specs.Encodings.{HasEncoding}
 use Rattle.cmap_encode.specs.Fronts.{AreShown, IsLongestBelow}
 use Rattle.cmap_encode.specs.IndexSeen.{IsIndexOf}
-use Rattle.cmap_encode.proofs.FrontsShown.{first_shown_front, front_added, longer_below, longest_all, longest_more, nothing_longest, of_front}
+use Rattle.cmap_encode.proofs.FrontsShown.{first_shown_front, front_added, longer_below, longest_all, longest_more, longest_stuck, nothing_longest, of_front}
 use Rattle.cmap_encode.proofs.fronts.longest_shown.Goals as goal
 
 pub loop-count-init : goal.loop-count-init
 loop-count-init c =
-    let items = c.in_ok-push.ensures.items ∙ ap (λ l. l ++ true ∷ []) c.in_ok-shown.ensures.items in
+    let items = c.in_ok-push.ensures.items ∙ ap (λ l. l ++ true ∷ []) c.new-shown.ensures.items in
     record {
       count = ap length items;
       below = omega arith;
@@ -32,3 +32,6 @@ loop-count-preserved c =
 
 pub returns-clause-longest : goal.returns-clause-longest
 returns-clause-longest c = λ font is. longest_all font c.args.text.now c.loop-count.count c.loop-count.longest (omega arith) (c.loop-count.invariant.longest font is)
+
+pub returns-then-count-longest-clause-longest : goal.returns-then-count-longest-clause-longest
+returns-then-count-longest-clause-longest c = λ font is. longest_stuck font c.args.index.now c.args.text.now c.loop-count.count c.loop-count.longest is (omega arith) (c.loop-count.invariant.longest font is) (omega arith)

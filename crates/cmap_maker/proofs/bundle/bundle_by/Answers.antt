@@ -16,7 +16,7 @@ returns-clause-written c =
     let (front, appended_front, is_sized) = subst (λ old. Appends old mid (IsSized text)) c.new-bytes.ensures.items (subst (λ p. Appends c.new-bytes.result.items mid (IsSized p)) c.deref.ensures.value c.in_ok-push_sized.ensures.written) in
     let sized : Appends [] mid (Writes SizedAt text) = (front, appended_front, sized_read text front is_sized) in
     let (texts, appended, each) = c.in_ok-push_slots.ensures.written in
-    bundle_written (encoders_seen c.args.tables.now) c.args.slots.now text mid c.push_slots.new.out.items c.in_ok-text.ensures.written sized texts appended each
+    bundle_written (encoders_seen c.args.tables.now) c.args.slots.now text mid c.push_slots.new.out.items c.in_ok-text.ensures.written sized texts appended each c.requires.spelled c.requires.alone
 
 pub returns-in_err-text-clause-err : goal.returns-in_err-text-clause-err
 returns-in_err-text-clause-err c = never_long _ _ _ _ c.from_residual.ensures.1 c.in_err-text.ensures.err (λ long. long)

@@ -13,4 +13,4 @@ pub returns-clause-err : goal.returns-clause-err
 returns-clause-err c =
     let slots = c.args.slots.now in
     let tables = encoders_seen c.in_ok-tables.tables in
-    IfErr-weaker c.bundle_by.result _ (RefusesWith (λ obstacle. AreSound slots → IsWholeObstacle slots obstacle)) (λ fault h. refused_as fault h (by_tables tables slots c.in_ok-tables.ensures.deltas c.in_ok-tables.ensures.counts)) c.bundle_by.ensures.err
+    IfErr-weaker c.bundle_by.result _ (RefusesWith (λ obstacle. AreSound slots → IsWholeObstacle slots obstacle)) (λ fault h. refused_as fault h (by_tables tables slots c.in_ok-tables.ensures.made)) c.bundle_by.ensures.err

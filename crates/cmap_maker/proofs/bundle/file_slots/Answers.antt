@@ -1,8 +1,7 @@
 use Rattle.std.proofs.Common.{◌+◌, arith, subst, sym, take}
 use Rattle.cmap_values.specs.FilesSeen.{file_seen}
-use Rattle.cmap_maker.specs.Bundled.{files_seen}
+use Rattle.cmap_maker.specs.Bundled.{AreSlotsOf, files_seen}
 use Rattle.cmap_writer.specs.Obstacles.{IsPreparedFor}
-use Rattle.cmap_maker.specs.Slots.{AreSlotsOf}
 use Rattle.cmap_maker.proofs.BundlesWritten.{file_slots_more}
 use Rattle.cmap_values.proofs.Outcomes.{refuses_on}
 use Rattle.cmap_maker.proofs.BundleObstacles.{file_among}

@@ -1,6 +1,5 @@
 use Rattle.std.proofs.Common.{take}
-use Rattle.cmap_maker.specs.Bundled.{files_seen}
-use Rattle.cmap_maker.specs.Slots.{AreSlotsOf}
+use Rattle.cmap_maker.specs.Bundled.{AreSlotsOf, files_seen}
 use Rattle.cmap_maker.proofs.bundle.file_slots.Given as goal
 
 abbrev pub invariant-loop-file : goal.invariant-loop-file

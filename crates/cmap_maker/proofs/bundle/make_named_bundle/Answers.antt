@@ -4,6 +4,7 @@ use Rattle.cmap_maker.specs.Slots.{IsBundleOfSlots, places}
 use Rattle.cmap_maker.specs.Unwritables.{AreSound, IsWholeObstacle}
 use Rattle.cmap_maker.proofs.BundleObstacles.{sound_for}
 use Rattle.cmap_maker.proofs.BundlesAlike.{answers_as_texts}
+use Rattle.cmap_maker.proofs.BundlesSure.{no_unwritable_of}
 use Rattle.cmap_maker.proofs.BundlesWritten.{bundle_of_sources}
 use Rattle.cmap_maker.proofs.bundle.make_named_bundle.Goals as goal
 
@@ -20,3 +21,6 @@ returns-clause-err c =
     let refused = subst (RefusesWith (λ obstacle. AreSound c.deref.result.now → IsWholeObstacle c.deref.result.now obstacle)) c.in-Err-Refused.field-0-is c.in-Err-Refused.ensures.err in
     let holds = subst (λ ss. AreSound ss → IsWholeObstacle ss c.in-Err-Refused.obstacle) c.deref.ensures.value refused in
     (c.in_ok-slots.ensures.all, (slots, made, holds (sound_for c.args.sources.now slots places made)))
+
+pub returns-in-Ok-clause-sure : goal.returns-in-Ok-clause-sure
+returns-in-Ok-clause-sure c = let bytes = c.in-Ok.bytes.items in no_unwritable_of c.args.sources.now c.in_ok-slots.slots.items bytes (returns-in-Ok-clause-written c) c.in_ok-slots.ensures.made (subst (λ ss. IsBundleOfSlots ss bytes) c.deref.ensures.value (rw c.in-Ok.is at c.bundle_of.ensures.written))

@@ -5,7 +5,7 @@ use Rattle.cmap_maker.specs.Slots.{IsSlotWritten}
 use Rattle.cmap_maker.specs.Unwritables.{IsSlotObstacle}
 use Rattle.cmap_writer.specs.Written.{Appends}
 use Rattle.cmap_values.proofs.Outcomes.{refuses_on}
-use Rattle.cmap_writer.proofs.ObstaclesMet.{too_long_of}
+use Rattle.cmap_writer.proofs.ObstaclesMet.{both_ok, too_long_of}
 use Rattle.cmap_maker.proofs.BundleObstacles.{by_prepared}
 use Rattle.cmap_writer.specs.declared.obstacle.Obstacle.TheVariants.{TooLong}
 use Rattle.cmap_maker.proofs.slots.push_slot.Goals as goal
@@ -19,7 +19,9 @@ returns-in_ok-extend_from_slice-in-File-clause-written c =
     (text, c.in_ok-extend_from_slice-in-File.ensures.items ∙ ap (λ bs. old ++ bs) c.deref.ensures.value, subst (λ s. IsSlotWritten tables s text) (sym c.in-File.is) (e.encoded, e.framed, e.written))
 
 pub returns-in-Text-clause-written : goal.returns-in-Text-clause-written
-returns-in-Text-clause-written c = subst (λ s. IfOk c.push_text.result (λ _. Appends c.args.out.now.items c.push_text.new.out.items (IsSlotWritten (encoders_seen c.args.tables.now) s))) (sym c.in-Text.is) c.push_text.ensures.written
+returns-in-Text-clause-written c =
+    subst (λ s. IfOk c.push_text.result (λ _. Appends c.args.out.now.items c.push_text.new.out.items (IsSlotWritten (encoders_seen c.args.tables.now) s))) (sym c.in-Text.is)
+    (both_ok c.push_text.result c.push_text.ensures.written c.push_text.ensures.short (λ done written short. let (bytes, is, behind) = written in (bytes, is, (behind, short))))
 
 pub returns-in_err-text-in-File-clause-err : goal.returns-in_err-text-in-File-clause-err
 returns-in_err-text-in-File-clause-err c = refuses_on _ _ c.from_residual.ensures.1 c.in_err-text-in-File.ensures.err (λ o h. subst (λ s. IsSlotObstacle (encoders_seen c.args.tables.now) s o) (sym c.in-File.is) (by_prepared (encoders_seen c.args.tables.now) c.in-File.prepared o h))

@@ -1,0 +1,2 @@
+mod EncoderSlots
+mod StringsPut

@@ -1,0 +1,63 @@
+//! Encoders of fonts, for C.
+
+ghost use Rattle.std.specs.Prelude.{◌≡◌, None, IfOk, MatchOption};
+ghost use Rattle.cmap_handles.specs.Statuses.{number};
+ghost use Rattle.cmap_handles.specs.declared.status.Status.TheVariants.{Absent};
+ghost use Rattle.cmap_unicode.specs.Characters.{font_of};
+ghost use Rattle.cmap_encode.specs.EncoderSeen.{IsEncoderOf};
+ghost use Rattle.cmap_c_encoder.specs.Encoded.{IsBuilt};
+
+use crate::handle::EncoderHandle;
+use cmap_encode::Encoder;
+use cmap_handles::handle::{MapHandle, lent};
+use cmap_handles::shared::Shared;
+use cmap_handles::status::Status;
+use cmap_unicode::Extractor;
+use std::alloc::{AllocError, Global};
+
+/// Makes the encoder of the font with these maps, of which the last two may be absent. An encoder that the
+/// handle has is freed.
+#[unsafe(no_mangle)]
+pub extern "C" fn hayro_cmap_encoder_build(
+    encoder: &mut EncoderHandle,
+    alloc: Global,
+    encoding: &mut MapHandle,
+    to_unicode: &mut MapHandle,
+    collection: &mut MapHandle,
+) -> u32
+    ensures encoding { encoding.new.slot.map ≡ encoding.old.slot.map }
+    ensures to_unicode { to_unicode.new.slot.map ≡ to_unicode.old.slot.map }
+    ensures collection { collection.new.slot.map ≡ collection.old.slot.map }
+    ensures encoder { MatchOption encoding.old.slot.map
+        ((result ≡ number Absent) × (encoder.new.slot.encoder ≡ None))
+        (λ layers. IsBuilt
+        (record { encoding = layers; to_unicode = to_unicode.old.slot.map; collection = collection.old.slot.map })
+        encoder.new.slot.encoder result) }
+{
+    encoder.clear(alloc);
+    let Some(found) = encoding.take(alloc) else {
+        return Status::Absent.number();
+    };
+    let texts = to_unicode.take(alloc);
+    let texts_of_cids = collection.take(alloc);
+    let texts_layers = lent(&texts);
+    let collection_layers = lent(&texts_of_cids);
+    let font = Extractor {
+        encoding: found.value(),
+        to_unicode: texts_layers,
+        collection: collection_layers,
+    };
+    let built = built(alloc, &font);
+    encoding.put(found);
+    to_unicode.put_back(texts);
+    collection.put_back(texts_of_cids);
+    encoder.keep(built)
+}
+
+/// The encoder of a font, which several handles may have.
+fn built(alloc: Global, font: &Extractor<'_>) -> Result<Box<Shared<Encoder>>, AllocError>
+    ensures { IfOk result (λ built. IsEncoderOf (font_of font.now) built.value) }
+{
+    let encoder = Encoder::build(alloc, font)?;
+    Shared::new(alloc, encoder)
+}

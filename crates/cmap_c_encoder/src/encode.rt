@@ -1,0 +1,121 @@
+//! The strings of texts, for C.
+
+ghost use Rattle.std.specs.Prelude.{◌≡◌, MatchOption};
+ghost use Rattle.std.specs.Str.{IsUtf8, IsValidUpTo};
+ghost use Rattle.cmap_handles.specs.Statuses.{number};
+ghost use Rattle.cmap_handles.specs.declared.status.Status.TheVariants.{Absent};
+ghost use Rattle.cmap_unicode.specs.TextsOfCodes.{Font};
+ghost use Rattle.cmap_values.specs.Outcomes.{Outcome};
+ghost use Rattle.cmap_encode.specs.EncoderSeen.{IsEncoderOf};
+ghost use Rattle.cmap_c_encoder.specs.Encoded.{EndsAs, IsLossyStringOf, IsRefusedAt, IsStringOf, PutsLossyString, PutsString};
+
+use crate::handle::EncoderHandle;
+use cmap_encode::{Encoder, Unencodable};
+use cmap_handles::room::put;
+use cmap_handles::status::Status;
+use cmap_values::fault::Fault;
+use std::alloc::Global;
+
+/// The string that shows a text in UTF-8.
+#[unsafe(no_mangle)]
+pub extern "C" fn hayro_cmap_encode(
+    encoder: &mut EncoderHandle,
+    alloc: Global,
+    text: &[u8],
+    room: &mut [u8],
+    needed: &mut usize,
+    offset: &mut usize,
+) -> u32
+    ensures same { encoder.new.slot.encoder ≡ encoder.old.slot.encoder }
+    ensures string { MatchOption encoder.old.slot.encoder
+        ((result ≡ number Absent) × (room.new ≡ room.old) × (needed.new ≡ needed.old) × (offset.new ≡ offset.old))
+        (λ given. (font : Font) → IsEncoderOf font given → PutsString font text.now
+        room.old room.new needed.old needed.new offset.old offset.new result) }
+{
+    let Some(found) = encoder.take(alloc) else {
+        return Status::Absent.number();
+    };
+    let string = string_of(alloc, found.value(), text);
+    encoder.put(found);
+    put_string(string, room, needed, offset)
+}
+
+/// The same with bytes in the place of each character that no string shows.
+#[unsafe(no_mangle)]
+pub extern "C" fn hayro_cmap_encode_lossy(
+    encoder: &mut EncoderHandle,
+    alloc: Global,
+    text: &[u8],
+    missing: &[u8],
+    room: &mut [u8],
+    needed: &mut usize,
+) -> u32
+    ensures same { encoder.new.slot.encoder ≡ encoder.old.slot.encoder }
+    ensures string { MatchOption encoder.old.slot.encoder
+        ((result ≡ number Absent) × (room.new ≡ room.old) × (needed.new ≡ needed.old))
+        (λ given. (font : Font) → IsEncoderOf font given → PutsLossyString font missing.now text.now
+        room.old room.new needed.old needed.new result) }
+{
+    let Some(found) = encoder.take(alloc) else {
+        return Status::Absent.number();
+    };
+    let string = lossy_string_of(alloc, found.value(), text, missing);
+    encoder.put(found);
+    put_string(string, room, needed, &mut 0)
+}
+
+/// The string that shows a text in UTF-8; refused where there is none.
+fn string_of(alloc: Global, encoder: &Encoder, text: &[u8]) -> Result<Vec<u8>, Fault<Unencodable>>
+    ensures { (font : Font) → IsEncoderOf font encoder.now → Outcome
+        (λ string. IsStringOf font text.now string.items)
+        (λ refused. IsRefusedAt font text.now refused.offset) result }
+{
+    encoder.encode(alloc, utf8(text)?)
+}
+
+/// The same with bytes in the place of each character that no string shows.
+fn lossy_string_of(
+    alloc: Global,
+    encoder: &Encoder,
+    text: &[u8],
+    missing: &[u8],
+) -> Result<Vec<u8>, Fault<Unencodable>>
+    ensures { (font : Font) → IsEncoderOf font encoder.now → Outcome
+        (λ string. IsLossyStringOf font missing.now text.now string.items)
+        (λ _. IsUtf8 text.now → ⊥) result }
+{
+    Ok(encoder.encode_lossy(alloc, utf8(text)?, missing)?)
+}
+
+/// The text, if it is UTF-8; else it is refused where it stops being that.
+fn utf8(text: &[u8]) -> Result<&str, Fault<Unencodable>>
+    ensures { Outcome (λ found. (found.now ≡ text.now) × IsUtf8 text.now)
+        (λ refused. (IsUtf8 text.now → ⊥) × IsValidUpTo text.now refused.offset) result }
+{
+    match str::from_utf8(text) {
+        Ok(text) => Ok(text),
+        Err(fault) => Err(Fault::Refused(Unencodable {
+            offset: fault.valid_up_to(),
+        })),
+    }
+}
+
+/// Writes the string at the head of the room, where it has room, and how many bytes it has; or where the text
+/// is refused.
+fn put_string(
+    string: Result<Vec<u8>, Fault<Unencodable>>,
+    room: &mut [u8],
+    needed: &mut usize,
+    offset: &mut usize,
+) -> u32
+    ensures { EndsAs string room.old room.new needed.old needed.new offset.old offset.new result }
+{
+    match string {
+        Ok(string) => put(&string, room, needed),
+        Err(Fault::Refused(refused)) => {
+            *offset = refused.offset;
+            Status::Refused.number()
+        }
+        Err(Fault::Memory) => Status::NoMemory.number(),
+    }
+}

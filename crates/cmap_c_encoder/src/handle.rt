@@ -1,0 +1,85 @@
+//! Encoders that C holds.
+
+ghost use Rattle.std.specs.Prelude.{◌≡◌, None, Some, MatchResult, is_some, option_map};
+ghost use Rattle.cmap_handles.specs.Statuses.{number};
+ghost use Rattle.cmap_handles.specs.declared.status.Status.TheVariants.{Done, NoMemory};
+
+use crate::slot::EncoderSlot;
+use cmap_encode::Encoder;
+use cmap_handles::loose::Loose;
+use cmap_handles::shared::Shared;
+use cmap_handles::status::Status;
+use std::alloc::{AllocError, Global};
+use std::mem;
+
+/// An encoder that was taken from a handle, if it had one.
+pub(crate) type TakenEncoder = Option<Box<Shared<Encoder>>>;
+
+/// An encoder that C holds, or none. One that is empty is all zero bytes.
+#[repr(C)]
+#[derive(Drop)]
+pub struct EncoderHandle {
+    full: bool,
+    /// The encoder, behind a pointer.
+    pub slot: EncoderSlot,
+    ghost agrees: { full ≡ is_some slot.encoder },
+}
+
+impl EncoderHandle {
+    /// A handle without an encoder.
+    pub(crate) fn empty(alloc: Global) -> EncoderHandle
+        ensures { result.slot.encoder ≡ None }
+    {
+        EncoderHandle {
+            full: false,
+            slot: EncoderSlot::empty(alloc),
+        }
+    }
+
+    /// The encoder, which the handle then no longer has.
+    pub(crate) fn take(&mut self, alloc: Global) -> TakenEncoder
+        ensures encoder { option_map (λ b. b.value) result ≡ self.old.slot.encoder }
+        ensures empty { self.new.slot.encoder ≡ None }
+    {
+        let EncoderHandle { full, slot } = mem::replace(self, EncoderHandle::empty(alloc));
+        if full {
+            Some(slot.into_loose().into_box())
+        } else {
+            None
+        }
+    }
+
+    /// Gives an empty handle an encoder.
+    pub(crate) fn put(&mut self, encoder: Box<Shared<Encoder>>)
+        requires { self.old.slot.encoder ≡ None }
+        ensures { self.new.slot.encoder ≡ Some encoder.value }
+    {
+        *self = EncoderHandle {
+            full: true,
+            slot: EncoderSlot::of_loose(Loose::of(encoder)),
+        };
+    }
+
+    /// Gives an empty handle the encoder that was made, or none where memory ran out.
+    pub(crate) fn keep(&mut self, made: Result<Box<Shared<Encoder>>, AllocError>) -> u32
+        requires { self.old.slot.encoder ≡ None }
+        ensures { MatchResult made
+            (λ encoder. (result ≡ number Done) × (self.new.slot.encoder ≡ Some encoder.value))
+            (λ _. (result ≡ number NoMemory) × (self.new.slot.encoder ≡ None)) }
+    {
+        match made {
+            Ok(encoder) => {
+                self.put(encoder);
+                Status::Done.number()
+            }
+            Err(_) => Status::NoMemory.number(),
+        }
+    }
+
+    /// Frees the encoder, if there is one.
+    pub(crate) fn clear(&mut self, alloc: Global)
+        ensures { self.new.slot.encoder ≡ None }
+    {
+        let _encoder = self.take(alloc);
+    }
+}

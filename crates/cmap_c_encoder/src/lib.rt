@@ -1,0 +1,8 @@
+//! Strings of a font that show texts, for C, and for what calls C: functions of `include/hayro_cmap.h`.
+#![tactic(auto)]
+
+mod build;
+mod encode;
+mod handle;
+mod share;
+mod slot;

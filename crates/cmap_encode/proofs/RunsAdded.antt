@@ -1,0 +1,101 @@
+-- One more run of a front, as what it gives to texts.
+use Rattle.std.proofs.Common.{◌≡◌, ℕ, ◌+◌, ◌-◌, ◌≤◌, ◌⊎◌, false, List, [], ◌∷◌, ◌++◌, length, refl, sym, ap, ◌∙◌, subst, inl, inr, arith, length-append}
+use Rattle.std.specs.Prelude.{Any, if◌then◌else◌, slice_index_or}
+use Rattle.std.specs.Str.{bytes_eq}
+use Rattle.std.proofs.Math.ListN.{get_or-append}
+use Rattle.std.proofs.Math.Seq.{get_or-append_seam}
+use Rattle.std.proofs.lemmas.Bool.{cases_Bool, cases_lt}
+use Rattle.std.proofs.lemmas.List.Quantifiers.{Any-push}
+use Rattle.std.proofs.lemmas.Slice.Eq.{bytes_eq-Decides}
+use Rattle.cmap_tokens.specs.Texts.{Text, more, one}
+use Rattle.cmap_unicode.specs.Characters.{characters_of}
+use Rattle.cmap_unicode.specs.CountedTexts.{counted_on, text_after}
+use Rattle.cmap_encode.specs.Codes.{code_bytes}
+use Rattle.cmap_encode.specs.FirstsSeen.{Gives, code_after}
+use Rattle.cmap_encode.specs.RunsSeen.{AddsTexts, GivesText, IsFurther, runs_of}
+use Rattle.cmap_encode.specs.declared.code.Code.{Code}
+use Rattle.cmap_encode.specs.declared.firsts.CodeRun.{CodeRun}
+use Rattle.cmap_encode.specs.declared.runs_by_front.RunsByFront.{RunsByFront}
+
+-- ---- an element of a list with one more
+pub any_kept : {A : Type 0} (P : A → Type 0) (xs ys : List A) → Any P xs → Any P (xs ++ ys)
+any_kept P xs ys (k, x, within, at, holds) = (k, x, omega (arith, length-append xs ys), get_or-append xs ys x k within ∙ at, holds)
+
+pub any_split : {A : Type 0} (P : A → Type 0) (xs : List A) (y : A) → Any P (xs ++ y ∷ []) → Any P xs ⊎ P y
+any_split P xs y (k, x, within, at, holds) =
+    elim (cases_lt k (length xs)) [
+      | inl before ↦ inl (k, x, before, sym (get_or-append xs (y ∷ []) x k before) ∙ at, holds)
+      | inr last ↦
+          let here : length xs ≡ k = omega (arith, length-append xs (y ∷ [])) in
+          inr (subst P (sym at ∙ subst (λ j. slice_index_or (xs ++ y ∷ []) j x ≡ y) here (get_or-append_seam xs y [] x)) holds)
+    ]
+
+-- ---- the last character counts on
+counted : (front : List ℕ) (last k : ℕ) → counted_on (front ++ last ∷ []) k ≡ front ++ (last + k) ∷ []
+counted [] last k = refl
+counted (c ∷ []) last k = refl
+counted (c ∷ d ∷ front) last k = ap (λ l. c ∷ l) (counted (d ∷ front) last k)
+
+of_text : (its : Text) (k : ℕ) → characters_of (text_after its k) ≡ counted_on (characters_of its) k
+of_text (one c) k = refl
+of_text (more cs) k = refl
+
+pub ends_so : (its : Text) (front : List ℕ) (last k : ℕ) → characters_of its ≡ front ++ last ∷ [] → characters_of (text_after its k) ≡ front ++ (last + k) ∷ []
+ends_so its front last k is = of_text its k ∙ ap (λ cs. counted_on cs k) is ∙ counted front last k
+
+module _ (old new : RunsByFront) (front : List ℕ) (key : ℕ) (its : Text) (code : Code) (run : CodeRun) (is : characters_of its ≡ front ++ key ∷ []) (start : run.range.start ≡ key) (first : run.code ≡ code) (filled : run.range.start ≤ run.range.end)
+    (runs : (other : List ℕ) → runs_of new other ≡ (if bytes_eq other front then runs_of old other ++ run ∷ [] else runs_of old other)) where
+  at_front : (other : List ℕ) → other ≡ front → runs_of new other ≡ runs_of old other ++ run ∷ []
+  at_front other same = runs other ∙ ap (λ b. if b then runs_of old other ++ run ∷ [] else runs_of old other) ((bytes_eq-Decides other front).1 same)
+
+  elsewhere : (other : List ℕ) → bytes_eq other front ≡ false → runs_of new other ≡ runs_of old other
+  elsewhere other apart = runs other ∙ ap (λ b. if b then runs_of old other ++ run ∷ [] else runs_of old other) apart
+
+  by_run : (text bytes : List ℕ) (last : ℕ) → text ≡ front ++ last ∷ [] → Gives last bytes run → IsFurther its code (run.range.end - run.range.start) text bytes
+  by_run text bytes last text_is (from, to, bytes_is) =
+      let sum : key + (last - run.range.start) ≡ last = omega arith in
+      record {
+        count = last - run.range.start;
+        within = omega arith;
+        is_text = text_is ∙ sym (ends_so its front key (last - run.range.start) is ∙ ap (λ n. front ++ n ∷ []) sum);
+        is_code = bytes_is ∙ ap (λ begin. code_bytes (code_after (last - run.range.start) begin)) first;
+      }
+
+  given_by : (text bytes : List ℕ) → GivesText new text bytes → GivesText old text bytes ⊎ IsFurther its code (run.range.end - run.range.start) text bytes
+  given_by text bytes given =
+      elim (cases_Bool (bytes_eq given.front front)) [
+        | inl equal ↦
+            let same : given.front ≡ front = (bytes_eq-Decides given.front front).0 equal in
+            elim (any_split (Gives given.last bytes) (runs_of old given.front) run (subst (Any (Gives given.last bytes)) (at_front given.front same) given.given)) [
+              | inl before ↦ inl (record { front = given.front; last = given.last; is = given.is; given = before })
+              | inr here ↦ inr (by_run text bytes given.last (given.is ∙ ap (λ f. f ++ given.last ∷ []) same) here)
+            ]
+        | inr apart ↦ inl (record { front = given.front; last = given.last; is = given.is; given = subst (Any (Gives given.last bytes)) (elsewhere given.front apart) given.given })
+      ]
+
+  given_still : (text bytes : List ℕ) → GivesText old text bytes → GivesText new text bytes
+  given_still text bytes given = record {
+    front = given.front;
+    last = given.last;
+    is = given.is;
+    given =
+        elim (cases_Bool (bytes_eq given.front front)) [
+          | inl equal ↦ subst (Any (Gives given.last bytes)) (sym (at_front given.front ((bytes_eq-Decides given.front front).0 equal))) (any_kept (Gives given.last bytes) (runs_of old given.front) (run ∷ []) given.given)
+          | inr apart ↦ subst (Any (Gives given.last bytes)) (sym (elsewhere given.front apart)) given.given
+        ];
+  }
+
+  given_further : (text bytes : List ℕ) → IsFurther its code (run.range.end - run.range.start) text bytes → GivesText new text bytes
+  given_further text bytes further =
+      let within = further.within in
+      let count : key + further.count - run.range.start ≡ further.count = omega arith in
+      record {
+        front = front;
+        last = key + further.count;
+        is = further.is_text ∙ ends_so its front key further.count is;
+        given = subst (Any (Gives (key + further.count) bytes)) (sym (at_front front refl)) (Any-push (Gives (key + further.count) bytes) (runs_of old front) run
+            (omega arith, omega arith, further.is_code ∙ sym (ap (λ begin. code_bytes (code_after (key + further.count - run.range.start) begin)) first ∙ ap (λ k. code_bytes (code_after k code)) count)));
+      }
+
+  pub texts_added : AddsTexts old new its code (run.range.end - run.range.start)
+  texts_added text bytes = (given_by text bytes, λ either. elim either [ inl before ↦ given_still text bytes before | inr further ↦ given_further text bytes further ])

@@ -1,0 +1,104 @@
+-- The index of each front: one more, and one more run.
+use Rattle.std.proofs.Common.{◌≡◌, ℕ, zero, suc, ◌+◌, ◌<◌, false, List, [], ◌∷◌, ◌++◌, length, ◌⊎◌, Option, Some, None, refl, sym, ap, ◌∙◌, inl, inr, arith}
+use Rattle.std.specs.Prelude.{if◌then◌else◌, option_and_then, slice_get, slice_set}
+use Rattle.std.specs.Str.{bytes_eq}
+use Rattle.std.specs.Global.{Vec}
+use Rattle.std.proofs.lemmas.Bool.{cases_Bool, false≢true}
+use Rattle.std.proofs.lemmas.Option.{same_Some}
+use Rattle.std.proofs.lemmas.Slice.Eq.{bytes_eq-Decides}
+use Rattle.cmap_encode.specs.RunsSeen.{items_of}
+use Rattle.cmap_encode.specs.declared.firsts.CodeRun.{CodeRun}
+
+-- ---- an element of a list
+kept_before : {A : Type 0} (xs ys : List A) (n : ℕ) → n < length xs → slice_get (xs ++ ys) n ≡ slice_get xs n
+kept_before [] ys n within = absurd (omega arith)
+kept_before (x ∷ xs) ys zero within = refl
+kept_before (x ∷ xs) ys (suc n) within = kept_before xs ys n (omega arith)
+
+pub put_last : {A : Type 0} (xs : List A) (y : A) → slice_get (xs ++ y ∷ []) (length xs) ≡ Some y
+put_last [] y = refl
+put_last (x ∷ xs) y = put_last xs y
+
+set_here : {A : Type 0} (xs : List A) (n : ℕ) (y : A) → n < length xs → slice_get (slice_set xs n y) n ≡ Some y
+set_here [] n y within = absurd (omega arith)
+set_here (x ∷ xs) zero y within = refl
+set_here (x ∷ xs) (suc n) y within = set_here xs n y (omega arith)
+
+set_elsewhere : {A : Type 0} (xs : List A) (n m : ℕ) (y : A) → (m ≡ n → ⊥) → slice_get (slice_set xs n y) m ≡ slice_get xs m
+set_elsewhere [] n m y apart = refl
+set_elsewhere (x ∷ xs) zero zero y apart = absurd (apart refl)
+set_elsewhere (x ∷ xs) zero (suc m) y apart = refl
+set_elsewhere (x ∷ xs) (suc n) zero y apart = refl
+set_elsewhere (x ∷ xs) (suc n) (suc m) y apart = set_elsewhere xs n m y (λ same. apart (ap suc same))
+
+-- ---- numbers of fronts
+module _ (old : List ℕ → Option ℕ) (lists : List (Vec CodeRun)) (within : (front : List ℕ) (number : ℕ) → old front ≡ Some number → number < length lists)
+    (apart : (front other : List ℕ) (number : ℕ) → old front ≡ Some number → old other ≡ Some number → front ≡ other) where
+  abbrev pub runs_at : (List ℕ → Option ℕ) → List (Vec CodeRun) → List ℕ → List CodeRun
+  runs_at numbers all front = items_of (option_and_then (slice_get all) (numbers front))
+
+  module _ (new : List ℕ → Option ℕ) (front : List ℕ) (none : old front ≡ None) (is : (other : List ℕ) → new other ≡ (if bytes_eq other front then Some (length lists) else old other)) where
+    pub one_of : (other : List ℕ) (number : ℕ) → new other ≡ Some number → ((other ≡ front) × (number ≡ length lists)) ⊎ (old other ≡ Some number)
+    one_of other number has =
+        elim (cases_Bool (bytes_eq other front)) [
+          | inl same ↦ inl ((bytes_eq-Decides other front).0 same, same_Some number (length lists) (sym has ∙ is other ∙ ap (λ b. if b then Some (length lists) else old other) same))
+          | inr apart ↦ inr (ap (λ b. if b then Some (length lists) else old other) (sym apart) ∙ sym (is other) ∙ has)
+        ]
+
+    pub more_within : (other : List ℕ) (number : ℕ) → new other ≡ Some number → number < length lists + 1
+    more_within other number has = elim (one_of other number has) [ inl first ↦ let at = first.1 in omega arith | inr before ↦ let lt = within other number before in omega arith ]
+
+    pub more_apart : (one other : List ℕ) (number : ℕ) → new one ≡ Some number → new other ≡ Some number → one ≡ other
+    more_apart one other number has also =
+        elim (one_of one number has) [
+          | inl first ↦
+              elim (one_of other number also) [
+                | inl second ↦ first.0 ∙ sym second.0
+                | inr before ↦ absurd (let lt = within other number before in let at = first.1 in omega arith)
+              ]
+          | inr before ↦
+              elim (one_of other number also) [
+                | inl second ↦ absurd (let lt = within one number before in let at = second.1 in omega arith)
+                | inr too ↦ apart one other number before too
+              ]
+        ]
+
+    old_runs : (found : Option ℕ) (other : List ℕ) (more : List (Vec CodeRun)) → old other ≡ found → items_of (option_and_then (slice_get (lists ++ more)) found) ≡ items_of (option_and_then (slice_get lists) found)
+    old_runs None other more has = refl
+    old_runs (Some number) other more has = ap items_of (kept_before lists more number (within other number has))
+
+    pub same_runs : (runs : Vec CodeRun) → runs.items ≡ [] → (other : List ℕ) → runs_at new (lists ++ runs ∷ []) other ≡ runs_at old lists other
+    same_runs runs empty other =
+        elim (cases_Bool (bytes_eq other front)) [
+          | inl same ↦
+              let at : new other ≡ Some (length lists) = is other ∙ ap (λ b. if b then Some (length lists) else old other) same in
+              let was : old other ≡ None = ap old ((bytes_eq-Decides other front).0 same) ∙ none in
+              ap (λ o. items_of (option_and_then (slice_get (lists ++ runs ∷ [])) o)) at ∙ ap items_of (put_last lists runs) ∙ empty ∙ sym (ap (λ o. items_of (option_and_then (slice_get lists) o)) was)
+          | inr unlike ↦
+              let at : new other ≡ old other = is other ∙ ap (λ b. if b then Some (length lists) else old other) unlike in
+              ap (λ o. items_of (option_and_then (slice_get (lists ++ runs ∷ [])) o)) at ∙ old_runs (old other) other (runs ∷ []) refl
+        ]
+
+  -- one more run of a front
+  pub run_added : (front : List ℕ) (number : ℕ) (runs : Vec CodeRun) (run : CodeRun) (d : Vec CodeRun) → old front ≡ Some number → slice_get lists number ≡ Some d → runs.items ≡ d.items ++ run ∷ []
+      → (other : List ℕ) → runs_at old (slice_set lists number runs) other ≡ (if bytes_eq other front then runs_at old lists other ++ run ∷ [] else runs_at old lists other)
+  run_added front number runs run d is was now other =
+      elim (cases_Bool (bytes_eq other front)) [
+        | inl same ↦
+            let at : old other ≡ Some number = ap old ((bytes_eq-Decides other front).0 same) ∙ is in
+            let before : runs_at old lists other ≡ d.items = ap (λ o. items_of (option_and_then (slice_get lists) o)) at ∙ ap items_of was in
+            ap (λ o. items_of (option_and_then (slice_get (slice_set lists number runs)) o)) at ∙ ap items_of (set_here lists number runs (within front number is)) ∙ now ∙ ap (λ l. l ++ run ∷ []) (sym before)
+            ∙ sym (ap (λ b. if b then runs_at old lists other ++ run ∷ [] else runs_at old lists other) same)
+        | inr unlike ↦ others (old other) refl unlike
+      ]
+    where
+      others : (found : Option ℕ) → old other ≡ found → bytes_eq other front ≡ false → items_of (option_and_then (slice_get (slice_set lists number runs)) (old other)) ≡ (if bytes_eq other front then runs_at old lists other ++ run ∷ [] else runs_at old lists other)
+      others found has unlike =
+          untouched found has ∙ sym (ap (λ b. if b then runs_at old lists other ++ run ∷ [] else runs_at old lists other) unlike)
+        where
+          untouched : (found : Option ℕ) → old other ≡ found → items_of (option_and_then (slice_get (slice_set lists number runs)) (old other)) ≡ runs_at old lists other
+          untouched None has = ap (λ o. items_of (option_and_then (slice_get (slice_set lists number runs)) o)) has ∙ sym (ap (λ o. items_of (option_and_then (slice_get lists) o)) has)
+          untouched (Some m) has =
+              ap (λ o. items_of (option_and_then (slice_get (slice_set lists number runs)) o)) has
+              ∙ ap items_of (set_elsewhere lists number m runs (λ same. false≢true (sym unlike ∙ (bytes_eq-Decides other front).1 (apart other front number (has ∙ ap Some same) is))))
+              ∙ sym (ap (λ o. items_of (option_and_then (slice_get lists) o)) has)

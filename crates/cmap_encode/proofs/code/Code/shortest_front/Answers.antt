@@ -1,0 +1,13 @@
+use Rattle.std.proofs.Common.{subst, ◌∙◌}
+use Rattle.cmap_layers.specs.StringCodes.{IsNextCode}
+use Rattle.cmap_encode.specs.Codes.{code_bytes}
+use Rattle.cmap_encode.proofs.CodesRead.{front_found}
+use Rattle.cmap_encode.proofs.Numbers.{sliced}
+use Rattle.cmap_encode.proofs.code.Code.shortest_front.Goals as goal
+
+pub returns : goal.returns
+returns c =
+    let layers = c.args.encoding.now in
+    let same = sliced c.args.self.number c.args.self.len c.from.result c.to_be_bytes-bytes.result (c.from.ensures ∙ c.count.ensures) c.to_be_bytes-bytes.ensures in
+    let next = subst (λ text. IsNextCode layers text c.in_ok-front.front) same c.in_ok-front.ensures.code.holds in
+    front_found layers (code_bytes c.args.self) c.in_ok-front.front c.then_some.result next c.then_some.ensures

@@ -1,0 +1,54 @@
+-- Private aid: runs of codes by their texts, or by CIDs.
+use Rattle.std.specs.Prelude.{◌≡◌, ◌↔◌, ℕ, ◌<◌, ◌≤◌, ◌⊎◌, List, [], ◌∷◌, ◌++◌, All, Any, Option, Some, None, length, option_and_then, slice_get}
+use Rattle.std.specs.BTreeMap.{get_by}
+use Rattle.std.specs.Cmp.Lexicographic.{slice_cmp}
+use Rattle.std.specs.Global.{Vec}
+use Rattle.std.specs.Ordering.{nat_cmp}
+use Rattle.cmap_tokens.specs.Texts.{Text}
+use Rattle.cmap_unicode.specs.Characters.{characters_of}
+use Rattle.cmap_unicode.specs.CountedTexts.{text_after}
+use Rattle.cmap_encode.specs.Codes.{code_bytes}
+use Rattle.cmap_encode.specs.FirstsSeen.{Gives, IsCodeRun, code_after}
+use Rattle.cmap_encode.specs.declared.code.Code.{Code}
+use Rattle.cmap_encode.specs.declared.firsts.CodeRun.{CodeRun}
+use Rattle.cmap_encode.specs.declared.runs_by_front.RunsByFront.{RunsByFront}
+
+-- the index of the runs of a front
+abbrev pub number_of : RunsByFront → List ℕ → Option ℕ
+number_of all front = get_by (λ k. slice_cmp nat_cmp front k.items) all.numbers
+
+abbrev pub items_of : Option (Vec CodeRun) → List CodeRun
+items_of None = []
+items_of (Some runs) = runs.items
+
+-- the runs of a front
+abbrev pub runs_of : RunsByFront → List ℕ → List CodeRun
+runs_of all front = items_of (option_and_then (slice_get all.lists.items) (number_of all front))
+
+-- fronts have an index of their own each, and no text is longer than is said
+pub record AreRunsByFront (all : RunsByFront) : Type 0 where
+  pub within : (front : List ℕ) (number : ℕ) → number_of all front ≡ Some number → number < length all.lists.items
+  pub apart : (front other : List ℕ) (number : ℕ) → number_of all front ≡ Some number → number_of all other ≡ Some number → front ≡ other
+  pub longest : (front : List ℕ) (number : ℕ) → number_of all front ≡ Some number → length front < all.longest
+  pub runs : All (λ (list : Vec CodeRun). All IsCodeRun list.items) all.lists.items
+
+abbrev pub HasNoRuns : RunsByFront → Type 0
+HasNoRuns all = (front : List ℕ) → runs_of all front ≡ []
+
+-- a run gives the text the code of these bytes
+pub record GivesText (all : RunsByFront) (text bytes : List ℕ) : Type 0 where
+  pub front : List ℕ
+  pub last : ℕ
+  pub is : text ≡ front ++ last ∷ []
+  pub given : Any (Gives last bytes) (runs_of all front)
+
+-- the code so many codes after this one, for the text that counts on by as many
+pub record IsFurther (its : Text) (code : Code) (more : ℕ) (text bytes : List ℕ) : Type 0 where
+  pub count : ℕ
+  pub within : count ≤ more
+  pub is_text : text ≡ characters_of (text_after its count)
+  pub is_code : bytes ≡ code_bytes (code_after count code)
+
+-- the codes from this one on for a text and those that count on from it are added
+abbrev pub AddsTexts : RunsByFront → RunsByFront → Text → Code → ℕ → Type 0
+AddsTexts old new its code more = (text bytes : List ℕ) → GivesText new text bytes ↔ (GivesText old text bytes ⊎ IsFurther its code more text bytes)

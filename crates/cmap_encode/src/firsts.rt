@@ -1,0 +1,147 @@
+//! The first code of each key, where codes in a row are given to keys in a row.
+
+ghost use Rattle.std.specs.Prelude.{◌≡◌, ◌+◌, ◌^◌, ◌<◌, ◌≤◌, All, IfOk, IfSome, option_map};
+ghost use Rattle.std.specs.Option.{option_copied};
+ghost use Rattle.cmap_values.specs.CodeLengths.{length_of};
+ghost use Rattle.cmap_encode.specs.FirstsSeen.{AreFirsts, IsCodeRun, IsKeyStretch, code_at, first_at, rank_of};
+
+use crate::code::Code;
+use cmap_runs::runs::{HasRange, Looks, Range, Table};
+use std::alloc::{AllocError, Global};
+use std::marker::Model;
+
+/// Codes in a row for keys in a row: the first key has the first code, and each key after it the code
+/// after.
+#[derive(Clone, Copy)]
+pub(crate) struct CodeRun {
+    /// The keys.
+    pub(crate) range: Range,
+    /// The code of the first key.
+    pub(crate) code: Code,
+}
+
+impl HasRange for CodeRun {
+    ghost use Rattle.cmap_encode.specs.CodeRuns.{run_span};
+
+    ghost span = { run_span };
+
+    fn range(&self) -> &Range {
+        &self.range
+    }
+}
+
+impl CodeRun {
+    /// From a first key with its code on, keys for up to `more` codes after it, as far as there are keys.
+    pub(crate) fn from_key(key: u32, code: Code, more: u32) -> CodeRun
+        requires { code.number + more < 256 ^ length_of code.len }
+        ensures run { IsCodeRun result }
+        ensures key { result.range.start ≡ key }
+        ensures code { result.code ≡ code }
+        ensures more { (key ≤ result.range.end) × (result.range.end ≤ key + more) }
+    {
+        let end = key.saturating_add(more);
+        CodeRun {
+            range: Range { start: key, end },
+            code,
+        }
+    }
+
+    /// The code of a key.
+    fn code_at(self, key: u32) -> Code
+        requires run { IsCodeRun self }
+        requires start { self.range.start ≤ key }
+        requires end { key ≤ self.range.end }
+        ensures { result ≡ code_at self key }
+    {
+        Code {
+            number: self.code.number + (key - self.range.start),
+            len: self.code.len,
+        }
+    }
+
+    /// Of two runs, the one of the higher rank gives the earlier code to each key that both have. Where
+    /// codes are as long, their numbers differ by the same at each of these keys.
+    fn rank(self) -> u64
+        ensures { result ≡ rank_of self }
+    {
+        let shorter = u64::from(4 - self.code.len.count()) << 33;
+        shorter + (1 << 32) + u64::from(self.range.start) - u64::from(self.code.number)
+    }
+}
+
+/// The first code of each key: the one of the fewest bytes, and of several the one of the least number.
+#[derive(Drop)]
+pub(crate) struct Firsts {
+    table: Table<CodeRun>,
+}
+
+// A clause sees the runs, of which the last one that contains a key gives it the first code.
+impl Model for Firsts {
+    ghost use Rattle.std.specs.Prelude.{List, All};
+    ghost use Rattle.cmap_encode.specs.FirstsSeen.{IsCodeRun};
+    ghost use Rattle.cmap_encode.specs.declared.firsts.CodeRun.{CodeRun};
+
+    ghost Value = { List CodeRun };
+
+    ghost view = { λ firsts. firsts.table };
+
+    ghost invariant = { λ firsts. All IsCodeRun firsts.table };
+}
+
+/// Keys in a row, whose codes count on from key to key, or that have none.
+#[derive(Clone, Copy)]
+pub(crate) struct KeyStretch {
+    /// The code of the first key.
+    pub(crate) code: Option<Code>,
+    /// The last of the keys.
+    pub(crate) last: u32,
+}
+
+impl Firsts {
+    /// The first of the codes that the runs give to each key.
+    pub(crate) fn build(alloc: Global, runs: Vec<CodeRun>) -> Result<Firsts, AllocError>
+        requires { All IsCodeRun runs.items }
+        ensures { IfOk result (AreFirsts runs.items) }
+    {
+        let mut runs = runs;
+        runs.sort_by_key(|run| run.rank())?;
+        let table = Table::build(alloc, runs)?;
+        Ok(Firsts { table })
+    }
+
+    /// The code of a key.
+    pub(crate) fn find(&self, key: u32) -> Option<Code>
+        ensures { result ≡ first_at self.now key }
+    {
+        let run = self.table.find(key, &mut Looks::new())?;
+        Some(run.code_at(key))
+    }
+
+    /// The keys from `first` on, as far as their codes are known to count on, or as none has a code.
+    pub(crate) fn stretch(&self, first: u32) -> KeyStretch
+        ensures { IsKeyStretch self.now first result }
+    {
+        let mut looks = Looks::new();
+        match self.table.stretches(first, &mut looks).next(&mut looks) {
+            Some(stretch) => KeyStretch {
+                code: code_of(stretch.declaration, first),
+                last: stretch.last,
+            },
+            None => KeyStretch {
+                code: None,
+                last: first,
+            },
+        }
+    }
+}
+
+/// The code of a key that the run contains, if there is a run.
+fn code_of(run: Option<&CodeRun>, key: u32) -> Option<Code>
+    requires { IfSome run (λ run. IsCodeRun run.now × (run.now.range.start ≤ key) × (key ≤ run.now.range.end)) }
+    ensures { result ≡ option_map (λ run. code_at run key) (option_copied run.entry) }
+{
+    match run {
+        Some(run) => Some(run.code_at(key)),
+        None => None,
+    }
+}

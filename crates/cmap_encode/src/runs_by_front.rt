@@ -1,0 +1,113 @@
+//! Runs of codes by their texts: the characters before the last one, and the last one as a key.
+
+ghost use Rattle.std.specs.Prelude.{◌≡◌, ◌+◌, ◌<◌, ◌≤◌, ◌^◌, ◌++◌, ◌∷◌, [], ℕ, List, Some, IfOk, OnOk, length, if◌then◌else◌};
+ghost use Rattle.std.specs.Str.{bytes_eq};
+ghost use Rattle.cmap_tokens.specs.TextSeen.{text_seen};
+ghost use Rattle.cmap_unicode.specs.Characters.{characters_of};
+ghost use Rattle.cmap_values.specs.CodeLengths.{length_of};
+ghost use Rattle.cmap_encode.specs.FirstsSeen.{IsCodeRun};
+ghost use Rattle.cmap_encode.specs.RunsSeen.{AddsTexts, AreRunsByFront, HasNoRuns, number_of, runs_of};
+
+use crate::code::Code;
+use crate::firsts::CodeRun;
+use cmap_tokens::utf16::BfString;
+use std::alloc::{AllocError, Global};
+use std::collections::BTreeMap;
+
+/// Runs of codes by fronts: the characters of a text before the last one. The keys of the runs of a front
+/// are the last characters.
+#[derive(Drop)]
+pub(crate) struct RunsByFront {
+    /// The index in `lists` of the runs of each front.
+    pub(crate) numbers: BTreeMap<Vec<char>, usize>,
+    pub(crate) lists: Vec<Vec<CodeRun>>,
+    /// How many characters the longest text has.
+    pub(crate) longest: usize,
+}
+
+impl RunsByFront {
+    /// No runs.
+    pub(crate) fn new(alloc: Global) -> RunsByFront
+        ensures are { AreRunsByFront result }
+        ensures none { HasNoRuns result }
+    {
+        RunsByFront {
+            numbers: BTreeMap::new(alloc),
+            lists: Vec::new(alloc),
+            longest: 0,
+        }
+    }
+
+    /// Adds codes in a row for texts in a row: the first code for this text, and up to `more` codes after
+    /// it for the texts that count on from it. It gives how many of these there were: a last character
+    /// has 32 bits.
+    pub(crate) fn add_texts(
+        &mut self,
+        alloc: Global,
+        text: &BfString,
+        code: Code,
+        more: u32,
+    ) -> Result<u32, AllocError>
+        requires are { AreRunsByFront self.old }
+        requires some { 0 < length (characters_of (text_seen text.now)) }
+        requires fits { code.number + more < 256 ^ length_of code.len }
+        ensures within { IfOk result (λ further. further ≤ more) }
+        ensures are { OnOk result (AreRunsByFront self.new) }
+        ensures texts { IfOk result (AddsTexts self.old self.new (text_seen text.now) code) }
+    {
+        let mut front = characters(alloc, text)?;
+        let Some(last) = front.pop() else {
+            return Ok(0);
+        };
+        let run = CodeRun::from_key(u32::from(last), code, more);
+        self.add(alloc, front, run)?;
+        Ok(run.range.end - run.range.start)
+    }
+
+    /// Adds a run to those of a front.
+    fn add(&mut self, alloc: Global, front: Vec<char>, run: CodeRun) -> Result<(), AllocError>
+        requires are { AreRunsByFront self.old }
+        requires run { IsCodeRun run }
+        ensures are { OnOk result (AreRunsByFront self.new) }
+        ensures runs { OnOk result ((other : List ℕ) → runs_of self.new other
+            ≡ (if bytes_eq other front.items then runs_of self.old other ++ run ∷ []
+            else runs_of self.old other)) }
+    {
+        let number = self.number(alloc, front)?;
+        self.lists[number].push(run)?;
+        Ok(())
+    }
+
+    /// The index of the runs of a front, which it has from then on.
+    fn number(&mut self, alloc: Global, front: Vec<char>) -> Result<usize, AllocError>
+        requires { AreRunsByFront self.old }
+        ensures are { OnOk result (AreRunsByFront self.new) }
+        ensures number { IfOk result (λ number. number_of self.new front.items ≡ Some number) }
+        ensures runs { OnOk result
+            ((other : List ℕ) → runs_of self.new other ≡ runs_of self.old other) }
+    {
+        if let Some(number) = self.numbers.get(front.as_slice()) {
+            return Ok(*number);
+        }
+        let number = self.lists.len();
+        self.longest = self.longest.max(front.len() + 1);
+        self.lists.push(Vec::new(alloc))?;
+        self.numbers.insert(front, number)?;
+        Ok(number)
+    }
+}
+
+/// The characters of a text.
+fn characters(alloc: Global, text: &BfString) -> Result<Vec<char>, AllocError>
+    ensures { IfOk result
+        (λ characters. characters.items ≡ characters_of (text_seen text.now)) }
+{
+    match text {
+        BfString::Char(only) => {
+            let mut characters = Vec::new(alloc);
+            characters.push(*only)?;
+            Ok(characters)
+        }
+        BfString::String(text) => text.chars().collect(alloc),
+    }
+}

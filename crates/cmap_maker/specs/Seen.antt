@@ -1,0 +1,28 @@
+-- Private aid: frequencies, code words and groups as contracts see them.
+use Rattle.std.specs.Prelude.{List, Option, map, option_map}
+use Rattle.cmap_packed.specs.PrefixWords.{CodeWord}
+use Rattle.cmap_maker.specs.Huffman as huffman
+use Rattle.cmap_maker.specs.declared.frequencies.Frequency.{Frequency}
+use Rattle.cmap_maker.specs.declared.lengths.Group.{Group}
+use Rattle.cmap_maker.specs.declared.lengths.WordLength.{WordLength}
+
+abbrev pub frequency_seen : Frequency → huffman.Frequency
+frequency_seen f = record { number = f.number; times = f.times }
+
+abbrev pub frequencies_seen : List Frequency → List huffman.Frequency
+frequencies_seen frequencies = map frequency_seen frequencies
+
+abbrev pub word_seen : WordLength → CodeWord
+word_seen w = record { len = w.len; symbol = w.number }
+
+abbrev pub words_seen : List WordLength → List CodeWord
+words_seen words = map word_seen words
+
+abbrev pub group_seen : Group → huffman.Group
+group_seen g = record { times = g.times; words = words_seen g.words.items }
+
+abbrev pub groups_seen : List Group → List huffman.Group
+groups_seen groups = map group_seen groups
+
+abbrev pub option_seen : Option Group → Option huffman.Group
+option_seen o = option_map group_seen o
