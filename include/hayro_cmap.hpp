@@ -728,6 +728,14 @@ public:
     // Of a simple font, which has no CMap: its codes are bytes (ISO 32000-1, 9.6).
     static Extractor simple(Map to_unicode = {});
 
+    // Takes the map of the character collection that the encoding names, as Adobe-Japan1-UCS2: that of its
+    // file, as Map::open finds it. Without such a file all stays; a refused one is given back.
+    std::optional<Refusal> find_collection(const Files &files);
+    std::optional<Refusal> find_collection(Bundle &bundle, const Files &files = {});
+
+    // The same of the predefined CMap files, as Map::open_predefined reads them.
+    std::optional<Refusal> find_predefined_collection();
+
     // All codes of a string. The text of one is that of the ToUnicode CMap, where it has one for the code;
     // else that of its CID in the map of the collection.
     std::vector<Character> characters(Bytes string) {
@@ -757,6 +765,17 @@ public:
 
 private:
     friend class Encoder;
+
+    // The name of the map from the CIDs of the collection to Unicode (ISO 32000-1, 9.10.2), by the first file
+    // of the encoding that names one.
+    std::optional<std::string> collection_name() {
+        for (const auto &layer : encoding_.layers())
+            if (auto it = layer.metadata(); it.registry && it.ordering)
+                return *it.registry + '-' + *it.ordering + "-UCS2";
+        return std::nullopt;
+    }
+
+    std::optional<Refusal> take_collection(std::optional<Result> opened);
 
     static std::optional<std::string> text_of(const hayro_cmap_character &it,
                                               const std::string &text) {
@@ -867,6 +886,28 @@ struct Salvaged {
 inline Extractor Extractor::simple(Map to_unicode) {
     auto bytes = Map::parse("begincodespacerange <00> <FF> endcodespacerange");
     return Extractor(*std::move(bytes), std::move(to_unicode));
+}
+
+inline std::optional<Refusal> Extractor::take_collection(std::optional<Result> opened) {
+    if (!opened) return std::nullopt;
+    if (!*opened) return opened->refusal();
+    collection_ = **std::move(opened);
+    return std::nullopt;
+}
+
+inline std::optional<Refusal> Extractor::find_collection(Bundle &bundle, const Files &files) {
+    auto name = collection_name();
+    return name ? take_collection(Map::open(*name, bundle, files)) : std::nullopt;
+}
+
+inline std::optional<Refusal> Extractor::find_collection(const Files &files) {
+    Bundle none;
+    return find_collection(none, files);
+}
+
+inline std::optional<Refusal> Extractor::find_predefined_collection() {
+    auto name = collection_name();
+    return name ? take_collection(Map::open_predefined(*name)) : std::nullopt;
 }
 
 inline Result Map::parse(Bytes data, Bundle &bundle, const Files &files, std::uint64_t budget) {

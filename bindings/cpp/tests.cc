@@ -221,6 +221,23 @@ static void strings_have_texts() {
     CHECK(found.size() == 102 && found[99].text == "b" && found[100].text == text && found[101].text == "b");
 }
 
+static void collections_are_found() {
+    auto encoding = "/Base usecmap begincodespacerange <00> <FF> endcodespacerange begincidchar <41> 7 endcidchar"s;
+    auto font_of = [&](const std::string &registry) {
+        auto base = "/CIDSystemInfo << /Registry (" + registry + ") /Ordering (One) /Supplement 0 >> def";
+        auto map = hayro::Map::parse(encoding, {{"Base", base}});
+        return hayro::Extractor(*std::move(map), {}, map_of("beginbfchar <0007> <0061> endbfchar"));
+    };
+    std::map<std::string, std::string> files = {{"Some-One-UCS2", "beginbfchar <0007> <0062> endbfchar"},
+                                                {"Broken-One-UCS2", "beginbfchar <0007> x endbfchar"}};
+    auto some = font_of("Some"), broken = font_of("Broken"), other = font_of("Other");
+    CHECK(!some.find_collection(files) && some.text("A") == "b");
+    CHECK(!other.find_collection(files) && other.text("A") == "a");
+    auto refused = broken.find_collection(files);
+    CHECK(refused && refused->reason() == hayro::Reason::text_expected && broken.text("A") == "a");
+    CHECK(!hayro::Extractor::simple().find_collection(files) && !other.find_predefined_collection());
+}
+
 static void texts_have_strings() {
     hayro::Extractor font(map_of("begincodespacerange <00> <7F> endcodespacerange begincidchar <44> 8 endcidchar"s),
                           map_of("beginbfchar <41> <0066> <42> <00660069> endbfchar"s),
@@ -383,6 +400,10 @@ static void predefined_files_are_found() {
     CHECK(!hayro::predefined_file("below") && !hayro::predefined_file("") && !hayro::predefined_file(".."));
     setenv("CMAP_PATH", (folder / "below").c_str(), 1);
     CHECK(hayro::predefined_file("Top") && !hayro::predefined_file("../Outside"));
+    std::ofstream(folder / "below" / "Some-One-UCS2") << "beginbfchar <0007> <0062> endbfchar";
+    hayro::Extractor font(map_of("/CIDSystemInfo << /Registry (Some) /Ordering (One) /Supplement 0 >> def "
+                                 "begincidchar <41> 7 endcidchar"));
+    CHECK(!font.find_predefined_collection() && font.text("A") == "b");
     setenv("CMAP_PATH", "", 1);
     CHECK(!hayro::predefined_file("Top"));
     setenv("CMAP_PATH", "/proc/self", 1);
@@ -502,6 +523,7 @@ int main() {
     files_are_read_past_their_faults();
     strings_are_cut();
     strings_have_texts();
+    collections_are_found();
     texts_have_strings();
     bytes_have_their_lengths();
     layers_are_a_view();

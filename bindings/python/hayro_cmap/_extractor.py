@@ -2,14 +2,12 @@
 
 import functools
 import itertools
-from ctypes import byref, c_size_t
 from typing import Any, Callable, Dict, Iterable, Iterator, List, NamedTuple, Optional, Tuple
 
 from ._bundle import Bundle
 from ._candidates import candidates
 from ._library import NO_ROOM, Handle
 from ._map import CODE, CMap, Code, code_of_fields
-from ._owned import Owned, checked, library
 from ._reading import Files
 from ._room import Room
 from ._values import Buffer, bytes_of
@@ -36,7 +34,7 @@ class Character(NamedTuple):
     text: Optional[str]
 
 
-class Extractor(Owned):
+class Extractor:
     """The maps of a font, by which the texts of its strings are found (ISO 32000-1, 9.10.2).
 
     `encoding` is the font's CMap, `to_unicode` its ToUnicode CMap, and `collection` a map from the CIDs of its character
@@ -45,11 +43,8 @@ class Extractor(Owned):
     CMap, and codes of one byte: of it `encoding` is None.
 
     The maps are shared, so that they may be closed or used elsewhere; they are freed by `close`, by `with`, or with the
-    last reference. Several threads may use one extractor, one at a time. `share` gives a thread one of its own.
+    last reference. Several threads may use one extractor at the same time.
     """
-
-    _what = "the extractor"
-    _kind = tuple
 
     def __init__(
         self,
@@ -65,20 +60,8 @@ class Extractor(Owned):
             collection = encoding.collection(files, bundle)
         maps = (encoding, to_unicode, collection)
         self._maps = [CMap(Handle()) if cmap is None else cmap.share() for cmap in maps]
-        super().__init__(tuple(cmap._handle for cmap in self._maps))
-        # no types are checked at each call: the arguments have them
-        self._extract = functools.partial(library["hayro_cmap_extract"], *map(byref, self._handle))
+        self._rooms: List[Room] = []
         self._known: Dict[bytes, Character] = {}
-
-    @staticmethod
-    def _free(handles):
-        for handle in handles:
-            library.hayro_cmap_free(handle)
-
-    def share(self) -> "Extractor":
-        """Another extractor with the same maps, for another thread at the same time. Nothing is copied."""
-        with self._held():
-            return type(self)(*self._maps)
 
     def characters(self, string: Buffer) -> List[Character]:
         """The codes of a string, one after another, each with its CID and its text.
@@ -95,25 +78,21 @@ class Extractor(Owned):
     def _parts(self, string: Buffer, taken_from: Callable[..., Any], *options: Any) -> List[Any]:
         """What is taken from a room of characters, each time that it is full, until all of the string has been there."""
         string, parts, status = bytes_of(string), [], NO_ROOM
-        # as by `_held`, which takes longer than to extract a short string
-        with self._lock:
-            self._free_handle()
-            self._is_held = True
-            try:
-                room = self._room if len(string) <= KEPT_ROOM else Room(len(string))
-                while status == NO_ROOM:
-                    status = checked(self._extract(string, c_size_t(len(string)), *room.arguments))
-                    parts.append(taken_from(room, *options))
-                    if status == NO_ROOM:
-                        string, room = string[room.taken :], room.larger()
-            finally:
-                self._is_held = False
+        # a call has its room for itself, also where threads call at the same time; that of a long string isn't kept
+        rooms = self._rooms if len(string) <= KEPT_ROOM else []
+        try:
+            room = rooms.pop()
+        except IndexError:
+            room = Room(self._maps, max(len(string), KEPT_ROOM))
+        try:
+            while status == NO_ROOM:
+                status = room.fill(string)
+                parts.append(taken_from(room, *options))
+                if status == NO_ROOM:
+                    string, room = string[room.taken :], room.larger()
+        finally:
+            rooms.append(room)
         return parts
-
-    @functools.cached_property
-    def _room(self):
-        """The room that is kept from call to call."""
-        return Room(KEPT_ROOM)
 
     def _characters_in(self, room):
         """The characters in a room. Those that were found before are kept, by their codes as the library writes them."""
@@ -132,7 +111,12 @@ class Extractor(Owned):
         They come in the order of their lengths, then of their bytes, and are looked for one after another: of a font
         with 2^32 codes `itertools.islice` takes some.
         """
-        return items_of(self.share())
+        codes = candidates(*self._maps)
+        for chunk in iter(lambda: list(itertools.islice(codes, CHUNK)), []):
+            for code, found in zip(chunk, self.characters_of(chunk)):
+                # the bytes may begin with a shorter code
+                if len(found) == 1 and found[0].code.in_codespace and found[0].text is not None:
+                    yield code, found[0].text
 
     def characters_of(self, strings: Iterable[Buffer]) -> List[List[Character]]:
         """What `characters` gives for each of many strings, which takes less time than to ask for each."""
@@ -148,20 +132,21 @@ class Extractor(Owned):
     @functools.cached_property
     def _code_length(self):
         """How many bytes each code has, or None where codes have several lengths."""
-        with self._held():
-            lengths = {it.byte_len for layer in self._maps[0].layers for it in layer.codespaces} or {1}
+        lengths = {it.byte_len for layer in self._maps[0].layers for it in layer.codespaces} or {1}
         return lengths.pop() if len(lengths) == 1 else None
 
+    def close(self):
+        """Frees the maps, unless others share them. Each later use is a ValueError, but for a second `close`."""
+        for cmap in self._maps:
+            cmap.close()
+        # no room is made any more, and those in use are freed when their calls end
+        self._rooms = []
 
-def items_of(font: Extractor) -> Iterator[Tuple[bytes, str]]:
-    """The codes of a font with their texts, which frees the font at last."""
-    with font:
-        codes = candidates(*font._maps)
-        for chunk in iter(lambda: list(itertools.islice(codes, CHUNK)), []):
-            for code, found in zip(chunk, font.characters_of(chunk)):
-                # the bytes may begin with a shorter code
-                if len(found) == 1 and found[0].code.in_codespace and found[0].text is not None:
-                    yield code, found[0].text
+    def __enter__(self):
+        return self
+
+    def __exit__(self, *_):
+        self.close()
 
 
 def character_of(code: bytes, has_text: int, text: bytes) -> Character:

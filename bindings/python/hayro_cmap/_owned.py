@@ -3,7 +3,6 @@
 import contextlib
 import ctypes
 import threading
-from typing import Any
 
 from ._library import NO_MEMORY, NO_ROOM, OK, Handle, load
 
@@ -27,16 +26,15 @@ def put(call, *arguments, room_len=64):
 
 
 class Owned:
-    """A handle of the library, or several, which one call at a time uses, and which are freed once."""
+    """A handle of the library, which one call at a time uses, and which is freed once."""
 
     _what = "the handle"
     _made_by = ""
-    _kind: type = Handle
     _free = None
     _share = None
 
-    def __init__(self, handle: Any):
-        if not isinstance(handle, self._kind):
+    def __init__(self, handle: Handle):
+        if not isinstance(handle, Handle):
             raise TypeError(f"{self._what} is made by {self._made_by}")
         self._handle = handle
         # A handler of signals runs in the thread that it interrupts, which would wait for itself at a plain lock.

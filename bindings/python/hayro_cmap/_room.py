@@ -1,10 +1,12 @@
 """Where the library puts the characters of a string."""
 
 import struct
-from ctypes import byref, c_char, c_size_t
-from typing import Iterator, Optional, Tuple
+from ctypes import byref, c_char, c_char_p, c_size_t
+from typing import Iterator, List, Optional, Tuple
 
 from ._library import CharacterInString, Extracted
+from ._map import CMap
+from ._owned import checked, library
 
 #: A hayro_cmap_character: its code, whether it has a text, where that begins and how many bytes it has.
 CHARACTER = struct.Struct("@12sINN")
@@ -12,24 +14,35 @@ CHARACTER = struct.Struct("@12sINN")
 #: The offsets of the lowest byte of its `has_text`, and of its `text_start` in words of 8 bytes.
 HAS_TEXT, TEXT_START = 12, 2
 
+#: Without types of its parameters: they would be checked at each call, and a room makes its arguments once.
+extract = library["hayro_cmap_extract"]
+
 
 class Room:
-    """Room for characters, and for their texts, as many bytes as `text_len`."""
+    """Room for the characters of strings of at most `most` bytes, and for their texts. It has handles of its own, so
+    that a call that has the room waits for no other."""
 
-    def __init__(self, most: int, text_len: Optional[int] = None):
+    def __init__(self, maps: List[CMap], most: int, text_len: Optional[int] = None):
         self._most, self._text_len = most, 4 * most if text_len is None else text_len
+        self._maps = [cmap.share() for cmap in maps]
+        self._string, self._string_len, self._extracted = c_char_p(), c_size_t(), Extracted()
         self._characters, self.texts = bytearray(most * CHARACTER.size), bytearray(self._text_len)
-        self._extracted = Extracted()
-        #: The last arguments of hayro_cmap_extract.
-        self.arguments = [
+        self._arguments = [
+            *(byref(cmap._handle) for cmap in self._maps),
+            *(self._string, self._string_len),
             *(byref((CharacterInString * most).from_buffer(self._characters)), c_size_t(most)),
             *(byref((c_char * self._text_len).from_buffer(self.texts)), c_size_t(self._text_len)),
             byref(self._extracted),
         ]
 
+    def fill(self, string: bytes) -> int:
+        """Takes as many characters of a string as there is room for, and gives the status."""
+        self._string.value, self._string_len.value = string, len(string)
+        return checked(extract(*self._arguments))
+
     def larger(self) -> "Room":
         """Another one, for longer texts."""
-        return Room(self._most, 2 * self._text_len)
+        return Room(self._maps, self._most, 2 * self._text_len)
 
     @property
     def taken(self) -> int:

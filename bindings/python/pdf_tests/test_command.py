@@ -20,7 +20,7 @@ from hayro_cmap import pdf
 from hayro_cmap.pdf import __main__ as command
 from hayro_cmap.pdf import _commands, _many
 
-from made import AT_FAULT, BAD, GOOD, File, showing
+from made import AT_FAULT, BAD, GOOD, File, needs_glyph_list, showing
 
 
 def ends_its_process(path, *arguments, **options):
@@ -88,6 +88,7 @@ class Command(Folder):
             "^hayro_cmap: 1 file checked, 1 refused, 1 can't be read; .* of 3 shown codes have a text$",
         )
 
+    @needs_glyph_list
     def test_quiet(self):
         status, out, fault = self.command("check", "-q", "good.pdf")
         self.assertEqual((status, out, fault), (0, "", ""))
@@ -167,6 +168,7 @@ class Command(Folder):
             ran.stdout.close()
             self.assertEqual((ran.stderr.read(), ran.wait()), (b"", 141))
 
+    @needs_glyph_list
     def test_a_progress_bar_on_a_terminal(self):
         """It stands on the standard error, and is removed at the end. Where that is no terminal there is none."""
         ours, theirs = os.openpty()

@@ -3,10 +3,12 @@
 import itertools
 import random
 import unittest
+import unittest.mock
 from concurrent.futures import ThreadPoolExecutor
 
 import hayro_cmap
 from hayro_cmap import CMap, Code, Extractor, Refused, to_unicode
+from hayro_cmap._room import Room
 
 from .files import BROKEN, SMALL, needs_resources, predefined
 
@@ -91,37 +93,40 @@ class Uses(unittest.TestCase):
 
     def test_use_after_close(self):
         font = identity_font()
-        other = font.share()
+        self.assertEqual(font.text(b"\0A"), "a")
+        items = font.items()
         font.close()
         font.close()
         uses = [
             lambda: font.characters(b""),
             lambda: font.text(b""),
             lambda: font.characters_of([b""]),
-            lambda: font.items(),
-            lambda: font.share(),
-            lambda: font.__enter__(),
+            lambda: next(font.items()),
+            lambda: next(items),
         ]
         for use in uses:
             self.assertRaises(ValueError, use)
-        self.assertEqual([other.text(b"\0A")], ["a"])
-        other.close()
+
+    def test_closed_by_another(self):
+        """A call gives its answer or a ValueError, and nothing else."""
+        for _ in range(20):
+            font = identity_font()
+            font.text(b"\0A")
+            with ThreadPoolExecutor(4) as pool:
+                calls = [pool.submit(font.text, b"\0A" * 500) for _ in range(40)]
+                font.close()
+            for call in calls:
+                self.assertTrue(isinstance(call.exception(), ValueError) or call.result() == "a" * 500)
+            self.assertRaises(ValueError, font.text, b"")
 
     def test_use_within_a_use(self):
-        """As a handler of signals may have it: it is no deadlock."""
+        """As a handler of signals may have it."""
         with identity_font() as font:
-            with font._held():
-                for use in [lambda: font.text(b"\0A"), font.close]:
-                    self.assertRaises(RuntimeError, use)
-            self.assertEqual(font.text(b"\0A"), "a")
-
-    def test_maps_that_are_closed(self):
-        with CMap.identity() as identity, CMap.parse(TO_UNICODE) as cmap:
-            font = Extractor(identity, cmap)
-        self.assertEqual(font.text(b"\0A"), "a")
-        items = font.items()
-        font.close()
-        self.assertEqual(dict(items), {b"\0A": "a", b"\0B": "\U0001F600", b"\0C": "ffi"})
+            found = []
+            with unittest.mock.patch.object(Room, "text", lambda room, missing: found.append(font.characters(b"\0C")) or "x"):
+                self.assertEqual(font.text(b"\0A\0A"), "x")
+            self.assertEqual([[it.text for it in row] for row in found], [["ffi"]])
+            self.assertEqual(font.text(b"\0A\0A"), "aa")
 
     def test_threads(self):
         with identity_font() as font, ThreadPoolExecutor(8) as pool:
