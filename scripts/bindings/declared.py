@@ -23,6 +23,7 @@ OF_RUST = {
     "c_void": "void",
     "RawMap": "hayro_cmap",
     "RawBundle": "hayro_cmap_bundle",
+    "RawEncoder": "hayro_cmap_encoder",
     "File<'_>": "hayro_cmap_file",
     "RawCode": "hayro_cmap_code",
     "RawCharacter": "hayro_cmap_character",
@@ -40,6 +41,7 @@ OF_RUST = {
 RUST_STRUCTS = {
     "RawMap": "hayro_cmap",
     "RawBundle": "hayro_cmap_bundle",
+    "RawEncoder": "hayro_cmap_encoder",
     "File<'a>": "hayro_cmap_file",
     "RawCode": "hayro_cmap_code",
     "RawCharacter": "hayro_cmap_character",

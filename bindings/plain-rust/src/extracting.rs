@@ -13,12 +13,15 @@ impl Extractor {
     /// CMap, where it has one for the code; else that of the CID in the map of the collection. Codes in no
     /// codespace range are looked up too.
     pub fn characters(&self, string: &[u8]) -> Vec<Character> {
-        let font = reader::Extractor {
+        made(self.reader().characters(Global, string)).into_iter().map(Character::of).collect()
+    }
+
+    pub(crate) fn reader(&self) -> reader::Extractor<'_> {
+        reader::Extractor {
             encoding: self.encoding.reader_layers(),
             to_unicode: self.to_unicode.as_ref().map(CMap::reader_layers),
             collection: self.collection.as_ref().map(CMap::reader_layers),
-        };
-        made(font.characters(Global, string)).into_iter().map(Character::of).collect()
+        }
     }
 }
 

@@ -14,6 +14,7 @@
 pub(crate) mod cmap_binary;
 pub(crate) mod cmap_chains;
 pub(crate) mod cmap_codespaces;
+pub(crate) mod cmap_encode;
 pub(crate) mod cmap_flatten;
 pub(crate) mod cmap_layers;
 pub(crate) mod cmap_packed;
@@ -27,5 +28,6 @@ pub(crate) mod cmap_values;
 pub(crate) mod hayro_cmap;
 
 pub use cmap_chains::named_files::BundleFiles;
+pub use cmap_encode::{Encoder, Unencodable};
 pub use cmap_unicode::{Character, Extractor, declared_cid, ucs2_name};
 pub use hayro_cmap::*;

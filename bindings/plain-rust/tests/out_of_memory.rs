@@ -4,7 +4,9 @@ use hayro_cmap::CMapName;
 use hayro_cmap::fallible::alloc::{AllocError, Global};
 use hayro_cmap::fallible::collections::{BTreeMap, BinaryHeap};
 use hayro_cmap::fallible::{Box, String, Vec};
-use hayro_cmap::reader::{Bundle, CMap, CodeLength, Fault, NamedFiles, Source};
+use hayro_cmap::reader::{
+    Bundle, CMap, CodeLength, Encoder, Extractor, Fault, NamedFiles, Source, Unencodable,
+};
 use std::alloc::{GlobalAlloc, Layout, System};
 use std::cell::Cell;
 
@@ -118,6 +120,22 @@ fn lookups_report_it() {
     assert_eq!(refuse_each(|| map.lookup_bf_string(Global, 0x60), |AllocError| true), 0);
     let (cid, is_refused) = refusing(0, || map.lookup_cid_code(0x30, 1));
     assert_eq!((cid, is_refused), (Some(57), false));
+}
+
+#[test]
+fn encodings_report_it() {
+    let map = CMap::parse_from(Global, None, TOP, None, &files()).expect("it is in the grammar");
+    let layers = map.layers();
+    let font = Extractor { encoding: layers, to_unicode: Some(layers), collection: None };
+    let build = || Encoder::build(Global, &font);
+    assert!(refuse_each(build, |AllocError| true) > 10);
+    let encoder = build().expect("there is memory");
+    let encode = || encoder.encode(Global, "ABCDEF");
+    assert!(refuse_each(encode, |fault| matches!(fault, Fault::Memory)) > 2);
+    let lossy = || encoder.encode_lossy(Global, "AxB", b"?");
+    assert!(refuse_each(lossy, |AllocError| true) > 2);
+    let refused = encoder.encode(Global, "ABx").err();
+    assert!(matches!(refused, Some(Fault::Refused(Unencodable { offset: 2 }))));
 }
 
 #[test]

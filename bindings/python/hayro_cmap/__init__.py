@@ -15,7 +15,7 @@ environment variable HAYRO_CMAP_LIBRARY, else the file in this package's folder,
 from ._bundle import Bundle
 from ._effective import TextRun
 from ._extractor import Character, Extractor
-from ._faults import Cause, NotABundle, NotWritable, Reason, Refused, Segment
+from ._faults import Cause, NotABundle, NotWritable, Reason, Refused, Segment, Unencodable
 from ._folder import folder
 from ._map import CidRange, CMap, Code, CodeRange, Codespace, Layer, Metadata, Salvaged, TextRange, WritingMode
 from ._owned import library, put
@@ -44,6 +44,7 @@ __all__ = [
     "Segment",
     "TextRange",
     "TextRun",
+    "Unencodable",
     "WritingMode",
     "folder",
     "predefined",

@@ -6,6 +6,7 @@ from typing import Any, Callable, Dict, Iterable, Iterator, List, NamedTuple, Op
 
 from ._bundle import Bundle
 from ._candidates import candidates
+from ._encoder import Encoder
 from ._library import NO_ROOM, Handle
 from ._map import CODE, CMap, Code, code_of_fields
 from ._reading import Files
@@ -104,6 +105,21 @@ class Extractor:
             for code, has_text, start, text_len in room.characters()
         ]
 
+    def encode(self, text: str, missing: Optional[Buffer] = None) -> bytes:
+        """The string that shows a text: its codes lie in codespace ranges, and have texts that are this text, one after
+        another. Of several strings it is the shortest, and of several as short the one whose bytes are least.
+
+        A text that no string shows is Unencodable; but where `missing` is given, as b"\\x00\\x3f" for a question mark,
+        these bytes stand in the place of each character that no string shows.
+
+        What is needed for it is made of all codes of the font when it is first called, and kept.
+        """
+        return self._encoder.encode(text, None if missing is None else bytes_of(missing))
+
+    @functools.cached_property
+    def _encoder(self):
+        return Encoder(*self._maps)
+
     def items(self) -> Iterator[Tuple[bytes, str]]:
         """Each code in a codespace range that has a text: its bytes, and the text that `characters` gives. So
         `dict(font.items())` has all texts of a font.
@@ -141,6 +157,9 @@ class Extractor:
             cmap.close()
         # no room is made any more, and those in use are freed when their calls end
         self._rooms = []
+        encoder = self.__dict__.pop("_encoder", None)
+        if encoder is not None:
+            encoder.close()
 
     def __enter__(self):
         return self

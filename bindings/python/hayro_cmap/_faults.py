@@ -112,5 +112,19 @@ class NotABundle(ValueError):
     """The bytes are no bundle."""
 
 
+class Unencodable(ValueError):
+    """A text that no string of a font shows."""
+
+    def __init__(self, text: str, offset: int):
+        super().__init__(text, offset)
+        #: The text.
+        self.text = text
+        #: An index of the text: of the fronts of the text that strings show, the longest ends there.
+        self.offset = offset
+
+    def __str__(self) -> str:
+        return f"no string shows {self.text!r} past index {self.offset}"
+
+
 class NotWritable(ValueError):
     """No CMap file says what one is to say."""

@@ -40,7 +40,7 @@ MOST_NAMES = 16
 
 
 class Handle(Structure):
-    """A hayro_cmap or a hayro_cmap_bundle."""
+    """A hayro_cmap, a hayro_cmap_bundle or a hayro_cmap_encoder."""
 
     _fields_ = [("full", c_bool), ("owned", c_void_p)]
 
@@ -169,6 +169,11 @@ CALLS = {
     "hayro_cmap_codes_of_cid": (c_int, [*CODE, POINTER(CodesInRow), c_size_t, SIZE]),
     "hayro_cmap_codespaces": (c_int, [HANDLE, c_size_t, POINTER(CodespaceRange), c_size_t, SIZE]),
     "hayro_cmap_decode": (c_int, [HANDLE, *DATA, POINTER(CodeInString), c_size_t, SIZE, SIZE]),
+    "hayro_cmap_encode": (c_int, [HANDLE, *DATA, *ROOM, SIZE]),
+    "hayro_cmap_encode_lossy": (c_int, [HANDLE, *DATA, *DATA, *ROOM]),
+    "hayro_cmap_encoder_build": (c_int, [HANDLE, HANDLE, HANDLE, HANDLE]),
+    "hayro_cmap_encoder_free": (None, [HANDLE]),
+    "hayro_cmap_encoder_share": (c_int, [HANDLE, HANDLE]),
     "hayro_cmap_explain": (c_int, [HANDLE, *DATA, *OVER_FILES, POINTER(Fault), *ROOM]),
     "hayro_cmap_extract": (c_int, [HANDLE, HANDLE, HANDLE, *DATA, *CHARACTERS, c_char_p, c_size_t, POINTER(Extracted)]),
     "hayro_cmap_free": (None, [HANDLE]),

@@ -1,16 +1,19 @@
-"""The maps of a font, and the texts of its strings."""
+"""The maps of a font: the texts of its strings, and the strings of texts."""
 
 import itertools
 import random
+import subprocess
+import tempfile
 import unittest
 import unittest.mock
 from concurrent.futures import ThreadPoolExecutor
+from pathlib import Path
 
 import hayro_cmap
-from hayro_cmap import CMap, Code, Extractor, Refused, to_unicode
+from hayro_cmap import CMap, Code, Extractor, Refused, Unencodable, to_unicode
 from hayro_cmap._room import Room
 
-from .files import BROKEN, SMALL, needs_resources, predefined
+from .files import BROKEN, SMALL, needs_pdftotext, needs_resources, pdf_showing, predefined
 
 #: A font of codes of one and two bytes, with the CIDs 1 to 95 and 633 to 695, and a collection.
 TEXTS_OF_CIDS = b"2 beginbfrange <0001> <005F> <0020> <0279> <02B7> <3000> endbfrange"
@@ -93,7 +96,7 @@ class Uses(unittest.TestCase):
 
     def test_use_after_close(self):
         font = identity_font()
-        self.assertEqual(font.text(b"\0A"), "a")
+        self.assertEqual([font.text(b"\0A"), font.encode("a")], ["a", b"\0A"])
         items = font.items()
         font.close()
         font.close()
@@ -101,6 +104,7 @@ class Uses(unittest.TestCase):
             lambda: font.characters(b""),
             lambda: font.text(b""),
             lambda: font.characters_of([b""]),
+            lambda: font.encode("a"),
             lambda: next(font.items()),
             lambda: next(items),
         ]
@@ -133,6 +137,8 @@ class Uses(unittest.TestCase):
             strings = [b"\0A" * count + b"\0C\0D" for count in range(400)] * 4
             texts = list(pool.map(font.text, strings))
             self.assertEqual(texts, ["a" * count + "ffi\uFFFD" for count in range(400)] * 4)
+            found = pool.map(lambda text: font.encode(text.rstrip("\uFFFD")), texts)
+            self.assertEqual(list(found), [string[:-2] for string in strings])
 
 
 def codes_in(codespaces):
@@ -227,6 +233,101 @@ class Items(unittest.TestCase):
         with CMap.open("90ms-RKSJ-H") as cmap, Extractor(cmap, files=hayro_cmap.predefined) as font:
             bounds = [(b"\x00", b"\x80"), (b"\x81\x40", b"\x9f\xfc"), (b"\xa0", b"\xdf"), (b"\xe0\x40", b"\xfc\xfc")]
             self.assertGreater(len(self.items_of(font, bounds)), 7000)
+
+
+class Encoding(unittest.TestCase):
+    def test_the_shortest_string(self):
+        texts = {1: "f", 2: "i", 3: "ffi", 4: "日", 5: "\U0001F600", 6: "f"}
+        with identity_font(to_unicode(texts)) as font:
+            self.assertEqual(font.encode("ffif日\U0001F600"), b"\0\3\0\1\0\4\0\5")
+            self.assertEqual(font.encode(""), b"")
+            self.assertEqual(font.encode("fi" * 20_000), b"\0\1\0\2" * 20_000)
+
+    def test_simple_font(self):
+        with CMap.parse(b"beginbfrange <20> <7E> <0020> endbfrange") as cmap, Extractor(None, cmap) as font:
+            self.assertEqual(font.encode("A text."), b"A text.")
+
+    def test_texts_that_no_string_shows(self):
+        with identity_font() as font:
+            for text, offset in [("x", 0), ("a\U0001F600x", 2), ("affix", 4), ("aff", 1), ("a\ud800", 1), ("\U0001F601", 0)]:
+                with self.assertRaises(Unencodable) as raised:
+                    font.encode(text)
+                self.assertEqual((raised.exception.text, raised.exception.offset), (text, offset))
+                self.assertIsInstance(raised.exception, ValueError)
+            self.assertEqual(str(Unencodable("日x", 1)), "no string shows '日x' past index 1")
+
+    def test_missing(self):
+        with identity_font() as font:
+            self.assertEqual(font.encode("axa", missing=b"\0?"), b"\0A\0?\0A")
+            self.assertEqual(font.encode("x日a", missing=bytearray(b"")), b"\0A")
+            self.assertRaises(Unencodable, font.encode, "a\udc00", missing=b"")
+            for wrong in ["x", 5]:
+                self.assertRaises(TypeError, font.encode, "a", wrong)
+            self.assertRaises(TypeError, font.encode, b"a")
+
+    def test_without_texts(self):
+        with CMap.identity() as identity, Extractor(identity) as font:
+            self.assertEqual(font.encode(""), b"")
+            self.assertRaises(Unencodable, font.encode, "a")
+
+    @needs_resources
+    def test_texts_of_predefined_maps(self):
+        """The string of each text has it again, and no code with the text comes before it."""
+        for name in ["90ms-RKSJ-H", "UniGB-UCS2-H", "KSCms-UHC-H", "ETen-B5-H"]:
+            with CMap.open(name) as cmap, Extractor(cmap, files=hayro_cmap.predefined) as font:
+                first = {}
+                for code, text in font.items():
+                    first.setdefault(text, code)
+                self.assertGreater(len(first), 6000)
+                for text, code in first.items():
+                    string = font.encode(text)
+                    self.assertEqual(font.text(string), text)
+                    self.assertLessEqual((len(string), string), (len(code), code))
+
+
+#: Texts, by the predefined CMaps that have codes for them, and the orderings of their collections.
+PREDEFINED_TEXTS = [
+    ("90ms-RKSJ-H", "Japan1", "日本語の文章を符号にする。ｱｲｳABC"),
+    ("UniJIS-UTF16-H", "Japan1", "日本語、𠮷野家"),
+    ("EUC-H", "Japan1", "漢字かな"),
+    ("UniGB-UCS2-H", "GB1", "中文字符，ABC"),
+    ("GBK-EUC-H", "GB1", "简体中文"),
+    ("UniCNS-UTF16-H", "CNS1", "繁體中文"),
+    ("ETen-B5-H", "CNS1", "繁體中文，漢字"),
+    ("KSCms-UHC-H", "Korea1", "한국어 똠방각하"),
+    ("UniKS-UTF16-H", "Korea1", "한국어 글자"),
+]
+
+
+@needs_pdftotext
+class Pdftotext(unittest.TestCase):
+    """pdftotext reads the texts of strings that were encoded."""
+
+    def text_of(self, data):
+        """What pdftotext reads in a PDF file."""
+        with tempfile.TemporaryDirectory() as folder:
+            path = Path(folder, "file.pdf")
+            path.write_bytes(data)
+            command = ["pdftotext", "-raw", "-enc", "UTF-8", "-nopgbrk", str(path), "-"]
+            return subprocess.run(command, check=True, stdout=subprocess.PIPE).stdout.decode().strip("\n")
+
+    @needs_resources
+    def test_predefined(self):
+        for name, ordering, text in PREDEFINED_TEXTS:
+            with self.subTest(name=name), CMap.open(name) as cmap:
+                with Extractor(cmap, files=hayro_cmap.predefined) as font:
+                    string = font.encode(text)
+                self.assertEqual(self.text_of(pdf_showing(string, name.encode(), ordering.encode())), text)
+
+    def test_to_unicode(self):
+        texts = ["o", "ffi", "c", "e", "日", "\U0001F600", "é", "f", "i"]
+        data = to_unicode(dict(enumerate(texts, 1)))
+        with identity_font(data) as font:
+            string = font.encode("office日\U0001F600éfi")
+            lossy = font.encode("officé ©", missing=b"\0\5")
+        self.assertEqual(len(string) // 2, 9)
+        self.assertEqual(self.text_of(pdf_showing(string, to_unicode=data)), "office日\U0001F600éfi")
+        self.assertEqual(self.text_of(pdf_showing(lossy, to_unicode=data)), "officé日日")
 
 
 if __name__ == "__main__":

@@ -1,7 +1,6 @@
 """Maps and declarations that are written, read again."""
 
 import os
-import shutil
 import subprocess
 import sys
 import tempfile
@@ -11,11 +10,9 @@ from pathlib import Path
 import hayro_cmap
 from hayro_cmap import CidRange, CMap, CMapWriter, Codespace, Metadata, NotWritable, TextRange, WritingMode, to_unicode
 
-from .files import SMALL, SMALL_V, needs_resources, predefined
+from .files import SMALL, SMALL_V, needs_pdftotext, needs_resources, predefined
 
 EXAMPLE = Path(__file__).resolve().parents[3] / "examples" / "to_unicode.py"
-
-needs_pdftotext = unittest.skipUnless(shutil.which("pdftotext"), "Debian's package poppler-utils isn't installed")
 
 
 def layer_of(data):

@@ -10,9 +10,19 @@ impl Extractor {
     /// CMap, where it has one for the code; else that of the CID in the map of the collection. Codes in no
     /// codespace range are looked up too.
     pub fn characters(&self, string: &[u8]) -> Vec<Character> {
+        self.ask(|encoding, to_unicode, collection| {
+            extracted(encoding, to_unicode, collection, string)
+        })
+    }
+
+    /// Asks all maps at once.
+    pub(crate) fn ask<R>(
+        &self,
+        call: impl FnOnce(&mut MapHandle, &mut MapHandle, &mut MapHandle) -> R,
+    ) -> R {
         ask(self.to_unicode.as_ref(), |to_unicode| {
             ask(self.collection.as_ref(), |collection| {
-                self.encoding.ask(|encoding| extracted(encoding, to_unicode, collection, string))
+                self.encoding.ask(|encoding| call(encoding, to_unicode, collection))
             })
         })
     }

@@ -36,6 +36,13 @@ struct RawBundle {
     bundle: *mut c_void,
 }
 
+/// An encoder, or none.
+#[repr(C)]
+struct RawEncoder {
+    full: bool,
+    encoder: *mut c_void,
+}
+
 /// A file and its name, both lent for `'a`.
 #[repr(C)]
 pub(crate) struct File<'a> {
@@ -424,6 +431,33 @@ unsafe extern "C" {
         room_len: usize,
         needed: *mut usize,
     ) -> u32;
+    fn hayro_cmap_encoder_build(
+        encoder: *mut RawEncoder,
+        encoding: *mut RawMap,
+        to_unicode: *mut RawMap,
+        collection: *mut RawMap,
+    ) -> u32;
+    fn hayro_cmap_encoder_share(encoder: *mut RawEncoder, other: *mut RawEncoder) -> u32;
+    fn hayro_cmap_encoder_free(encoder: *mut RawEncoder);
+    fn hayro_cmap_encode(
+        encoder: *mut RawEncoder,
+        text: *const u8,
+        text_len: usize,
+        room: *mut u8,
+        room_len: usize,
+        needed: *mut usize,
+        offset: *mut usize,
+    ) -> u32;
+    fn hayro_cmap_encode_lossy(
+        encoder: *mut RawEncoder,
+        text: *const u8,
+        text_len: usize,
+        missing: *const u8,
+        missing_len: usize,
+        room: *mut u8,
+        room_len: usize,
+        needed: *mut usize,
+    ) -> u32;
     fn hayro_cmap_version(room: *mut u8, room_len: usize, needed: *mut usize) -> u32;
 }
 
@@ -464,6 +498,9 @@ const SHORT: usize = 64;
 
 /// The bytes that many files fit in.
 const LONG: usize = 1 << 16;
+
+/// How many bytes most strings have at most for a byte of their text.
+const BYTES_EACH: usize = 2;
 
 /// A map of the library.
 pub(crate) struct MapHandle(RawMap);
@@ -971,6 +1008,84 @@ impl BundleHandle {
     }
 }
 
+/// An encoder of the library.
+pub(crate) struct EncoderHandle(RawEncoder);
+
+// SAFETY: as for `MapHandle`.
+unsafe impl Send for EncoderHandle {}
+
+impl Drop for EncoderHandle {
+    fn drop(&mut self) {
+        // SAFETY: see the head of the module. This is the one call that frees the handle.
+        unsafe { hayro_cmap_encoder_free(&mut self.0) }
+    }
+}
+
+impl EncoderHandle {
+    fn empty() -> EncoderHandle {
+        EncoderHandle(RawEncoder { full: false, encoder: ptr::null_mut() })
+    }
+
+    /// The encoder of a font, of which the last two maps may be empty.
+    pub(crate) fn build(
+        encoding: &mut MapHandle,
+        to_unicode: &mut MapHandle,
+        collection: &mut MapHandle,
+    ) -> EncoderHandle {
+        let mut encoder = EncoderHandle::empty();
+        // SAFETY: see the head of the module.
+        expect_memory(unsafe {
+            hayro_cmap_encoder_build(
+                &mut encoder.0,
+                &mut encoding.0,
+                &mut to_unicode.0,
+                &mut collection.0,
+            )
+        });
+        encoder
+    }
+
+    /// The string that shows a text; else the offset where the text is refused.
+    pub(crate) fn encode(&mut self, text: &str) -> Result<Vec<u8>, usize> {
+        let mut offset = 0;
+        let string = written(BYTES_EACH * text.len(), |room, needed| {
+            // SAFETY: see the head of the module.
+            unsafe {
+                hayro_cmap_encode(
+                    &mut self.0,
+                    text.as_ptr(),
+                    text.len(),
+                    room.as_mut_ptr(),
+                    room.len(),
+                    needed,
+                    &mut offset,
+                )
+            }
+        });
+        string.ok_or(offset)
+    }
+
+    /// The same with these bytes for each character that no string shows.
+    pub(crate) fn encode_lossy(&mut self, text: &str, missing: &[u8]) -> Vec<u8> {
+        let string = written(BYTES_EACH * text.len(), |room, needed| {
+            // SAFETY: see the head of the module.
+            unsafe {
+                hayro_cmap_encode_lossy(
+                    &mut self.0,
+                    text.as_ptr(),
+                    text.len(),
+                    missing.as_ptr(),
+                    missing.len(),
+                    room.as_mut_ptr(),
+                    room.len(),
+                    needed,
+                )
+            }
+        });
+        string.unwrap_or_default()
+    }
+}
+
 /// Names that stand one after another.
 fn split(mut room: &[u8], lens: impl Iterator<Item = usize>) -> Vec<Vec<u8>> {
     lens.map(|len| {
@@ -983,7 +1098,7 @@ fn split(mut room: &[u8], lens: impl Iterator<Item = usize>) -> Vec<Vec<u8>> {
 
 /// A handle of which there can be others.
 pub(crate) trait Share: Sized {
-    /// Another handle of the same map or bundle. Nothing is copied.
+    /// Another handle of the same map, bundle or encoder. Nothing is copied.
     fn share(&mut self) -> Self;
 }
 
@@ -1001,6 +1116,15 @@ impl Share for BundleHandle {
         let mut other = BundleHandle::empty();
         // SAFETY: see the head of the module.
         expect_memory(unsafe { hayro_cmap_bundle_share(&mut self.0, &mut other.0) });
+        other
+    }
+}
+
+impl Share for EncoderHandle {
+    fn share(&mut self) -> EncoderHandle {
+        let mut other = EncoderHandle::empty();
+        // SAFETY: see the head of the module.
+        expect_memory(unsafe { hayro_cmap_encoder_share(&mut self.0, &mut other.0) });
         other
     }
 }

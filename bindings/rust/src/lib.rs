@@ -7,6 +7,8 @@ extern crate alloc;
 mod builder;
 mod bundle;
 mod collection;
+mod encode_error;
+mod encoding;
 mod extracting;
 mod extractor;
 #[allow(unsafe_code)]
@@ -27,6 +29,8 @@ mod writing;
 pub use builder::{CMapBuilder, Codes, WriteError};
 pub use bundle::{Bundle, load_embedded};
 pub use collection::{CharacterCollection, CidFamily};
+pub use encode_error::EncodeError;
+pub use encoding::Encoder;
 pub use extractor::{Character, Extractor};
 pub use map::{CMap, Cid, CidRange, Codespace, Layer, StringCode, TextRange};
 pub use metadata::{Metadata, WritingMode};

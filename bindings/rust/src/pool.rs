@@ -1,4 +1,4 @@
-//! One map or bundle for any number of threads.
+//! One map, bundle or encoder for any number of threads.
 
 use crate::ffi::Share;
 use std::sync::{Mutex, MutexGuard, PoisonError};
@@ -6,7 +6,7 @@ use std::sync::{Mutex, MutexGuard, PoisonError};
 /// So many threads ask at the same time without waiting for each other.
 const SLOTS: usize = 8;
 
-/// Handles of one map or bundle. A call has one of them for itself.
+/// Handles of one map, bundle or encoder. A call has one of them for itself.
 ///
 /// Each thread of the program has a slot while it lives, and more threads than slots share some. A slot
 /// gets its handle at the first call.
@@ -38,7 +38,7 @@ impl<H: Share> Pool<H> {
 }
 
 impl<H: Share> Clone for Pool<H> {
-    /// Another pool of the same map or bundle.
+    /// Another pool of the same.
     fn clone(&self) -> Pool<H> {
         Pool::new(self.share())
     }

@@ -61,6 +61,14 @@ impl<K: Ord, V> BTreeMap<K, V> {
         Some(&part[at].1)
     }
 
+    /// Whether a key has a value.
+    pub fn contains_key<Q: Ord + ?Sized>(&self, key: &Q) -> bool
+    where
+        K: Borrow<Q>,
+    {
+        self.get(key).is_some()
+    }
+
     /// Gives a key its value; the value that it had.
     pub fn insert(&mut self, key: K, value: V) -> Result<Option<V>, AllocFailed<(K, V)>> {
         let index = self.part_of(&key);

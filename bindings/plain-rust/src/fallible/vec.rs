@@ -1,5 +1,6 @@
 use crate::fallible::alloc::{AllocError, AllocFailed, Global};
 use crate::fallible::sorting::{sorted_indices, with_capacity};
+use core::borrow::Borrow;
 use core::fmt::{self, Debug, Formatter};
 use core::ops::{Deref, DerefMut};
 use core::slice::{Iter, IterMut};
@@ -148,6 +149,12 @@ impl<T: Copy> Vec<T> {
         self.reserve(items.len())?;
         self.0.extend_from_slice(items);
         Ok(())
+    }
+}
+
+impl<T> Borrow<[T]> for Vec<T> {
+    fn borrow(&self) -> &[T] {
+        &self.0
     }
 }
 

@@ -1,0 +1,60 @@
+//! The strings of texts.
+
+use crate::encode_error::EncodeError;
+use crate::extractor::Extractor;
+use crate::ffi::EncoderHandle;
+use crate::pool::Pool;
+use std::fmt::{self, Debug, Formatter};
+
+/// Finds the strings of a font that show texts. [`Extractor::encoder`] makes it.
+///
+/// Any number of threads may use one. A clone copies nothing.
+#[derive(Clone)]
+pub struct Encoder {
+    pool: Pool<EncoderHandle>,
+}
+
+impl Extractor {
+    /// The encoder of the font. It is made of all codes of the font, and keeps none of its maps.
+    ///
+    /// ```
+    /// use hayro_cmap::{CMap, Extractor};
+    ///
+    /// let to_unicode = CMap::parse(b"beginbfchar <41> <0066> <42> <006600660069> endbfchar", |_| None);
+    /// let encoder = Extractor::simple(to_unicode).encoder();
+    /// assert_eq!(encoder.encode("ffif")?, b"BA");
+    /// assert_eq!(encoder.encode("ffx").unwrap_err().offset, 2);
+    /// # Ok::<(), hayro_cmap::EncodeError>(())
+    /// ```
+    pub fn encoder(&self) -> Encoder {
+        let handle = self.ask(EncoderHandle::build);
+        Encoder { pool: Pool::new(handle) }
+    }
+}
+
+impl Encoder {
+    /// The string that shows a text: its codes lie in codespace ranges, and have texts that are this
+    /// text, one after another. Of several strings it is the shortest, and of several as short the one
+    /// whose bytes are least.
+    pub fn encode(&self, text: &str) -> Result<Vec<u8>, EncodeError> {
+        self.pool.ask(|encoder| encoder.encode(text)).map_err(|offset| EncodeError { offset })
+    }
+
+    /// The same with bytes in the place of each character that no string shows.
+    ///
+    /// ```
+    /// use hayro_cmap::{CMap, Extractor};
+    ///
+    /// let to_unicode = CMap::parse(b"beginbfrange <20> <7E> <0020> endbfrange", |_| None);
+    /// assert_eq!(Extractor::simple(to_unicode).encoder().encode_lossy("cafés", b"?"), b"caf?s");
+    /// ```
+    pub fn encode_lossy(&self, text: &str, missing: &[u8]) -> Vec<u8> {
+        self.pool.ask(|encoder| encoder.encode_lossy(text, missing))
+    }
+}
+
+impl Debug for Encoder {
+    fn fmt(&self, f: &mut Formatter<'_>) -> fmt::Result {
+        f.debug_struct("Encoder").finish_non_exhaustive()
+    }
+}
