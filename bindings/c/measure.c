@@ -1,9 +1,11 @@
 /* Looks up all codes of two bytes N times, so that callgrind can count a round:
  *
- *     measure cid|strict|decode|cids FILE N
+ *     measure cid|strict|decode|cids|extract|apart FILE N [COLLECTION]
  *
  * A round calls hayro_cmap_cid or hayro_cmap_cid_strict for each code, hayro_cmap_decode for a string of all of
- * them, or hayro_cmap_cids for all at once. It prints the sum of the CIDs of the last round. */
+ * them, or hayro_cmap_cids for all at once; or hayro_cmap_extract for the string, with the map COLLECTION, or in its
+ * place hayro_cmap_decode, and hayro_cmap_text for each CID. It prints the sum of the CIDs of the last round, and of the
+ * bytes of the texts. */
 #include "hayro_cmap.h"
 #include <inttypes.h>
 #include <stdio.h>
@@ -15,6 +17,9 @@ enum { CODES = 65536 };
 static uint8_t string[2 * CODES];
 static hayro_cmap_code codes[2 * CODES];
 static uint32_t cids[CODES];
+static hayro_cmap_character characters[2 * CODES];
+static uint8_t texts[8 * CODES];
+static hayro_cmap collection = HAYRO_CMAP_EMPTY;
 
 static void fail(const char *what) {
     fprintf(stderr, "measure: %s\n", what);
@@ -56,31 +61,64 @@ static uint64_t at_once(hayro_cmap *map) {
     return sum;
 }
 
+static uint64_t extracted(hayro_cmap *map) {
+    hayro_cmap none = HAYRO_CMAP_EMPTY;
+    hayro_cmap_extracted done;
+    if (hayro_cmap_extract(map, &none, &collection, string, sizeof string, characters, 2 * CODES, texts, sizeof texts,
+                           &done) != HAYRO_CMAP_OK)
+        fail("the string isn't extracted");
+    uint64_t sum = 0;
+    for (size_t i = 0; i < done.made; i++) sum += characters[i].code.cid + characters[i].text_len;
+    return sum;
+}
+
+static uint64_t apart(hayro_cmap *map) {
+    size_t made, taken, needed;
+    if (hayro_cmap_decode(map, string, sizeof string, codes, 2 * CODES, &made, &taken) != HAYRO_CMAP_OK)
+        fail("the string isn't cut into codes");
+    uint64_t sum = 0;
+    for (size_t i = 0; i < made; i++) {
+        sum += codes[i].cid;
+        if (codes[i].has_cid &&
+            hayro_cmap_text(&collection, codes[i].cid, texts, sizeof texts, &needed) == HAYRO_CMAP_OK)
+            sum += needed;
+    }
+    return sum;
+}
+
 static uint64_t round_of(const char *mode, hayro_cmap *map) {
     if (strcmp(mode, "cid") == 0) return one_by_one(map, false);
     if (strcmp(mode, "strict") == 0) return one_by_one(map, true);
     if (strcmp(mode, "decode") == 0) return decoded(map);
     if (strcmp(mode, "cids") == 0) return at_once(map);
-    fail("the mode is cid, strict, decode or cids");
+    if (strcmp(mode, "extract") == 0) return extracted(map);
+    if (strcmp(mode, "apart") == 0) return apart(map);
+    fail("the mode is cid, strict, decode, cids, extract or apart");
     return 0;
 }
 
+static void parse(hayro_cmap *map, const char *path) {
+    size_t len;
+    uint8_t *file = read_all(path, &len);
+    if (hayro_cmap_parse(map, file, len, hayro_cmap_bytes(NULL), 0, hayro_cmap_files(NULL), 0, HAYRO_CMAP_NO_BUDGET) !=
+        HAYRO_CMAP_OK)
+        fail("the file is refused");
+    free(file);
+}
+
 int main(int argc, char **argv) {
-    if (argc != 4) fail("three arguments are wanted");
+    if (argc != 4 && argc != 5) fail("three or four arguments are wanted");
     for (size_t i = 0; i < CODES; i++) {
         string[2 * i] = (uint8_t)(i >> 8);
         string[2 * i + 1] = (uint8_t)i;
     }
-    size_t len;
-    uint8_t *file = read_all(argv[2], &len);
     hayro_cmap map = HAYRO_CMAP_EMPTY;
-    if (hayro_cmap_parse(&map, file, len, hayro_cmap_bytes(NULL), 0, hayro_cmap_files(NULL), 0,
-                         HAYRO_CMAP_NO_BUDGET) != HAYRO_CMAP_OK)
-        fail("the file is refused");
+    parse(&map, argv[2]);
+    if (argc == 5) parse(&collection, argv[4]);
     uint64_t sum = 0;
     for (long n = strtol(argv[3], NULL, 10); n > 0; n--) sum = round_of(argv[1], &map);
     printf("%" PRIu64 "\n", sum);
+    hayro_cmap_free(&collection);
     hayro_cmap_free(&map);
-    free(file);
     return 0;
 }

@@ -1,8 +1,11 @@
 // Tests of hayro_cmap.hpp. It prints `ok`, or the lines of the checks that failed, with status 1.
 #include "hayro_cmap.hpp"
 #include <array>
+#include <cerrno>
 #include <cstdio>
 #include <cstdlib>
+#include <dirent.h>
+#include <dlfcn.h>
 #include <filesystem>
 #include <fstream>
 #include <thread>
@@ -409,6 +412,45 @@ static void predefined_files_are_found() {
     fs::remove_all(folder);
 }
 
+constexpr int all_entries = -1;
+static int entries_left = all_entries;
+
+// Stands for readdir of the C library in all of the program: an entry after those that are left can't be read.
+extern "C" dirent *readdir(DIR *folder) {
+    static const auto next = reinterpret_cast<dirent *(*)(DIR *)>(dlsym(RTLD_NEXT, "readdir"));
+    if (entries_left == 0) {
+        errno = EIO;
+        return nullptr;
+    }
+    if (entries_left > 0) entries_left--;
+    return next(folder);
+}
+
+static void folders_are_listed_as_far_as_they_can_be_read() {
+    namespace fs = std::filesystem;
+    fs::path folder = fs::temp_directory_path() / ("cmap-folders-" + std::to_string(getpid()));
+    const Names names{"One", "Two", "Three"};
+    for (const auto &name : names) {
+        fs::create_directories(folder / ("with" + name));
+        std::ofstream(folder / ("with" + name) / name) << "begincidchar <01> 1 endcidchar";
+    }
+    setenv("CMAP_PATH", folder.c_str(), 1);
+    // The folder has five entries in whatever order, of which two stand for itself and the one above it.
+    for (int entries : {3, 5, all_entries}) {
+        int found = 0;
+        for (const auto &name : names) {
+            entries_left = entries;
+            CHECK(!is_unreadable(name));
+            entries_left = entries;
+            found += hayro::predefined_file(name).has_value();
+            entries_left = all_entries;
+        }
+        CHECK(entries == 3 ? found >= 1 : found == 3);
+    }
+    unsetenv("CMAP_PATH");
+    fs::remove_all(folder);
+}
+
 static void files_are_made() {
     hayro::Metadata metadata{"Made-H", "Adobe", "Japan1", 6, hayro::WritingMode::horizontal};
     auto text = hayro::make(metadata, {{hayro::Kind::codespace_range, 2, 0, 0xFFFF, 0, ""},
@@ -491,6 +533,7 @@ int main() {
     bundles_have_files();
     uses_are_named();
     predefined_files_are_found();
+    folders_are_listed_as_far_as_they_can_be_read();
     files_are_made();
     maps_are_written();
     threads_share_a_map();

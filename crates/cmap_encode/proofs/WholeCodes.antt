@@ -3,8 +3,8 @@ use Rattle.std.proofs.Common.{◌≡◌, ℕ, zero, suc, ◌+◌, ◌-◌, ◌*�
 use Rattle.std.specs.Prelude.{Any, get_or, map}
 use Rattle.std.proofs.Math.Nat.{div-div-eq-div-mul}
 use Rattle.std.proofs.lemmas.Bool.{cases_lt}
-use Rattle.std.proofs.lemmas.List.{get_or-map, length-map, take-append-drop, take_all}
-use Rattle.std.proofs.lemmas.List.Elements.{All-drop}
+use Rattle.std.proofs.lemmas.List.{get_or-map, length-map, length-take-le, take-append-drop, take_all}
+use Rattle.std.proofs.lemmas.List.Elements.{All-drop, All-take}
 use Rattle.std.proofs.lemmas.Nat.{div-mul-add, pow-add}
 use Rattle.cmap_codespaces.specs.CodesWithin.{IsWithin, byte_at}
 use Rattle.cmap_values.specs.BigEndian.{big_endian}
@@ -18,6 +18,7 @@ use Rattle.cmap_layers.specs.StringCodes.{BeginsInside, IsShortestInside}
 use Rattle.cmap_encode.specs.Codes.{IsWhole}
 use Rattle.cmap_encode.specs.Encodings.{IsString}
 use Rattle.cmap_encode.specs.Outside.{IsInside}
+use Rattle.cmap_encode.specs.WholeSeen.{HasFrontInside}
 use Rattle.cmap_encode.proofs.CodesOutside.{same_byte, whole_inside}
 use Rattle.cmap_encode.proofs.CodesRead.{whole_length}
 use Rattle.cmap_encode.proofs.Numbers.{AreBytesOf, number_append, number_below, one_string}
@@ -46,10 +47,6 @@ begins_too layers bytes other m are others long within same (_, (some, few, belo
     (omega arith, (some, few, subst (λ n. n < 256 ^ m) front below, subst (IsInside layers m) front inside))
 
 module _ (layers : List Layer) (bytes other : List ℕ) (are : IsString bytes) (others : IsString other) (long : length other ≡ length bytes) where
-  -- a front of the first code lies in a range
-  pub front_inside : (count : ℕ) → IsShortestInside layers bytes count → count < length bytes → big_endian other / 256 ^ (length bytes - count) ≡ big_endian bytes / 256 ^ (length bytes - count) → IsWhole layers other → ⊥
-  front_inside count (begins, shortest) fewer same whole = whole.1 count (omega arith) (begins_too layers bytes other count are others (sym long) (omega arith) (sym same) begins)
-
   -- the first code is whole, the other lies in a range, and none of its fronts does that may be another than that of the first
   pub whole_too : (after : ℕ) → IsWhole layers bytes → big_endian other / 256 ^ after ≡ big_endian bytes / 256 ^ after → IsInside layers (length other) (big_endian other)
       → ((m : ℕ) → length other < m + after → m < length other → IsInside layers m (big_endian other / 256 ^ (length other - m)) → ⊥) → IsWhole layers other
@@ -93,13 +90,21 @@ module _ (layers : List Layer) (first : List ℕ) (len number last : ℕ) (is_le
         | inr here ↦ none (length bytes) (subst (λ b. BeginsInside layers b (length bytes)) (at_first bytes strings long (omega arith)) whole.0)
       ]
 
-  -- a shorter front is, which all have
-  pub all_shadowed : (count after : ℕ) → IsShortestInside layers first count → count < len → after ≡ len - count → ((other : ℕ) → number ≤ other → other ≤ last → other / 256 ^ after ≡ number / 256 ^ after)
+  -- a shorter front is, and those of the further codes are
+  pub all_shadowed : (count after : ℕ) → IsShortestInside layers first count → count < len → after ≡ len - count → ((other : ℕ) → number ≤ other → other ≤ last → HasFrontInside layers count after number other)
       → (bytes : List ℕ) → IsString bytes → length bytes ≡ len → number ≤ big_endian bytes → big_endian bytes ≤ last → IsWhole layers bytes → ⊥
-  all_shadowed count after shortest fewer is same bytes strings long from to =
-      let power : after ≡ length first - count = omega (arith, are.count) in
-      front_inside layers first bytes are.string strings (long ∙ sym are.count) count shortest (omega (arith, are.count))
-      (subst (λ k. big_endian bytes / 256 ^ k ≡ big_endian first / 256 ^ k) power (same (big_endian bytes) from to ∙ ap (λ n. n / 256 ^ after) (sym are.writes)))
+  all_shadowed count after (begins, shortest) fewer is fronts bytes strings long from to whole =
+      let of_first : length first - count ≡ after = omega (arith, are.count) in
+      let of_bytes : length bytes - count ≡ after = omega arith in
+      let first_front = front_number first count are.string (omega (arith, are.count)) ∙ ap (λ k. big_endian first / 256 ^ k) of_first ∙ ap (λ n. n / 256 ^ after) are.writes in
+      let front = front_number bytes count strings (omega arith) ∙ ap (λ k. big_endian bytes / 256 ^ k) of_bytes in
+      let inside : IsInside layers count (big_endian bytes / 256 ^ after) = elim (fronts (big_endian bytes) from to) [
+        | inl same ↦ subst (IsInside layers count) (first_front ∙ sym same) begins.1.3
+        | inr there ↦ there
+      ] in
+      let taken : length (take count bytes) ≡ count = length-take-le count bytes (omega arith) in
+      let below : big_endian (take count bytes) < 256 ^ count = subst (λ k. big_endian (take count bytes) < 256 ^ k) taken (number_below (take count bytes) (All-take (λ b. b < 256) count bytes strings)) in
+      whole.1 count (omega arith) (omega arith, (begins.1.0, begins.1.1, below, subst (IsInside layers count) (sym front) inside))
 
   -- the first is whole, and the further codes are inside ranges and have the same bytes but the last
   pub all_whole : (count : ℕ) → IsShortestInside layers first count → len ≤ count → ((other : ℕ) → number ≤ other → other ≤ last → other / 256 ≡ number / 256) → ((other : ℕ) → number < other → other ≤ last → IsInside layers len other)

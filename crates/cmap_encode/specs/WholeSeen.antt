@@ -1,13 +1,18 @@
 -- Private aid: codes in a row that are whole, or are not.
-use Rattle.std.specs.Prelude.{◌≡◌, ℕ, ◌≤◌, List, length}
+use Rattle.std.specs.Prelude.{◌≡◌, ℕ, ◌/◌, ◌^◌, ◌≤◌, ◌⊎◌, List, length}
 use Rattle.std.specs.Bool.{MatchBool}
 use Rattle.cmap_values.specs.BigEndian.{big_endian}
 use Rattle.cmap_layers.specs.Layers.{Layer}
 use Rattle.cmap_encode.specs.Codes.{IsWhole}
 use Rattle.cmap_encode.specs.Encodings.{IsString}
+use Rattle.cmap_encode.specs.Outside.{IsInside}
 use Rattle.cmap_encode.specs.declared.whole.WholeStretch.{WholeStretch}
 
 -- from the first to the last one, all codes of len bytes are whole, or none is
 abbrev pub AreWhole : List Layer → ℕ → ℕ → WholeStretch → Type 0
 AreWhole layers len first stretch = (bytes : List ℕ) → IsString bytes → length bytes ≡ len → first ≤ big_endian bytes → big_endian bytes ≤ stretch.last
     → MatchBool stretch.are_whole (IsWhole layers bytes) (IsWhole layers bytes → ⊥)
+
+-- without its last bytes, so many, a number is what another one is, or lies in a codespace range as a code of len bytes
+abbrev pub HasFrontInside : List Layer → ℕ → ℕ → ℕ → ℕ → Type 0
+HasFrontInside layers len after other number = (number / 256 ^ after ≡ other / 256 ^ after) ⊎ IsInside layers len (number / 256 ^ after)

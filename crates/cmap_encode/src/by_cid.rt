@@ -1,9 +1,9 @@
 //! The codes of CIDs, by the texts that the map of a character collection gives these.
 
-ghost use Rattle.std.specs.Prelude.{◌≡◌, ◌↔◌, ◌⊎◌, ◌^◌, ◌<◌, ◌≤◌, ℕ, IfOk, List, OnOk};
+ghost use Rattle.std.specs.Prelude.{◌^◌, ◌<◌, ◌≤◌, IfOk, OnOk};
 ghost use Rattle.std.specs.Option.{option_copied};
-ghost use Rattle.cmap_encode.specs.GatheredSeen.{AddsCids, GivesFirst};
-ghost use Rattle.cmap_encode.specs.RunsSeen.{AreRunsByFront, GivesText};
+ghost use Rattle.cmap_encode.specs.GatheredSeen.{AddsCids};
+ghost use Rattle.cmap_encode.specs.RunsSeen.{AreRunsByFront};
 
 use crate::firsts::Firsts;
 use crate::runs_by_front::RunsByFront;

@@ -1,6 +1,7 @@
 //! A code with its bytes.
 
 ghost use Rattle.std.specs.Prelude.{◌≡◌, ◌++◌, MatchOption, OnOk};
+ghost use Rattle.cmap_values.specs.CodeLengths.{length_of};
 ghost use Rattle.cmap_values.specs.Only.{HoldsOfNone};
 ghost use Rattle.cmap_layers.specs.StringCodes.{BeginsInside, IsShortestInside};
 ghost use Rattle.cmap_encode.specs.Codes.{aligned, code_bytes};
@@ -17,15 +18,18 @@ pub(crate) struct Code {
 }
 
 impl Code {
-    /// How many bytes the shortest front of the code has that lies in a codespace range, if one does. The
-    /// code itself is the longest of its fronts.
-    pub(crate) fn shortest_front(self, encoding: &Layers) -> Option<u8>
+    /// The length of the shortest front of the code that lies in a codespace range, if one does. The code
+    /// itself is the longest of its fronts.
+    pub(crate) fn shortest_front(self, encoding: &Layers) -> Option<CodeLength>
         ensures { MatchOption result (HoldsOfNone (BeginsInside encoding.now (code_bytes self)))
-            (IsShortestInside encoding.now (code_bytes self)) }
+            (λ len. IsShortestInside encoding.now (code_bytes self) (length_of len)) }
     {
         let bytes = self.number.to_be_bytes();
         let front = encoding.next_code(&bytes[4 - usize::from(self.len.count())..])?;
-        front.in_codespace.then_some(front.byte_len)
+        if !front.in_codespace {
+            return None;
+        }
+        CodeLength::of(front.byte_len)
     }
 
     /// Adds its bytes to a string.

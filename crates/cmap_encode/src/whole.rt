@@ -1,15 +1,16 @@
 //! Codes in a row that are whole, or are not.
 
-ghost use Rattle.std.specs.Prelude.{◌≡◌, ◌/◌, ◌^◌, ◌<◌, ◌≤◌, ℕ, Any, IsTrue, map};
+ghost use Rattle.std.specs.Prelude.{◌≡◌, ◌-◌, ◌*◌, ◌/◌, ◌^◌, ◌<◌, ◌≤◌, ℕ, Any, IsTrue, map};
 ghost use Rattle.cmap_codespaces.specs.CodesWithin.{IsWithin};
 ghost use Rattle.cmap_values.specs.CodeLengths.{length_of};
 ghost use Rattle.cmap_values.specs.DeclarationsSeen.{codespace_seen};
 ghost use Rattle.cmap_encode.specs.Outside.{IsInside};
-ghost use Rattle.cmap_encode.specs.WholeSeen.{AreWhole};
+ghost use Rattle.cmap_encode.specs.WholeSeen.{AreWhole, HasFrontInside};
 
 use crate::code::Code;
 use crate::outside::{begins_so, byte_of, last_with_front, outside_until};
 use cmap_layers::layers::Layers;
+use cmap_values::code_length::CodeLength;
 use cmap_values::declarations::Codespace;
 
 /// Codes in a row, all of them whole, or none: a whole code lies in a codespace range, and none of its
@@ -29,21 +30,63 @@ pub(crate) fn whole_stretch(encoding: &Layers, code: Code) -> WholeStretch
     ensures fits { IsTrue result.are_whole → result.last < 256 ^ length_of code.len }
     ensures whole { AreWhole encoding.now (length_of code.len) code.number result }
 {
-    let Some(count) = code.shortest_front(encoding) else {
+    let Some(len) = code.shortest_front(encoding) else {
         return WholeStretch {
             are_whole: false,
             last: outside_until(encoding, code),
         };
     };
-    if count < code.len.count() {
+    if len.count() < code.len.count() {
         return WholeStretch {
             are_whole: false,
-            last: last_with_front(code.number, code.len.count() - count),
+            last: shadowed_until(encoding, code, len),
         };
     }
     WholeStretch {
         are_whole: true,
         last: inside_until(encoding, code),
+    }
+}
+
+/// The last code up to which the fronts of this length lie in a codespace range, or are that of this code.
+fn shadowed_until(encoding: &Layers, code: Code, len: CodeLength) -> u32
+    requires fits { code.number < 256 ^ length_of code.len }
+    requires shorter { length_of len < length_of code.len }
+    ensures within { code.number ≤ result }
+    ensures fronts { (number : ℕ) → code.number ≤ number → number ≤ result
+        → HasFrontInside encoding.now (length_of len) (length_of code.len - length_of len)
+        code.number number }
+{
+    let after = code.len.count() - len.count();
+    let number = without_last(code.number, after);
+    let last = inside_until(encoding, Code { number, len });
+    last_with_front(code.number.max(with_zeros(last, after)), after)
+}
+
+/// The number without its last bytes.
+fn without_last(number: u32, count: u8) -> u32
+    requires { count ≤ 3 }
+    ensures { result ≡ number / 256 ^ count }
+{
+    match count {
+        0 => number,
+        1 => number / 0x100,
+        2 => number / 0x1_0000,
+        _ => number / 0x100_0000,
+    }
+}
+
+/// The number with zeros for further last bytes.
+fn with_zeros(number: u32, count: u8) -> u32
+    requires few { count ≤ 3 }
+    requires fits { number * 256 ^ count < 2 ^ 32 }
+    ensures { result ≡ number * 256 ^ count }
+{
+    match count {
+        0 => number,
+        1 => number * 0x100,
+        2 => number * 0x1_0000,
+        _ => number * 0x100_0000,
     }
 }
 

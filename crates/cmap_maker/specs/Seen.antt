@@ -1,9 +1,11 @@
 -- Private aid: frequencies, code words and groups as contracts see them.
 use Rattle.std.specs.Prelude.{List, Option, map, option_map}
 use Rattle.cmap_packed.specs.PrefixWords.{CodeWord}
+use Rattle.cmap_maker.specs.Groups.{AreQueues, TakesRarest, merged}
 use Rattle.cmap_maker.specs.Huffman as huffman
 use Rattle.cmap_maker.specs.declared.frequencies.Frequency.{Frequency}
 use Rattle.cmap_maker.specs.declared.lengths.Group.{Group}
+use Rattle.cmap_maker.specs.declared.lengths.Groups.{Groups}
 use Rattle.cmap_maker.specs.declared.lengths.WordLength.{WordLength}
 
 abbrev pub frequency_seen : Frequency → huffman.Frequency
@@ -24,5 +26,13 @@ group_seen g = record { times = g.times; words = words_seen g.words.items }
 abbrev pub groups_seen : List Group → List huffman.Group
 groups_seen groups = map group_seen groups
 
-abbrev pub option_seen : Option Group → Option huffman.Group
-option_seen o = option_map group_seen o
+-- the groups of both queues, in order
+abbrev pub groups_in : Groups → List huffman.Group
+groups_in groups = merged (groups_seen groups.alone.items) (groups_seen groups.joined.items)
+
+abbrev pub AreQueued : Groups → Type 0
+AreQueued groups = AreQueues (groups_seen groups.alone.items) (groups_seen groups.joined.items)
+
+-- the rarest group leaves its queue
+abbrev pub Takes : Groups → Option Group → Groups → Type 0
+Takes old o new = TakesRarest (groups_seen old.alone.items) (groups_seen old.joined.items) (option_map group_seen o) (groups_seen new.alone.items) (groups_seen new.joined.items)

@@ -1,9 +1,9 @@
 //! How long the code words of numbers are: by Huffman's method, so that all together take the fewest bits.
 
 ghost use Rattle.std.specs.Prelude.{◌≡◌, ◌+◌, ◌<◌, ◌≤◌, ◌^◌, [], All, IfOk, length, map, sum_by};
-ghost use Rattle.cmap_maker.specs.Groups.{AreQueues, AreRising, IsJoinedNext, IsSized, TakesRarest, merged};
+ghost use Rattle.cmap_maker.specs.Groups.{AreRising, IsJoinedNext, IsSized};
 ghost use Rattle.cmap_maker.specs.Huffman.{alone, both, join, longer, words_joined};
-ghost use Rattle.cmap_maker.specs.Seen.{frequencies_seen, frequency_seen, group_seen, groups_seen, option_seen, words_seen};
+ghost use Rattle.cmap_maker.specs.Seen.{AreQueued, Takes, frequencies_seen, frequency_seen, group_seen, groups_in, groups_seen, words_seen};
 
 use crate::frequencies::Frequency;
 use std::alloc::{AllocError, Global};
@@ -90,10 +90,10 @@ impl Groups {
 
     /// Joins the two groups that come the fewest times.
     fn join(&mut self) -> Result<(), AllocError>
-        requires queues { AreQueues (groups_seen self.old.alone.items) (groups_seen self.old.joined.items) }
-        requires two { 2 ≤ length (merged (groups_seen self.old.alone.items) (groups_seen self.old.joined.items)) }
-        ensures order { IfOk result (λ _. merged (groups_seen self.new.alone.items) (groups_seen self.new.joined.items) ≡ join (merged (groups_seen self.old.alone.items) (groups_seen self.old.joined.items))) }
-        ensures queues { IfOk result (λ _. AreQueues (groups_seen self.new.alone.items) (groups_seen self.new.joined.items)) }
+        requires queues { AreQueued self.old }
+        requires two { 2 ≤ length (groups_in self.old) }
+        ensures order { IfOk result (λ _. groups_in self.new ≡ join (groups_in self.old)) }
+        ensures queues { IfOk result (λ _. AreQueued self.new) }
     {
         let Some(first) = self.take_rarest() else {
             return Ok(());
@@ -107,7 +107,7 @@ impl Groups {
 
     /// Takes the group that comes the fewest times; of equal ones one that wasn't joined.
     fn take_rarest(&mut self) -> Option<Group>
-        ensures { TakesRarest (groups_seen self.old.alone.items) (groups_seen self.old.joined.items) (option_seen result) (groups_seen self.new.alone.items) (groups_seen self.new.joined.items) }
+        ensures { Takes self.old result self.new }
     {
         if self.is_joined_next() {
             self.joined.pop_front()

@@ -2,7 +2,7 @@ use Rattle.std.proofs.Common.{◌≤◌, ◌∙◌, ap, length, map, subst, sym,
 use Rattle.std.proofs.lemmas.List.{length-map}
 use Rattle.cmap_maker.specs.Groups.{AreQueues, merged}
 use Rattle.cmap_maker.specs.Huffman.{Frequency, alone, words_joined}
-use Rattle.cmap_maker.specs.Seen.{frequencies_seen, frequency_seen, group_seen, groups_seen}
+use Rattle.cmap_maker.specs.Seen.{frequencies_seen, frequency_seen, group_seen, groups_in, groups_seen}
 use Rattle.cmap_maker.proofs.GroupsJoined.{alone_queued, last_words, taken}
 use Rattle.cmap_maker.proofs.HuffmanWords.{step_kept, step_length, sum_map}
 use Rattle.cmap_maker.proofs.lengths.word_lengths.Goals as goal
@@ -28,7 +28,7 @@ join-requires-clause-two c = omega (arith, c.loop.invariant.2, c.loop-test.true)
 
 pub loop-preserved : goal.loop-preserved
 loop-preserved c =
-    let old = merged (groups_seen c.loop.groups.alone.items) (groups_seen c.loop.groups.joined.items) in
+    let old = groups_in c.loop.groups in
     let two : 2 ≤ length old = omega (arith, c.loop.invariant.2, c.loop-test.true) in (
       c.in_ok-join.ensures.queues,
       ap words_joined c.in_ok-join.ensures.order ∙ step_kept old two ∙ c.loop.invariant.1,

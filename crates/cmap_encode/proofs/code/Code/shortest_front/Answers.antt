@@ -10,4 +10,4 @@ returns c =
     let layers = c.args.encoding.now in
     let same = sliced c.args.self.number c.args.self.len c.from.result c.to_be_bytes-bytes.result (c.from.ensures ∙ c.count.ensures) c.to_be_bytes-bytes.ensures in
     let next = subst (λ text. IsNextCode layers text c.in_ok-front.front) same c.in_ok-front.ensures.code.holds in
-    front_found layers (code_bytes c.args.self) c.in_ok-front.front c.then_some.result next c.then_some.ensures
+    front_found layers (code_bytes c.args.self) c.in_ok-front.front c.of.result next c.if-not-front.false c.in_ok-front.ensures.length.0 c.of.ensures

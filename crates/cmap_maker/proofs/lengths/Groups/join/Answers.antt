@@ -1,20 +1,14 @@
 use Rattle.std.proofs.Common.{◌≡◌, ◌∷◌, ◌++◌, [], ◌∙◌, Some, ap, subst, sym}
 use Rattle.std.proofs.lemmas.List.{map-append}
-use Rattle.cmap_maker.specs.Groups.{AreQueues, TakesRarest, merged}
+use Rattle.cmap_maker.specs.Groups.{AreQueues, merged}
 use Rattle.cmap_maker.specs.Huffman.{both}
-use Rattle.cmap_maker.specs.Seen.{group_seen, groups_seen}
+use Rattle.cmap_maker.specs.Seen.{AreQueued, Takes, group_seen, groups_seen}
 use Rattle.cmap_maker.specs.declared.lengths.Groups.{Groups}
 use Rattle.cmap_maker.specs.declared.lengths.Group.{Group}
 use Rattle.cmap_maker.proofs.GroupsJoined.{AreJoined, two_joined}
 use Rattle.cmap_maker.proofs.lengths.Groups.join.Goals as goal
 
-abbrev AreQueued : Groups → Type 0
-AreQueued groups = AreQueues (groups_seen groups.alone.items) (groups_seen groups.joined.items)
-
-abbrev Takes : Groups → Group → Groups → Type 0
-Takes old g new = TakesRarest (groups_seen old.alone.items) (groups_seen old.joined.items) (Some (group_seen g)) (groups_seen new.alone.items) (groups_seen new.joined.items)
-
-both_taken : (old mid new : Groups) (x y : Group) → AreQueued old → Takes old x mid → Takes mid y new → AreJoined (groups_seen old.alone.items) (groups_seen old.joined.items) (group_seen x) (group_seen y) (groups_seen new.alone.items) (groups_seen new.joined.items)
+both_taken : (old mid new : Groups) (x y : Group) → AreQueued old → Takes old (Some x) mid → Takes mid (Some y) new → AreJoined (groups_seen old.alone.items) (groups_seen old.joined.items) (group_seen x) (group_seen y) (groups_seen new.alone.items) (groups_seen new.joined.items)
 both_taken old mid new x y = two_joined (groups_seen old.alone.items) (groups_seen old.joined.items) (groups_seen mid.alone.items) (groups_seen mid.joined.items) (groups_seen new.alone.items) (groups_seen new.joined.items) (group_seen x) (group_seen y)
 
 pub join-requires-clause-few : goal.join-requires-clause-few
