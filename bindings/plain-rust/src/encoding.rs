@@ -47,7 +47,8 @@ impl Encoder {
         }
     }
 
-    /// The same with bytes in the place of each character that no string shows.
+    /// The same as far as strings show the text: the string of the longest front that they show, then
+    /// `missing` for the character after it, then what is left of the text likewise.
     ///
     /// ```
     /// use hayro_cmap::{CMap, Extractor};

@@ -12,7 +12,7 @@ def candidates(encoding, to_unicode, collection) -> Iterator[bytes]:
     give a text, and perhaps others, of which a later declaration or another range decides."""
     layers = encoding.layers
     codespaces = [it for layer in layers for it in layer.codespaces]
-    of_codes, of_cids = (union((run.first, run.last) for run in cmap.texts([])) for cmap in (to_unicode, collection))
+    of_codes, of_cids = with_texts(to_unicode), with_texts(collection)
     for byte_len in sorted({it.byte_len for it in codespaces}):
         cids = [it for layer in layers for it in layer.cids if it.byte_len == byte_len]
         notdefs = [it for layer in layers for it in layer.notdefs if it.byte_len == byte_len]
@@ -21,6 +21,12 @@ def candidates(encoding, to_unicode, collection) -> Iterator[bytes]:
         for first, last in union([*of_codes, *declared]):
             for code in codes_in(first, min(last, 256**byte_len - 1), lying_in):
                 yield code.to_bytes(byte_len, "big")
+
+
+def with_texts(cmap) -> List[Range]:
+    """The codes of declarations of texts. The last unit of a text counts on over 65,536 codes at most."""
+    declared = (it for layer in cmap.layers for it in layer._declared_texts())
+    return union((it.first, min(it.last, it.first + 0xFFFF)) for it in declared)
 
 
 def union(ranges: Iterable[Range]) -> List[Range]:
@@ -56,11 +62,12 @@ def codes_in(first: int, last: int, codespaces) -> Iterator[int]:
     """The codes of a row that lie in one of these codespace ranges, which are of one length."""
     code = first
     while code <= last:
-        following = [it for it in (next_in(code, codespace) for codespace in codespaces) if it is not None]
-        code = min(following, default=last + 1)
-        if code <= last:
-            yield code
-        code += 1
+        following = ((next_in(code, codespace), codespace.high) for codespace in codespaces)
+        # each with the last code that has the same bytes but for its last one
+        rows = [(it, it - it % 0x100 + high % 0x100) for it, high in following if it is not None]
+        start, end = min(rows, default=(last + 1, last))
+        yield from range(start, min(end, last) + 1)
+        code = end + 1
 
 
 def next_in(code: int, codespace) -> Optional[int]:

@@ -25,7 +25,7 @@ class Encoder(Owned):
         super().__init__(encoder)
 
     def encode(self, text: str, missing: Optional[bytes]) -> bytes:
-        """The string that shows a text, with `missing`, if that isn't None, for each character that no string shows."""
+        """The string that shows a text, with `missing`, if that isn't None, where none does."""
         try:
             data = str.encode(text)
         except UnicodeEncodeError as fault:

@@ -109,8 +109,9 @@ class Extractor:
         """The string that shows a text: its codes lie in codespace ranges, and have texts that are this text, one after
         another. Of several strings it is the shortest, and of several as short the one whose bytes are least.
 
-        A text that no string shows is Unencodable; but where `missing` is given, as b"\\x00\\x3f" for a question mark,
-        these bytes stand in the place of each character that no string shows.
+        A text that no string shows is Unencodable. But where `missing` is given, as b"\\x00\\x3f" for a question mark, the
+        string is that of the longest front that strings show, then these bytes for the character after it, then what is
+        left of the text likewise.
 
         What is needed for it is made of all codes of the font when it is first called, and kept.
         """

@@ -157,8 +157,12 @@ class Layer:
     @functools.cached_property
     def texts(self) -> Tuple[TextRange, ...]:
         """Its declarations of texts, in the order of the file."""
-        declared = self._cmap._listed(library.hayro_cmap_text_ranges, DeclaredTexts, self._index)
-        return tuple(TextRange(it.first, it.last, self._text(index)) for index, it in enumerate(declared))
+        declared = enumerate(self._declared_texts())
+        return tuple(TextRange(it.first, it.last, self._text(index)) for index, it in declared)
+
+    def _declared_texts(self):
+        """Its declarations of texts, without these."""
+        return self._cmap._listed(library.hayro_cmap_text_ranges, DeclaredTexts, self._index)
 
     def _cid_ranges(self, call):
         return tuple(

@@ -40,7 +40,8 @@ impl Encoder {
         self.pool.ask(|encoder| encoder.encode(text)).map_err(|offset| EncodeError { offset })
     }
 
-    /// The same with bytes in the place of each character that no string shows.
+    /// The same as far as strings show the text: the string of the longest front that they show, then
+    /// `missing` for the character after it, then what is left of the text likewise.
     ///
     /// ```
     /// use hayro_cmap::{CMap, Extractor};
