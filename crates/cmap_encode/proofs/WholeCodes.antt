@@ -1,24 +1,22 @@
 -- Codes that are whole as another one is, or are not.
-use Rattle.std.proofs.Common.{◌≡◌, ℕ, zero, suc, ◌+◌, ◌-◌, ◌*◌, ◌/◌, ◌%◌, ◌^◌, ◌<◌, ◌≤◌, List, length, take, drop, sym, ap, ◌∙◌, subst, inl, inr, arith, length-drop}
+use Rattle.std.proofs.Common.{◌≡◌, ℕ, ◌+◌, ◌-◌, ◌*◌, ◌/◌, ◌^◌, ◌<◌, ◌≤◌, List, length, take, drop, sym, ap, ◌∙◌, subst, inl, inr, arith, length-drop}
 use Rattle.std.specs.Prelude.{Any, get_or, map}
-use Rattle.std.proofs.Math.Nat.{div-div-eq-div-mul}
-use Rattle.std.proofs.lemmas.Bool.{cases_lt}
+use Rattle.std.proofs.Math.Nat.{div-div-eq-div-mul, lt-div-mul-add, mod-lt, mul-le-mul_right, one-le-pow}
+use Rattle.std.proofs.lemmas.Bool.{cases_lt, cases_order}
 use Rattle.std.proofs.lemmas.List.{get_or-map, length-map, length-take-le, take-append-drop, take_all}
 use Rattle.std.proofs.lemmas.List.Elements.{All-drop, All-take}
-use Rattle.std.proofs.lemmas.Nat.{div-mul-add, pow-add}
+use Rattle.std.proofs.lemmas.Nat.{div-mul-add, div_below, pow-add}
 use Rattle.cmap_codespaces.specs.CodesWithin.{IsWithin, byte_at}
 use Rattle.cmap_values.specs.BigEndian.{big_endian}
-use Rattle.cmap_values.specs.CodeLengths.{IsCodeLength, length_of}
+use Rattle.cmap_values.specs.CodeLengths.{IsCodeLength}
 use Rattle.cmap_values.specs.Files.{Codespace}
 use Rattle.cmap_values.specs.Only.{HoldsOfNone}
-use Rattle.cmap_values.specs.declared.code_length.CodeLength.{CodeLength}
-use Rattle.cmap_values.specs.declared.code_length.CodeLength.TheVariants.{One, Two, Three, Four}
 use Rattle.cmap_layers.specs.Layers.{Layer}
 use Rattle.cmap_layers.specs.StringCodes.{BeginsInside, IsShortestInside}
 use Rattle.cmap_encode.specs.Codes.{IsWhole}
 use Rattle.cmap_encode.specs.Encodings.{IsString}
 use Rattle.cmap_encode.specs.Outside.{IsInside}
-use Rattle.cmap_encode.specs.WholeSeen.{HasFrontInside}
+use Rattle.cmap_encode.specs.WholeSeen.{HasFrontInside, IsFull, IsWholeNumber}
 use Rattle.cmap_encode.proofs.CodesOutside.{same_byte, whole_inside}
 use Rattle.cmap_encode.proofs.CodesRead.{whole_length}
 use Rattle.cmap_encode.proofs.Numbers.{AreBytesOf, number_append, number_below, one_string}
@@ -32,45 +30,35 @@ front_number bytes m are within =
     sym (ap (λ n. n / 256 ^ (length bytes - m)) whole ∙ ap (λ k. (big_endian (take m bytes) * 256 ^ length rest + big_endian rest) / 256 ^ k) (sym count)
     ∙ div-mul-add (big_endian (take m bytes)) (256 ^ length rest) (big_endian rest) (number_below rest (All-drop (λ b. b < 256) m bytes are)))
 
+-- without some of the last bytes, and then without more
+pub without_more : (n few more : ℕ) → few ≤ more → n / 256 ^ few / 256 ^ (more - few) ≡ n / 256 ^ more
+without_more n few more le =
+    let sum : few + (more - few) ≡ more = omega arith in
+    div-div-eq-div-mul n (256 ^ few) (256 ^ (more - few)) ∙ ap (λ p. n / p) (sym (pow-add 256 few (more - few)) ∙ ap (λ k. 256 ^ k) sum)
+
 -- numbers that are the same without their last bytes are so without more
 pub same_without : (n other few more : ℕ) → few ≤ more → n / 256 ^ few ≡ other / 256 ^ few → n / 256 ^ more ≡ other / 256 ^ more
-same_without n other few more le same =
-    let sum : few + (more - few) ≡ more = omega arith in
-    let split : 256 ^ more ≡ 256 ^ few * 256 ^ (more - few) = ap (λ k. 256 ^ k) (sym sum) ∙ pow-add 256 few (more - few) in
-    ap (λ p. n / p) split ∙ sym (div-div-eq-div-mul n (256 ^ few) (256 ^ (more - few))) ∙ ap (λ q. q / 256 ^ (more - few)) same
-    ∙ div-div-eq-div-mul other (256 ^ few) (256 ^ (more - few)) ∙ sym (ap (λ p. other / p) split)
+same_without n other few more le same = sym (without_more n few more le) ∙ ap (λ q. q / 256 ^ (more - few)) same ∙ without_more other few more le
 
--- a front that is as long and has the same number
-begins_too : (layers : List Layer) (bytes other : List ℕ) (m : ℕ) → IsString bytes → IsString other → length bytes ≡ length other → m ≤ length bytes → big_endian bytes / 256 ^ (length bytes - m) ≡ big_endian other / 256 ^ (length bytes - m) → BeginsInside layers bytes m → BeginsInside layers other m
-begins_too layers bytes other m are others long within same (_, (some, few, below, inside)) =
-    let front : big_endian (take m bytes) ≡ big_endian (take m other) = front_number bytes m are within ∙ same ∙ ap (λ k. big_endian other / 256 ^ (k - m)) long ∙ sym (front_number other m others (omega arith)) in
-    (omega arith, (some, few, subst (λ n. n < 256 ^ m) front below, subst (IsInside layers m) front inside))
-
-module _ (layers : List Layer) (bytes other : List ℕ) (are : IsString bytes) (others : IsString other) (long : length other ≡ length bytes) where
-  -- the first code is whole, the other lies in a range, and none of its fronts does that may be another than that of the first
-  pub whole_too : (after : ℕ) → IsWhole layers bytes → big_endian other / 256 ^ after ≡ big_endian bytes / 256 ^ after → IsInside layers (length other) (big_endian other)
-      → ((m : ℕ) → length other < m + after → m < length other → IsInside layers m (big_endian other / 256 ^ (length other - m)) → ⊥) → IsWhole layers other
-  whole_too after whole same inside none =
-      let (some, few) = whole_length layers bytes whole in
-      let all : take (length other) other ≡ other = take_all (length other) other (omega arith) in (
-        (omega arith, (omega arith, omega arith, subst (λ (l : List ℕ). big_endian l < 256 ^ length other) (sym all) (number_below other others), subst (λ (l : List ℕ). IsInside layers (length other) (big_endian l)) (sym all) inside)),
-        λ m fewer begins.
-            elim (cases_lt (length other) (m + after)) [
-              | inl near ↦ none m near fewer (subst (IsInside layers m) (front_number other m others (omega arith)) begins.1.3)
-              | inr far ↦ whole.1 m (omega arith) (begins_too layers other bytes m others are long (omega arith) (same_without (big_endian other) (big_endian bytes) after (length other - m) (omega arith) same) begins)
-            ],
-      )
-
--- a range with the code has the other, which has the same bytes but the last
-pub within_too : (space : Codespace) (len code number : ℕ) → code ≤ number → number / 256 ≡ code / 256 → number % 256 ≤ byte_at space.high 0 → len ≤ 4 → IsWithin space code len → IsWithin space number len
-within_too space len code number le same below few (long, bytes) = (long, at)
+-- a range with the code has the other, which has the same bytes before the last ones, a byte then that the range has, and any others
+pub within_too : (space : Codespace) (len after code number : ℕ) → 1 ≤ after → after ≤ len → len ≤ 4 → number / 256 ^ after ≡ code / 256 ^ after → IsFull space (after - 1) → byte_at code (after - 1) ≤ byte_at number (after - 1) → byte_at number (after - 1) ≤ byte_at space.high (after - 1) → IsWithin space code len → IsWithin space number len
+within_too space len after code number some most few same full from to (long, bytes) = (long, at)
   where
     at : (k : ℕ) → k < len → (byte_at space.low k ≤ byte_at number k) × (byte_at number k ≤ byte_at space.high k)
-    at zero lt = let low = (bytes zero lt).0 in (omega arith, omega arith)
-    at (suc k) lt =
-        let is : byte_at number (suc k) ≡ byte_at code (suc k) = same_byte number code 1 (suc k) same (omega arith) (omega arith) (omega arith) (omega arith) in
-        let (low, high) = bytes (suc k) lt in
-        (subst (λ b. byte_at space.low (suc k) ≤ b) (sym is) low, subst (λ b. b ≤ byte_at space.high (suc k)) (sym is) high)
+    at k lt =
+        elim (cases_order k (after - 1)) [
+          | inl here ↦
+              let low : byte_at space.low (after - 1) ≤ byte_at code (after - 1) = (bytes (after - 1) (omega arith)).0 in
+              subst (λ j. (byte_at space.low j ≤ byte_at number j) × (byte_at number j ≤ byte_at space.high j)) (sym here) (omega arith, to)
+          | inr (inl last) ↦
+              let (low, high) = full k last in
+              let byte : byte_at number k < 256 = mod-lt (number / 256 ^ k) (omega arith) in
+              (omega (arith, low), omega (arith, high, byte))
+          | inr (inr front) ↦
+              let is : byte_at number k ≡ byte_at code k = same_byte number code after k same some (omega arith) (omega arith) (omega arith) in
+              let (low, high) = bytes k lt in
+              (subst (λ b. byte_at space.low k ≤ b) (sym is) low, subst (λ b. b ≤ byte_at space.high k) (sym is) high)
+        ]
 
 -- an element of a list that clauses see by f
 pub any_at : {A B : Type 0} (f : A → B) (P : B → Type 0) (xs : List A) (k : ℕ) (d : A) → k < length xs → P (f (get_or xs k d)) → Any P (map f xs)
@@ -106,20 +94,47 @@ module _ (layers : List Layer) (first : List ℕ) (len number last : ℕ) (is_le
       let below : big_endian (take count bytes) < 256 ^ count = subst (λ k. big_endian (take count bytes) < 256 ^ k) taken (number_below (take count bytes) (All-take (λ b. b < 256) count bytes strings)) in
       whole.1 count (omega arith) (omega arith, (begins.1.0, begins.1.1, below, subst (IsInside layers count) (sym front) inside))
 
-  -- the first is whole, and the further codes are inside ranges and have the same bytes but the last
-  pub all_whole : (count : ℕ) → IsShortestInside layers first count → len ≤ count → ((other : ℕ) → number ≤ other → other ≤ last → other / 256 ≡ number / 256) → ((other : ℕ) → number < other → other ≤ last → IsInside layers len other)
-      → (bytes : List ℕ) → IsString bytes → length bytes ≡ len → number ≤ big_endian bytes → big_endian bytes ≤ last → IsWhole layers bytes
-  all_whole count shortest most same inside bytes strings long from to =
-      let all : count ≡ length first = (let within = shortest.0.0 in omega (arith, are.count)) in
-      let whole : IsWhole layers first = subst (IsShortestInside layers first) all shortest in
-      elim (cases_lt number (big_endian bytes)) [
-        | inl later ↦ whole_too layers first bytes are.string strings (long ∙ sym are.count) 1 whole (same (big_endian bytes) from to ∙ ap (λ n. n / 256) (sym are.writes))
-            (subst (λ n. IsInside layers n (big_endian bytes)) (sym long) (inside (big_endian bytes) later to)) (λ m near fewer. absurd (omega arith))
-        | inr here ↦ subst (IsWhole layers) (sym (at_first bytes strings long (omega arith))) whole
-      ]
+-- ---- whole codes by their numbers
+pub number_whole : (layers : List Layer) (bytes : List ℕ) → IsString bytes → IsWhole layers bytes → IsWholeNumber layers (length bytes) (big_endian bytes)
+number_whole layers bytes are whole = record {
+  inside = whole_inside layers bytes whole;
+  fronts = λ left some less inside.
+      let m = length bytes - left in
+      let (one, four) = whole_length layers bytes whole in
+      let back : length bytes - m ≡ left = omega arith in
+      let front : big_endian (take m bytes) ≡ big_endian bytes / 256 ^ left = front_number bytes m are (omega arith) ∙ ap (λ k. big_endian bytes / 256 ^ k) back in
+      let taken : length (take m bytes) ≡ m = length-take-le m bytes (omega arith) in
+      let below : big_endian (take m bytes) < 256 ^ m = subst (λ k. big_endian (take m bytes) < 256 ^ k) taken (number_below (take m bytes) (All-take (λ b. b < 256) m bytes are)) in
+      whole.1 m (omega arith) (omega arith, (omega arith, omega arith, below, subst (IsInside layers m) (sym front) inside));
+}
 
-pub still_fits : (len : CodeLength) (number last : ℕ) → last / 256 ≡ number / 256 → number < 256 ^ length_of len → last < 256 ^ length_of len
-still_fits One number last same fits = omega arith
-still_fits Two number last same fits = omega arith
-still_fits Three number last same fits = omega arith
-still_fits Four number last same fits = omega arith
+pub whole_number : (layers : List Layer) (bytes : List ℕ) → IsString bytes → IsCodeLength (length bytes) → IsWholeNumber layers (length bytes) (big_endian bytes) → IsWhole layers bytes
+whole_number layers bytes are (one, four) is =
+    let all : take (length bytes) bytes ≡ bytes = take_all (length bytes) bytes (omega arith) in (
+      (omega arith, (one, four, subst (λ (l : List ℕ). big_endian l < 256 ^ length bytes) (sym all) (number_below bytes are), subst (λ (l : List ℕ). IsInside layers (length bytes) (big_endian l)) (sym all) is.inside)),
+      λ m fewer begins.
+          let some = begins.1.0 in
+          let front = front_number bytes m are (omega arith) in
+          let back : length bytes - (length bytes - m) ≡ m = omega arith in
+          is.fronts (length bytes - m) (omega arith) (omega arith) (subst (λ n. IsInside layers n (big_endian bytes / 256 ^ (length bytes - m))) (sym back) (subst (IsInside layers m) front begins.1.3)),
+    )
+
+-- a number with the same bytes before the last ones, so many, and with no front inside that has some of these
+pub whole_as : (layers : List Layer) (len after number other : ℕ) → after ≤ len → other / 256 ^ after ≡ number / 256 ^ after → IsWholeNumber layers len number → IsInside layers len other → ((left : ℕ) → 1 ≤ left → left < after → IsInside layers (len - left) (other / 256 ^ left) → ⊥) → IsWholeNumber layers len other
+whole_as layers len after number other le same is inside none = record {
+  inside = inside;
+  fronts = λ left some less there.
+      elim (cases_lt left after) [
+        | inl few ↦ none left some few there
+        | inr many ↦ is.fronts left some less (subst (IsInside layers (len - left)) (same_without other number after left many same) there)
+      ];
+}
+
+pub still_fits : (len after number last : ℕ) → after ≤ len → last / 256 ^ after ≡ number / 256 ^ after → number < 256 ^ len → last < 256 ^ len
+still_fits len after number last le same fits =
+    let sum : (len - after) + after ≡ len = omega arith in
+    let power : 256 ^ len ≡ 256 ^ (len - after) * 256 ^ after = ap (λ k. 256 ^ k) (sym sum) ∙ pow-add 256 (len - after) after in
+    let below : number / 256 ^ after < 256 ^ (len - after) = div_below number (256 ^ after) (256 ^ (len - after)) (one-le-pow after 256 (omega arith)) (subst (λ p. number < p) power fits) in
+    let most : (last / 256 ^ after + 1) * 256 ^ after ≤ 256 ^ (len - after) * 256 ^ after = mul-le-mul_right (256 ^ after) (omega (arith, below, same)) in
+    let less : last < last / 256 ^ after * 256 ^ after + 256 ^ after = lt-div-mul-add (one-le-pow after 256 (omega arith)) in
+    omega (arith, most, less, power)

@@ -1,7 +1,9 @@
 -- Private aid: codes in a row that are whole, or are not.
-use Rattle.std.specs.Prelude.{◌≡◌, ℕ, ◌/◌, ◌^◌, ◌≤◌, ◌⊎◌, List, length}
+use Rattle.std.specs.Prelude.{◌≡◌, ℕ, ◌-◌, ◌/◌, ◌^◌, ◌<◌, ◌≤◌, ◌⊎◌, List, length}
 use Rattle.std.specs.Bool.{MatchBool}
+use Rattle.cmap_codespaces.specs.CodesWithin.{byte_at}
 use Rattle.cmap_values.specs.BigEndian.{big_endian}
+use Rattle.cmap_values.specs.Files.{Codespace}
 use Rattle.cmap_layers.specs.Layers.{Layer}
 use Rattle.cmap_encode.specs.Codes.{IsWhole}
 use Rattle.cmap_encode.specs.Encodings.{IsString}
@@ -16,3 +18,12 @@ AreWhole layers len first stretch = (bytes : List ℕ) → IsString bytes → le
 -- without its last bytes, so many, a number is what another one is, or lies in a codespace range as a code of len bytes
 abbrev pub HasFrontInside : List Layer → ℕ → ℕ → ℕ → ℕ → Type 0
 HasFrontInside layers len after other number = (number / 256 ^ after ≡ other / 256 ^ after) ⊎ IsInside layers len (number / 256 ^ after)
+
+-- the number is a whole code of len bytes: it lies in a codespace range, and without any last bytes it doesn't
+pub record IsWholeNumber (layers : List Layer) (len number : ℕ) : Type 0 where
+  pub inside : IsInside layers len number
+  pub fronts : (left : ℕ) → 1 ≤ left → left < len → IsInside layers (len - left) (number / 256 ^ left) → ⊥
+
+-- the range has any last bytes, so many
+abbrev pub IsFull : Codespace → ℕ → Type 0
+IsFull space count = (k : ℕ) → k < count → (byte_at space.low k ≡ 0) × (byte_at space.high k ≡ 255)

@@ -56,7 +56,7 @@ pub(crate) fn last_with_front(number: u32, after: u8) -> u32
 }
 
 /// Whether a codespace range has codes of this length with the same bytes before the last `after` ones.
-fn may_begin(encoding: &Layers, code: Code, after: u8) -> bool
+pub(crate) fn may_begin(encoding: &Layers, code: Code, after: u8) -> bool
     requires { after ≤ 3 }
     ensures { IsTrue result ↔ MayBegin encoding.now (length_of code.len) code.number after }
 {

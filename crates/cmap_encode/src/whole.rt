@@ -1,14 +1,14 @@
 //! Codes in a row that are whole, or are not.
 
-ghost use Rattle.std.specs.Prelude.{◌≡◌, ◌-◌, ◌*◌, ◌/◌, ◌^◌, ◌<◌, ◌≤◌, ℕ, Any, IsTrue, map};
-ghost use Rattle.cmap_codespaces.specs.CodesWithin.{IsWithin};
+ghost use Rattle.std.specs.Prelude.{◌≡◌, ◌-◌, ◌*◌, ◌/◌, ◌^◌, ◌<◌, ◌≤◌, ℕ, Any, IsTrue, false, map, true};
+ghost use Rattle.cmap_codespaces.specs.CodesWithin.{IsWithin, byte_at};
 ghost use Rattle.cmap_values.specs.CodeLengths.{length_of};
 ghost use Rattle.cmap_values.specs.DeclarationsSeen.{codespace_seen};
 ghost use Rattle.cmap_encode.specs.Outside.{IsInside};
-ghost use Rattle.cmap_encode.specs.WholeSeen.{AreWhole, HasFrontInside};
+ghost use Rattle.cmap_encode.specs.WholeSeen.{AreWhole, HasFrontInside, IsFull, IsWholeNumber};
 
 use crate::code::Code;
-use crate::outside::{begins_so, byte_of, last_with_front, outside_until};
+use crate::outside::{begins_so, byte_of, last_with_front, may_begin, outside_until};
 use cmap_layers::layers::Layers;
 use cmap_values::code_length::CodeLength;
 use cmap_values::declarations::Codespace;
@@ -44,7 +44,7 @@ pub(crate) fn whole_stretch(encoding: &Layers, code: Code) -> WholeStretch
     }
     WholeStretch {
         are_whole: true,
-        last: inside_until(encoding, code),
+        last: whole_until(encoding, code),
     }
 }
 
@@ -59,7 +59,7 @@ fn shadowed_until(encoding: &Layers, code: Code, len: CodeLength) -> u32
 {
     let after = code.len.count() - len.count();
     let number = without_last(code.number, after);
-    let last = inside_until(encoding, Code { number, len });
+    let last = inside_until(encoding, Code { number, len }, 1);
     last_with_front(code.number.max(with_zeros(last, after)), after)
 }
 
@@ -90,17 +90,79 @@ fn with_zeros(number: u32, count: u8) -> u32
     }
 }
 
+/// The last code up to which all codes after this one, which is whole, are known to be whole.
+fn whole_until(encoding: &Layers, code: Code) -> u32
+    requires fits { code.number < 256 ^ length_of code.len }
+    requires whole { IsWholeNumber encoding.now (length_of code.len) code.number }
+    ensures within { code.number ≤ result }
+    ensures fits { result < 256 ^ length_of code.len }
+    ensures whole { (number : ℕ) → code.number ≤ number → number ≤ result
+        → IsWholeNumber encoding.now (length_of code.len) number }
+{
+    let mut last = code.number;
+    for after in 1..code.len.count() + 1 {
+        last = last.max(whole_with_front(encoding, code, after));
+    }
+    last
+}
+
+/// The same of the codes with the same bytes before the last `after` ones.
+fn whole_with_front(encoding: &Layers, code: Code, after: u8) -> u32
+    requires after { (1 ≤ after) × (after ≤ length_of code.len) }
+    requires fits { code.number < 256 ^ length_of code.len }
+    requires whole { IsWholeNumber encoding.now (length_of code.len) code.number }
+    ensures within { code.number ≤ result }
+    ensures fits { result < 256 ^ length_of code.len }
+    ensures whole { (number : ℕ) → code.number ≤ number → number ≤ result
+        → IsWholeNumber encoding.now (length_of code.len) number }
+{
+    if front_may_be_inside(encoding, code, after) {
+        return code.number;
+    }
+    inside_until(encoding, code, after)
+}
+
+/// Whether a codespace range may have fronts of codes with the same bytes before the last `after` ones, of
+/// which the fronts have some.
+fn front_may_be_inside(encoding: &Layers, code: Code, after: u8) -> bool
+    requires { (1 ≤ after) × (after ≤ length_of code.len) }
+    ensures { result ≡ false → (number left : ℕ) → number / 256 ^ after ≡ code.number / 256 ^ after
+        → 1 ≤ left → left < after
+        → IsInside encoding.now (length_of code.len - left) (number / 256 ^ left) → ⊥ }
+{
+    for left in 1..after {
+        if may_begin_without(encoding, code, left, after) {
+            return true;
+        }
+    }
+    false
+}
+
+/// The same by the fronts without the last `left` bytes.
+fn may_begin_without(encoding: &Layers, code: Code, left: u8, after: u8) -> bool
+    requires { (1 ≤ left) × (left < after) × (after ≤ length_of code.len) }
+    ensures { result ≡ false → (number : ℕ) → number / 256 ^ after ≡ code.number / 256 ^ after
+        → IsInside encoding.now (length_of code.len - left) (number / 256 ^ left) → ⊥ }
+{
+    let Some(len) = CodeLength::of(code.len.count() - left) else {
+        return true;
+    };
+    let number = without_last(code.number, left);
+    may_begin(encoding, Code { number, len }, after - left)
+}
+
 /// The last code up to which all codes after this one lie in a codespace range, of those with the same
-/// bytes but the last.
-fn inside_until(encoding: &Layers, code: Code) -> u32
+/// bytes before the last `after` ones.
+fn inside_until(encoding: &Layers, code: Code, after: u8) -> u32
+    requires { (1 ≤ after) × (after ≤ length_of code.len) }
     ensures within { code.number ≤ result }
     ensures same { (number : ℕ) → code.number ≤ number → number ≤ result
-        → number / 256 ≡ code.number / 256 }
+        → number / 256 ^ after ≡ code.number / 256 ^ after }
     ensures inside { (number : ℕ) → code.number < number → number ≤ result
         → IsInside encoding.now (length_of code.len) number }
 {
     for layer in encoding.as_slice() {
-        let last = last_in(layer.codespaces(), code);
+        let last = last_in(layer.codespaces(), code, after);
         if code.number < last {
             return last;
         }
@@ -108,30 +170,65 @@ fn inside_until(encoding: &Layers, code: Code) -> u32
     code.number
 }
 
-/// The same by codespace ranges in a row: the first that contains the code.
-fn last_in(spaces: &[Codespace], code: Code) -> u32
+/// The same by codespace ranges in a row: the first that contains the code, and any last bytes.
+fn last_in(spaces: &[Codespace], code: Code, after: u8) -> u32
+    requires { (1 ≤ after) × (after ≤ length_of code.len) }
     ensures within { code.number ≤ result }
     ensures same { (number : ℕ) → code.number ≤ number → number ≤ result
-        → number / 256 ≡ code.number / 256 }
+        → number / 256 ^ after ≡ code.number / 256 ^ after }
     ensures inside { (number : ℕ) → code.number < number → number ≤ result
         → Any (λ space. IsWithin space number (length_of code.len)) (map codespace_seen spaces.now) }
 {
     for space in spaces {
-        if begins_so(space, code, 0) {
-            return last_within(space, code);
+        if begins_so(space, code, 0) && is_full(space, after - 1) {
+            return last_within(space, code, after);
         }
     }
     code.number
 }
 
-/// The last code of a codespace range that contains this code, of those with the same bytes but the last.
-fn last_within(space: &Codespace, code: Code) -> u32
-    requires { IsWithin (codespace_seen space.now) code.number (length_of code.len) }
+/// Whether a codespace range has any last bytes, so many.
+fn is_full(space: &Codespace, count: u8) -> bool
+    requires { count ≤ 3 }
+    ensures { result ≡ true → IsFull (codespace_seen space.now) count }
+{
+    for place in 0..count {
+        if byte_of(space.low, place) != 0 || byte_of(space.high, place) != 0xFF {
+            return false;
+        }
+    }
+    true
+}
+
+/// The last code of a codespace range that contains this code, and any last bytes but for one, of those
+/// with the same bytes before the last `after` ones.
+fn last_within(space: &Codespace, code: Code, after: u8) -> u32
+    requires after { (1 ≤ after) × (after ≤ length_of code.len) }
+    requires full { IsFull (codespace_seen space.now) (after - 1) }
+    requires within { IsWithin (codespace_seen space.now) code.number (length_of code.len) }
     ensures within { code.number ≤ result }
     ensures same { (number : ℕ) → code.number ≤ number → number ≤ result
-        → number / 256 ≡ code.number / 256 }
+        → number / 256 ^ after ≡ code.number / 256 ^ after }
     ensures inside { (number : ℕ) → code.number ≤ number → number ≤ result
         → IsWithin (codespace_seen space.now) number (length_of code.len) }
 {
-    code.number - code.number % 0x100 + byte_of(space.high, 0)
+    last_with_byte(code.number, after, byte_of(space.high, after - 1))
+}
+
+/// The last number with the same bytes before the last `after` ones, and with this byte then.
+fn last_with_byte(number: u32, after: u8, byte: u32) -> u32
+    requires after { (1 ≤ after) × (after ≤ 4) }
+    requires byte { (byte_at number (after - 1) ≤ byte) × (byte < 256) }
+    ensures within { number ≤ result }
+    ensures same { (other : ℕ) → number ≤ other → other ≤ result
+        → other / 256 ^ after ≡ number / 256 ^ after }
+    ensures between { (other : ℕ) → number ≤ other → other ≤ result
+        → (byte_at number (after - 1) ≤ byte_at other (after - 1)) × (byte_at other (after - 1) ≤ byte) }
+{
+    match after {
+        1 => number - number % 0x100 + byte,
+        2 => number - number % 0x1_0000 + byte * 0x100 + 0xFF,
+        3 => number - number % 0x100_0000 + byte * 0x1_0000 + 0xFFFF,
+        _ => byte * 0x100_0000 + 0xFF_FFFF,
+    }
 }

@@ -81,11 +81,7 @@ pub fn push_string_json(
     json::push_line(alloc, out, &object)
 }
 
-fn string_object(
-    alloc: Global,
-    text: &str,
-    encoded: &Encoded,
-) -> Result<Value, AllocError> {
+fn string_object(alloc: Global, text: &str, encoded: &Encoded) -> Result<Value, AllocError> {
     let mut object = Object::new(alloc);
     object.set_text("text", text);
     match &encoded.string {

@@ -56,7 +56,11 @@ struct Codes {
 }
 
 /// Whether there are codes that an argument asks for.
-pub fn is_found(alloc: Global, font: &Extractor<'_>, wanted: Wanted<'_>) -> Result<bool, AllocError> {
+pub fn is_found(
+    alloc: Global,
+    font: &Extractor<'_>,
+    wanted: Wanted<'_>,
+) -> Result<bool, AllocError> {
     Ok(!codes_of(alloc, font, wanted)?.is_empty())
 }
 
@@ -121,7 +125,11 @@ fn codes_object(
 }
 
 /// The codes that are asked for, each range as a list of its two ends.
-fn code_lists(alloc: Global, font: &Extractor<'_>, wanted: Wanted<'_>) -> Result<Vec<Value>, AllocError> {
+fn code_lists(
+    alloc: Global,
+    font: &Extractor<'_>,
+    wanted: Wanted<'_>,
+) -> Result<Vec<Value>, AllocError> {
     let mut ranges = Vec::new(alloc);
     for codes in &codes_of(alloc, font, wanted)? {
         ranges.push(range_list(alloc, *codes)?)?;

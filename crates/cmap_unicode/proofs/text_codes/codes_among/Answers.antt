@@ -10,9 +10,9 @@ pub returns-then-row : goal.returns-then-row
 returns-then-row c = λ texts are_filled are.
     let some = filled texts c.args.text.now c.args.row.now c.args.range are c.requires.within c.in-Some.begin c.in-Some.is are_filled in
     counting texts c.args.text.now c.args.row.now c.args.range are c.requires.within c.in-Some.begin c.in-Some.is c.if-row.true c.code_among.result
-        (rw (c.deref.ensures.value, c.in_ok-begin.ensures) at c.code_among.ensures some)
+    (rw (c.deref.ensures.value, c.in_ok-begin.ensures) at c.code_among.ensures some)
 
 pub returns : goal.returns
 returns c = λ texts are_filled are.
     subst (AreAmong (Spells texts c.args.text.now) c.args.range) (sym (rw (c.eq.ensures, c.as_slice.ensures.value, c.in_ok-begin.ensures) at c.then_some.ensures))
-        (alike texts c.args.text.now c.args.row.now c.args.range are c.requires.within c.in-Some.begin c.in-Some.is c.if-row.false c.requires.filled)
+    (alike texts c.args.text.now c.args.row.now c.args.range are c.requires.within c.in-Some.begin c.in-Some.is c.if-row.false c.requires.filled)
