@@ -5,7 +5,8 @@
     with hayro_cmap.CMap.open("90ms-RKSJ-H") as cmap:
         print([code.cid for code in cmap.decode(bytes.fromhex("93FA967B8CEA"))])
 
-`to_unicode`, `CMapWriter` and `CMap.write` write such files.
+An `Extractor` finds the texts of the strings of a font, and the strings of texts. `to_unicode`, `CMapWriter` and
+`CMap.write` write CMap files.
 
 A file may come from anyone: each call returns on any bytes. What is refused is a `Refused`, and MemoryError says that
 memory ran out. The calls are those of the C library of this project, which has to be found: the path in the

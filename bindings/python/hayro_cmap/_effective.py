@@ -92,6 +92,10 @@ def text_at(text: str, offset: int) -> str:
 
 def by_length(first: int, last: int, codespaces) -> Iterator[Tuple[int, int, int]]:
     """Codes in a row, cut where the length of their bytes changes."""
+    lengths = {it.byte_len for it in codespaces}
+    if len(lengths) == 1 and last < 256 ** max(lengths):
+        yield first, last, max(lengths)
+        return
     edges = {0} | {it.low & 0xFF for it in codespaces} | {(it.high & 0xFF) + 1 for it in codespaces}
     cuts = sorted(
         {first}

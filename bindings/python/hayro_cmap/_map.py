@@ -157,8 +157,9 @@ class Layer:
     @functools.cached_property
     def texts(self) -> Tuple[TextRange, ...]:
         """Its declarations of texts, in the order of the file."""
-        declared = enumerate(self._declared_texts())
-        return tuple(TextRange(it.first, it.last, self._text(index)) for index, it in declared)
+        declared = self._declared_texts()
+        texts = self._texts_of(len(declared), max((it.units for it in declared), default=0))
+        return tuple(TextRange(it.first, it.last, text) for it, text in zip(declared, texts))
 
     def _declared_texts(self):
         """Its declarations of texts, without these."""
@@ -171,10 +172,14 @@ class Layer:
             for it in self._cmap._listed(call, DeclaredCids, self._index, byte_len)
         )
 
-    def _text(self, index):
-        """The text of the declaration at an index."""
-        units = self._cmap._listed(library.hayro_cmap_text_units, c_uint16, self._index, index)
-        return struct.pack(f"<{len(units)}H", *units).decode("utf-16-le", "surrogatepass")
+    def _texts_of(self, count, most):
+        """The texts of so many declarations, each of at most `most` units."""
+        room, needed, texts = (c_uint16 * (most + 1))(), c_size_t(), []
+        with self._cmap._held() as handle:
+            for index in range(count):
+                checked(library.hayro_cmap_text_units(handle, self._index, index, room, len(room), needed))
+                texts.append(string_at(room, 2 * needed.value).decode("utf-16-le", "surrogatepass"))
+        return texts
 
 
 class CMap(Owned):

@@ -16,7 +16,7 @@ PACKAGES = str(Path(hayro_cmap.__file__).parent.parent)
 
 def run(*words, **environment):
     """Runs Python with the package that is tested."""
-    environment = os.environ | {"PYTHONPATH": PACKAGES, "PYTHONIOENCODING": "utf-8"} | environment
+    environment = {**os.environ, "PYTHONPATH": PACKAGES, "PYTHONIOENCODING": "utf-8", **environment}
     return subprocess.run([sys.executable, *words], capture_output=True, text=True, encoding="utf-8", env=environment)
 
 

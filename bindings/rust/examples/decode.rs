@@ -52,9 +52,8 @@ fn message_of(name: CMapName<'_>, refusal: &Refusal) -> String {
 
 /// The map from the CIDs of a map's collection to Unicode, if there is a file of it.
 fn texts_of(folder: &Path, map: &CMap) -> Result<Option<CMap>, String> {
-    let collection = map.metadata().character_collection.as_ref();
-    match collection.and_then(|collection| collection.family.ucs2_cmap()) {
-        Some(name) => map_of(folder, name),
+    match &map.metadata().character_collection {
+        Some(collection) => map_of(folder, CMapName::from_bytes(&collection.family.ucs2_name())),
         None => Ok(None),
     }
 }

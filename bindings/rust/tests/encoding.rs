@@ -2,7 +2,7 @@
 
 use hayro_cmap::{CMap, CMapBuilder, EncodeError, Encoder, Extractor};
 use std::path::Path;
-use std::thread;
+use std::{fs, thread};
 
 /// A font of Identity-H, whose codes 1, 2 and so on have these texts.
 fn font(texts: &[&str]) -> Extractor {
@@ -60,19 +60,22 @@ fn threads_share_an_encoder() {
 
 #[test]
 fn texts_of_predefined_maps_are_encoded() {
-    if !Path::new("/usr/share/poppler/cMap").is_dir() {
+    let folder = Path::new("/usr/share/poppler/cMap");
+    if !folder.is_dir() {
         eprintln!("skipped: poppler-data isn't installed");
         return;
     }
     let texts = [
-        ("90ms-RKSJ-H", "日本語", &b"\x93\xFA\x96\x7B\x8C\xEA"[..]),
-        ("GBK-EUC-H", "中文", b"\xD6\xD0\xCE\xC4"),
-        ("KSCms-UHC-H", "한국어", b"\xC7\xD1\xB1\xB9\xBE\xEE"),
-        ("ETen-B5-H", "繁體", b"\xC1\x63\xC5\xE9"),
+        ("Adobe-Japan1", "90ms-RKSJ-H", "日本語", &b"\x93\xFA\x96\x7B\x8C\xEA"[..]),
+        ("Adobe-GB1", "GBK-EUC-H", "中文", b"\xD6\xD0\xCE\xC4"),
+        ("Adobe-Korea1", "KSCms-UHC-H", "한국어", b"\xC7\xD1\xB1\xB9\xBE\xEE"),
+        ("Adobe-CNS1", "ETen-B5-H", "繁體", b"\xC1\x63\xC5\xE9"),
     ];
-    for (name, text, string) in texts {
-        let encoding = CMap::open_predefined(name).unwrap().unwrap();
-        let font = Extractor::over_predefined(encoding, None).unwrap();
+    for (collection, name, text, string) in texts {
+        let read = |name: &str| fs::read(folder.join(collection).join(name)).unwrap();
+        let encoding = CMap::parse(&read(name), |_| None).unwrap();
+        let texts = read(&format!("{collection}-UCS2"));
+        let font = Extractor::over(encoding, None, |_| Some(&texts)).unwrap();
         assert_eq!(font.encoder().encode(text).unwrap(), string);
         assert_eq!(font.text(string), text);
     }
