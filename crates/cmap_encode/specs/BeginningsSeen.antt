@@ -1,12 +1,13 @@
 -- Private aid: fronts that may begin a text.
-use Rattle.std.specs.Prelude.{ℕ, ◌%◌, Bool, false, true, List, [], ◌∷◌, slice_get, unwrap_or}
+use Rattle.std.specs.Prelude.{ℕ, ◌%◌, Bool, false, true, List, [], ◌∷◌, Option, Some, None, length, nat_le, slice_get}
 use Rattle.cmap_encode.specs.declared.beginnings.Beginnings.{Beginnings}
 
--- the mark of a character
-abbrev pub may_begin_with : Beginnings → ℕ → Bool
-may_begin_with all first = unwrap_or (slice_get all.marks.items (first % 4096)) false
+-- a front of so many characters is no longer than the longest one
+abbrev pub reaches : ℕ → Option ℕ → Bool
+reaches count None = false
+reaches count (Some longest) = nat_le count longest
 
--- a front is empty, or its first character is marked
+-- a front is empty, or no longer than one that begins with a character at the same place
 abbrev pub may_begin : Beginnings → List ℕ → Bool
 may_begin all [] = true
-may_begin all (first ∷ front) = may_begin_with all first
+may_begin all (first ∷ front) = reaches (length (first ∷ front)) (slice_get all.reach.items (first % 4096))

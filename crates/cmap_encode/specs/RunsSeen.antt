@@ -32,7 +32,7 @@ pub record AreRunsByFront (all : RunsByFront) : Type 0 where
   pub apart : (front other : List ℕ) (number : ℕ) → number_of all front ≡ Some number → number_of all other ≡ Some number → front ≡ other
   pub longest : (front : List ℕ) (number : ℕ) → number_of all front ≡ Some number → length front < all.longest
   pub beginnings : (front : List ℕ) (number : ℕ) → number_of all front ≡ Some number → may_begin all.beginnings front ≡ true
-  pub marks : length all.beginnings.marks.items ≡ 4096
+  pub places : length all.beginnings.reach.items ≡ 4096
   pub runs : All (λ (list : Vec CodeRun). All IsCodeRun list.items) all.lists.items
 
 abbrev pub HasNoRuns : RunsByFront → Type 0

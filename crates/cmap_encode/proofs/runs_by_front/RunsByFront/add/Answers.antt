@@ -28,7 +28,7 @@ returns-clause-are c =
       apart = is.apart;
       longest = is.longest;
       beginnings = is.beginnings;
-      marks = is.marks;
+      places = is.places;
       runs = All-set AreRuns old number c.push.new.self added is.runs;
     }
 

@@ -43,7 +43,7 @@ returns-clause-are c =
             | inl first ↦ subst (λ f. may_begin c.add.new.self f ≡ true) (sym first.0) (subst (λ f. may_begin c.add.new.self f ≡ true) c.as_slice-2.ensures.value c.add.ensures.front)
             | inr before ↦ c.add.ensures.more front (c.requires.beginnings front number before)
           ];
-      marks = c.add.ensures.count;
+      places = c.add.ensures.count;
       runs = All-same AreRuns c.push.new.self.items _ c.in_ok-push.ensures.items (All-push AreRuns old.lists.items c.new.result c.requires.runs (subst (All IsCodeRun) (sym c.new.ensures.items) (All-nil IsCodeRun)));
     }
 
