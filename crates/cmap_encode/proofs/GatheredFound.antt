@@ -1,12 +1,14 @@
 -- The first code of a text, of those that runs give.
-use Rattle.std.proofs.Common.{◌≡◌, ℕ, zero, suc, ◌-◌, ◌<◌, ◌⊎◌, List, [], ◌∷◌, ◌++◌, length, take, ◌^◌, Option, Some, None, refl, sym, ap, ◌∙◌, subst, inl, inr, arith, length-append}
-use Rattle.std.specs.Prelude.{All, Any, IsSomeAnd, MatchOption, option_and_then, option_map, slice_get}
+use Rattle.std.proofs.Common.{◌≡◌, ℕ, zero, suc, ◌-◌, ◌<◌, ◌⊎◌, List, [], ◌∷◌, ◌++◌, length, take, ◌^◌, Bool, true, false, Option, Some, None, refl, sym, ap, ◌∙◌, subst, inl, inr, arith, length-append}
+use Rattle.std.specs.Prelude.{All, Any, IsSomeAnd, MatchOption, if◌then◌else◌, option_and_then, option_map, slice_get}
 use Rattle.std.specs.Global.{Vec}
 use Rattle.std.specs.List.{AllZip}
 use Rattle.std.proofs.lemmas.List.{take_at}
+use Rattle.std.proofs.lemmas.Bool.{false≢true}
 use Rattle.std.proofs.lemmas.Option.{none-some, same_Some}
 use Rattle.std.proofs.lemmas.Slice.Zip.{AllZip-left}
 use Rattle.cmap_unicode.specs.TextsOfCodes.{Font}
+use Rattle.cmap_encode.specs.BeginningsSeen.{may_begin}
 use Rattle.cmap_encode.specs.Codes.{IsBefore, IsCodeOf, IsFirstAmong, code_bytes}
 use Rattle.cmap_encode.specs.Encodings.{IsNotAfter, IsString}
 use Rattle.cmap_encode.specs.FirstsSeen.{AreFirsts, Gives, IsCodeRun, IsFirstGiven, first_at}
@@ -62,10 +64,10 @@ none_given key bytes (k, run, within, is, gives) = omega arith
 
 module _ (all : RunsByFront) (firsts : Vec (List CodeRun)) (are : AreRunsByFront all) (zip : AllZip (λ (list : Vec CodeRun). AreFirsts list.items) all.lists.items firsts.items) where
   abbrev pub index : Index
-  index = record { numbers = all.numbers; firsts = firsts; longest = all.longest }
+  index = record { numbers = all.numbers; firsts = firsts; beginnings = all.beginnings; longest = all.longest }
 
   first_after : (front : List ℕ) (last : ℕ) → IsFirstGiven (runs_of all front) last (found_after index front last)
-  first_after front last = by_number (number_of all front) refl
+  first_after front last = by_beginning (may_begin all.beginnings front) refl
     where
       by_list : (list : Option (Vec CodeRun)) (found : Option (List CodeRun)) → (list ≡ None → ⊥) → MatchOption list (Unit {0}) (λ runs. IsSomeAnd found (AreFirsts runs.items)) → IsFirstGiven (items_of list) last (option_and_then (λ firsts. option_map code_bytes (first_at firsts last)) found)
       by_list None found some is = absurd (some refl)
@@ -75,6 +77,14 @@ module _ (all : RunsByFront) (firsts : Vec (List CodeRun)) (are : AreRunsByFront
       by_number : (number : Option ℕ) → number_of all front ≡ number → IsFirstGiven (items_of (option_and_then (slice_get all.lists.items) number)) last (option_and_then (λ firsts. option_map code_bytes (first_at firsts last)) (option_and_then (slice_get firsts.items) number))
       by_number None has = none_given last
       by_number (Some number) has = by_list (slice_get all.lists.items number) (slice_get firsts.items number) (got_within all.lists.items number (are.within front number has)) (AllZip-left _ all.lists.items firsts.items zip number)
+
+      none_begun : (number : Option ℕ) → number_of all front ≡ number → may_begin all.beginnings front ≡ false → IsFirstGiven (items_of (option_and_then (slice_get all.lists.items) number)) last None
+      none_begun None has not = none_given last
+      none_begun (Some number) has not = absurd (false≢true (sym not ∙ are.beginnings front number has))
+
+      by_beginning : (begins : Bool) → may_begin all.beginnings front ≡ begins → IsFirstGiven (runs_of all front) last (if begins then option_and_then (λ firsts. option_map code_bytes (first_at firsts last)) (option_and_then (slice_get firsts.items) (number_of all front)) else None)
+      by_beginning true is = by_number (number_of all front) refl
+      by_beginning false is = none_begun (number_of all front) refl is
 
   found_at_end : (front : List ℕ) (last : ℕ) → found_in index (front ++ last ∷ []) ≡ found_after index front last
   found_at_end front last =
@@ -102,11 +112,15 @@ module _ (all : RunsByFront) (firsts : Vec (List CodeRun)) (are : AreRunsByFront
       )
 
   longest_by : (front : List ℕ) (last : ℕ) (bytes : List ℕ) → found_after index front last ≡ Some bytes → length front < all.longest
-  longest_by front last bytes found = by_number (number_of all front) refl found
+  longest_by front last bytes found = by_beginning (may_begin all.beginnings front) found
     where
       by_number : (number : Option ℕ) → number_of all front ≡ number → option_and_then (λ firsts. option_map code_bytes (first_at firsts last)) (option_and_then (slice_get firsts.items) number) ≡ Some bytes → length front < all.longest
       by_number None has found = absurd (none-some bytes found)
       by_number (Some number) has found = are.longest front number has
+
+      by_beginning : (begins : Bool) → (if begins then option_and_then (λ firsts. option_map code_bytes (first_at firsts last)) (option_and_then (slice_get firsts.items) (number_of all front)) else None) ≡ Some bytes → length front < all.longest
+      by_beginning true found = by_number (number_of all front) refl found
+      by_beginning false found = absurd (none-some bytes found)
 
   nothing_before : (front : List ℕ) (last : ℕ) → [] ≡ front ++ last ∷ [] → ⊥
   nothing_before front last same = omega (arith, ap (λ (l : List ℕ). length l) same, length-append front (last ∷ []))

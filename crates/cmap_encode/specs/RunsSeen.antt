@@ -1,5 +1,5 @@
 -- Private aid: runs of codes by their texts, or by CIDs.
-use Rattle.std.specs.Prelude.{◌≡◌, ◌↔◌, ℕ, ◌<◌, ◌≤◌, ◌⊎◌, List, [], ◌∷◌, ◌++◌, All, Any, Option, Some, None, length, option_and_then, slice_get}
+use Rattle.std.specs.Prelude.{◌≡◌, ◌↔◌, ℕ, ◌<◌, ◌≤◌, ◌⊎◌, List, [], ◌∷◌, ◌++◌, All, Any, Option, Some, None, length, true, option_and_then, slice_get}
 use Rattle.std.specs.BTreeMap.{get_by}
 use Rattle.std.specs.Cmp.Lexicographic.{slice_cmp}
 use Rattle.std.specs.Global.{Vec}
@@ -7,6 +7,7 @@ use Rattle.std.specs.Ordering.{nat_cmp}
 use Rattle.cmap_tokens.specs.Texts.{Text}
 use Rattle.cmap_unicode.specs.Characters.{characters_of}
 use Rattle.cmap_unicode.specs.CountedTexts.{text_after}
+use Rattle.cmap_encode.specs.BeginningsSeen.{may_begin}
 use Rattle.cmap_encode.specs.Codes.{code_bytes}
 use Rattle.cmap_encode.specs.FirstsSeen.{Gives, IsCodeRun, code_after}
 use Rattle.cmap_encode.specs.declared.code.Code.{Code}
@@ -30,6 +31,8 @@ pub record AreRunsByFront (all : RunsByFront) : Type 0 where
   pub within : (front : List ℕ) (number : ℕ) → number_of all front ≡ Some number → number < length all.lists.items
   pub apart : (front other : List ℕ) (number : ℕ) → number_of all front ≡ Some number → number_of all other ≡ Some number → front ≡ other
   pub longest : (front : List ℕ) (number : ℕ) → number_of all front ≡ Some number → length front < all.longest
+  pub beginnings : (front : List ℕ) (number : ℕ) → number_of all front ≡ Some number → may_begin all.beginnings front ≡ true
+  pub marks : length all.beginnings.marks.items ≡ 4096
   pub runs : All (λ (list : Vec CodeRun). All IsCodeRun list.items) all.lists.items
 
 abbrev pub HasNoRuns : RunsByFront → Type 0

@@ -31,7 +31,7 @@ impl Gathered {
         ensures { IfOk result (AreGathered (font_of font.now) 5 0) }
     {
         let mut gathered = Gathered {
-            texts: RunsByFront::new(alloc),
+            texts: RunsByFront::new(alloc)?,
             cids: Vec::new(alloc),
         };
         gathered.add_codes(alloc, font, CodeLength::One)?;

@@ -8,6 +8,7 @@ ghost use Rattle.cmap_encode.specs.Codes.{code_bytes};
 ghost use Rattle.cmap_encode.specs.FirstsSeen.{AreFirsts, IsCodeRun};
 ghost use Rattle.cmap_encode.specs.IndexSeen.{IsIndexOf, found_in};
 
+use crate::beginnings::Beginnings;
 use crate::by_cid::add_cids;
 use crate::code::Code;
 use crate::firsts::{CodeRun, Firsts};
@@ -23,6 +24,8 @@ pub(crate) struct Index {
     numbers: BTreeMap<Vec<char>, usize>,
     /// The first code of each last character.
     firsts: Vec<Firsts>,
+    /// With which characters fronts begin.
+    beginnings: Beginnings,
     /// How many characters the longest text has.
     pub(crate) longest: usize,
 }
@@ -39,6 +42,7 @@ impl Index {
         Ok(Index {
             numbers: texts.numbers,
             firsts: firsts_of(alloc, texts.lists)?,
+            beginnings: texts.beginnings,
             longest: texts.longest,
         })
     }
@@ -50,6 +54,9 @@ impl Index {
         let [front @ .., last] = text else {
             return None;
         };
+        if !self.beginnings.may_begin(front) {
+            return None;
+        }
         let number = self.numbers.get(front)?;
         self.firsts.get(*number)?.find(u32::from(*last))
     }

@@ -1,6 +1,7 @@
 //! Strings of a font that show a text, by the layers of its CMaps.
 #![tactic(auto)]
 
+mod beginnings;
 mod by_cid;
 mod code;
 mod encoder;

@@ -8,6 +8,7 @@ ghost use Rattle.cmap_values.specs.CodeLengths.{length_of};
 ghost use Rattle.cmap_encode.specs.FirstsSeen.{IsCodeRun};
 ghost use Rattle.cmap_encode.specs.RunsSeen.{AddsTexts, AreRunsByFront, HasNoRuns, number_of, runs_of};
 
+use crate::beginnings::Beginnings;
 use crate::code::Code;
 use crate::firsts::CodeRun;
 use cmap_tokens::utf16::BfString;
@@ -21,21 +22,24 @@ pub(crate) struct RunsByFront {
     /// The index in `lists` of the runs of each front.
     pub(crate) numbers: BTreeMap<Vec<char>, usize>,
     pub(crate) lists: Vec<Vec<CodeRun>>,
+    /// With which characters fronts begin.
+    pub(crate) beginnings: Beginnings,
     /// How many characters the longest text has.
     pub(crate) longest: usize,
 }
 
 impl RunsByFront {
     /// No runs.
-    pub(crate) fn new(alloc: Global) -> RunsByFront
-        ensures are { AreRunsByFront result }
-        ensures none { HasNoRuns result }
+    pub(crate) fn new(alloc: Global) -> Result<RunsByFront, AllocError>
+        ensures are { IfOk result AreRunsByFront }
+        ensures none { IfOk result HasNoRuns }
     {
-        RunsByFront {
+        Ok(RunsByFront {
             numbers: BTreeMap::new(alloc),
             lists: Vec::new(alloc),
+            beginnings: Beginnings::new(alloc)?,
             longest: 0,
-        }
+        })
     }
 
     /// Adds codes in a row for texts in a row: the first code for this text, and up to `more` codes after
@@ -91,6 +95,7 @@ impl RunsByFront {
         }
         let number = self.lists.len();
         self.longest = self.longest.max(front.len() + 1);
+        self.beginnings.add(front.as_slice());
         self.lists.push(Vec::new(alloc))?;
         self.numbers.insert(front, number)?;
         Ok(number)

@@ -27,6 +27,8 @@ returns-clause-are c =
       within = λ front other has. subst (λ n. other < n) (sym count) (is.within front other has);
       apart = is.apart;
       longest = is.longest;
+      beginnings = is.beginnings;
+      marks = is.marks;
       runs = All-set AreRuns old number c.push.new.self added is.runs;
     }
 

@@ -1,10 +1,11 @@
-use Rattle.std.proofs.Common.{◌≡◌, ◌+◌, ◌<◌, ◌∷◌, [], ℕ, List, Some, None, sym, ap, subst, ◌∙◌, arith, inl, inr, length-append}
+use Rattle.std.proofs.Common.{◌≡◌, ◌+◌, ◌<◌, ◌∷◌, [], ℕ, List, Some, None, true, sym, ap, subst, ◌∙◌, arith, inl, inr, length-append}
 use Rattle.std.specs.Prelude.{All, if◌then◌else◌, length}
 use Rattle.std.specs.Global.{Vec}
 use Rattle.std.specs.Map.{lookup}
 use Rattle.std.specs.Option.{option_copied}
 use Rattle.std.specs.Str.{bytes_eq}
 use Rattle.std.proofs.lemmas.List.Elements.{All-nil, All-push, All-same}
+use Rattle.cmap_encode.specs.BeginningsSeen.{may_begin}
 use Rattle.cmap_encode.specs.FirstsSeen.{IsCodeRun}
 use Rattle.cmap_encode.specs.RunsSeen.{number_of}
 use Rattle.cmap_encode.specs.declared.firsts.CodeRun.{CodeRun}
@@ -37,6 +38,12 @@ returns-clause-are c =
             | inl first ↦ let same = ap (λ (l : List ℕ). length l) first.0 in omega (arith, c.max-self.ensures, c.len.ensures, c.args.front.ok.0)
             | inr before ↦ let less = c.requires.longest front number before in omega (arith, c.max-self.ensures)
           ];
+      beginnings = λ front number has.
+          elim (one_of numbers old.lists.items c.requires.within c.requires.apart new c.args.front.items (none c) (found c) front number has) [
+            | inl first ↦ subst (λ f. may_begin c.add.new.self f ≡ true) (sym first.0) (subst (λ f. may_begin c.add.new.self f ≡ true) c.as_slice-2.ensures.value c.add.ensures.front)
+            | inr before ↦ c.add.ensures.more front (c.requires.beginnings front number before)
+          ];
+      marks = c.add.ensures.count;
       runs = All-same AreRuns c.push.new.self.items _ c.in_ok-push.ensures.items (All-push AreRuns old.lists.items c.new.result c.requires.runs (subst (All IsCodeRun) (sym c.new.ensures.items) (All-nil IsCodeRun)));
     }
 
