@@ -541,8 +541,8 @@ hayro_cmap_status hayro_cmap_make(const hayro_cmap_facts *facts,
  *
  * The text is written as that of hayro_cmap_make is. With HAYRO_CMAP_REFUSED no such file answers so, as
  * where in the layers the character of a text stands for a code above a CID for it; or no text says what
- * the file would; or `codes` have a length outside 1 to 4. An empty handle is HAYRO_CMAP_ABSENT. Then, and with HAYRO_CMAP_NO_MEMORY, nothing is
- * written. */
+ * the file would; or `codes` have a length outside 1 to 4. An empty handle is HAYRO_CMAP_ABSENT. Then, and
+ * with HAYRO_CMAP_NO_MEMORY, nothing is written. */
 hayro_cmap_status hayro_cmap_write(hayro_cmap *map, const hayro_cmap_codes *codes, size_t codes_len,
                                    uint8_t *room, size_t room_len, size_t *needed);
 
