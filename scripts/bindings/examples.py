@@ -233,13 +233,15 @@ def test_c_and_cpp_make_files(checks, setting):
             check_made_file(checks, setting, [program])
 
 
-def check_strings_of_texts(checks, setting, command):
+def check_strings_of_texts(checks, setting, command, **environment):
     """A command gives the string of a text by a ToUnicode CMap, or says where there is none."""
     path = setting.once(to_unicode_file)
     for text, string in ENCODED.items():
-        checks.ended(f"{command_line(command)}: {text}", run(*command, path, text), f"{string}\n")
-    checks.ended(f"{command_line(command)}: é for x", run(*command, path, "Rxx", "é"), "000100020002\n")
-    ran = run(*command, path, "Reé")
+        ran = run(*command, path, text, **environment)
+        checks.ended(f"{command_line(command)}: {text}", ran, f"{string}\n")
+    ran = run(*command, path, "Rxx", "é", **environment)
+    checks.ended(f"{command_line(command)}: é for x", ran, "000100020002\n")
+    ran = run(*command, path, "Reé", **environment)
     checks.ended(f"{command_line(command)}: a text without a string", ran, "", status=1)
     checks.same("what is said of it", ran.err, "eé: no string shows this\n")
 
@@ -249,6 +251,19 @@ def test_c_encodes_texts(checks, setting):
     """The example of an encoder, plain and with the sanitizers."""
     for program in [setting.programs.path(ENCODING), setting.programs.sanitized(ENCODING)]:
         check_strings_of_texts(checks, setting, [program])
+
+
+@needs("cargo")
+def test_rust_encodes_texts(checks, setting):
+    """The example, over the crate."""
+    check_strings_of_texts(checks, setting, [setting.crate.example("encode")])
+
+
+@needs("pip")
+def test_python_encodes_texts(checks, setting):
+    """The example, over the package as pip installs it."""
+    command = [setting.package.python, EXAMPLES / "encode.py"]
+    check_strings_of_texts(checks, setting, command, **setting.package.installed())
 
 
 @needs("gcc", "valgrind")

@@ -166,6 +166,17 @@ fn cids(alloc: Global, held: &mut &[Cid]) -> Result<Vec<Cid>, AllocError> {
     held.iter().copied().collect_in(alloc)
 }
 """),
+    ("a list of copies", """
+fn blanks(alloc: Global, count: usize) -> Result<Vec<u8>, AllocError> {
+    vec![in alloc; b' '; (2 * count) as usize]
+}
+""", """
+use crate::fallible::Vec;
+
+fn blanks(alloc: Global, count: usize) -> Result<Vec<u8>, AllocError> {
+    Vec::from_elem(alloc, b' ', (2 * count) as usize)
+}
+"""),
     ("no word of a text or a comment", """
 // requires { nothing } of `Drop`, ghost
 const TEXT: &str = "ghost use std::io; ensures { ≡ }";

@@ -27,7 +27,7 @@ def erased(path, text, paths):
     """The text of a source file as Rust. `paths` says where a crate's items are in Rust, those of `crate` and `std` too."""
     source = Source(path, text)
     for rule in (erase_models, erase_ghosts, erase_clauses, erase_attributes, erase_drop_bounds, erase_writers,
-                 erase_imports):
+                 erase_imports, plain_lists):
         rule(source)
     refuse_unknown(source)
     plain_paths(source, paths)
@@ -165,6 +165,20 @@ def erase_imports(source):
         erase_names(source, bracket, name)
         if source.word(bracket + 2) == "}":
             del source.tokens[bracket + 2], source.tokens[bracket]
+
+
+def plain_lists(source):
+    """`vec![in alloc; item; count]` is a call."""
+    for at in source.indices("vec"):
+        if not source.words(at + 1, "!", "[", "in"):
+            continue
+        end, first = source.closing(at + 2), source.find(at + 4, ";", "]")
+        second = source.find(min(first + 1, end), ";", "]")
+        if first >= end or second >= end:
+            continue
+        for index, text in zip([at, at + 1, at + 2, first, second, end], ["Vec", "::from_elem", "(", ",", ",", ")"]):
+            source.tokens[index].text = text
+        source.erase(at + 3, at + 4)
 
 
 def refuse_unknown(source):

@@ -142,6 +142,7 @@ fn encodings_report_it() {
 fn collections_report_it() {
     assert_eq!(refuse_each(|| Box::new(Global, 1), |failed| failed.value == 1), 1);
     assert_eq!(refuse_each(|| Vec::from_slice(Global, &[1, 2]), |AllocError| true), 1);
+    assert_eq!(refuse_each(|| Vec::from_elem(Global, 1, 2), |AllocError| true), 1);
     assert_eq!(refuse_each(|| String::from_str(Global, "a"), |AllocError| true), 1);
     assert_eq!(refuse_each(|| Vec::new(Global).push(1), |failed| failed.value == 1), 1);
     assert_eq!(refuse_each(|| BinaryHeap::new(Global).push(1), |failed| failed.value == 1), 1);

@@ -2,6 +2,7 @@
 
 import enum
 import functools
+import itertools
 import os
 import struct
 from ctypes import c_int32, c_size_t, c_uint16, c_uint32, string_at
@@ -52,6 +53,9 @@ from ._values import (
 
 #: A hayro_cmap_code: its fields have no gaps between them.
 CODE = struct.Struct("=IIBBBB")
+
+#: How many codes are kept: strings repeat them, and to make one takes longer than to find it.
+KEPT_CODES = 4096
 
 #: How many bytes the text of a map is written to at first.
 TEXT_ROOM = 65536
@@ -296,7 +300,7 @@ class CMap(Owned):
         codes, made, taken = (CodeInString * (len(text) + 1))(), c_size_t(), c_size_t()
         self._ask(library.hayro_cmap_decode, text, len(text), codes, len(codes), made, taken)
         found = string_at(codes, made.value * CODE.size)
-        return [code_of_fields(*fields) for fields in CODE.iter_unpack(found)]
+        return list(itertools.starmap(code_of_fields, CODE.iter_unpack(found)))
 
     def cid(self, code: int, byte_len: int) -> Optional[int]:
         """The CID of a code of `byte_len` bytes, or None. Codespace ranges aren't looked at."""
@@ -428,6 +432,7 @@ class CMap(Owned):
         return room[: needed.value] if status == OK else []
 
 
+@functools.lru_cache(maxsize=KEPT_CODES)
 def code_of_fields(code, cid, byte_len, in_codespace, has_cid, cut_short):
     """The code of the fields of a hayro_cmap_code."""
     return Code(code, byte_len, cid if has_cid else None, bool(in_codespace), bool(cut_short))

@@ -136,6 +136,15 @@ impl<T> Vec<T> {
     }
 }
 
+impl<T: Clone> Vec<T> {
+    /// The list of this many copies of an item.
+    pub fn from_elem(alloc: Global, item: T, len: usize) -> Result<Self, AllocError> {
+        let mut items = Vec::with_capacity(alloc, len)?;
+        items.0.resize(len, item);
+        Ok(items)
+    }
+}
+
 impl<T: Copy> Vec<T> {
     /// A copy of the items.
     pub fn from_slice(alloc: Global, items: &[T]) -> Result<Self, AllocError> {
@@ -229,6 +238,12 @@ mod tests {
 
     fn list<T: Copy>(items: &[T]) -> Vec<T> {
         Vec::from_slice(Global, items).unwrap()
+    }
+
+    #[test]
+    fn an_item_is_copied() {
+        assert_eq!(Vec::from_elem(Global, 7, 3).unwrap().as_slice(), [7; 3]);
+        assert!(Vec::from_elem(Global, 7, 0).unwrap().is_empty());
     }
 
     #[test]
