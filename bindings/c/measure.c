@@ -1,11 +1,12 @@
 /* Looks up all codes of two bytes N times, so that callgrind can count a round:
  *
- *     measure cid|strict|decode|cids|extract|apart FILE N [COLLECTION]
+ *     measure cid|strict|decode|cids|extract|apart|encode FILE N [COLLECTION]
  *
  * A round calls hayro_cmap_cid or hayro_cmap_cid_strict for each code, hayro_cmap_decode for a string of all of
  * them, or hayro_cmap_cids for all at once; or hayro_cmap_extract for the string, with the map COLLECTION, or in its
  * place hayro_cmap_decode, and hayro_cmap_text for each CID. It prints the sum of the CIDs of the last round, and of the
- * bytes of the texts. */
+ * bytes of the texts. Or a round calls hayro_cmap_encode for the texts of all these codes together, and it prints how
+ * many characters they have. */
 #include "hayro_cmap.h"
 #include <inttypes.h>
 #include <stdio.h>
@@ -19,7 +20,9 @@ static hayro_cmap_code codes[2 * CODES];
 static uint32_t cids[CODES];
 static hayro_cmap_character characters[2 * CODES];
 static uint8_t texts[8 * CODES];
+static uint8_t wanted[8 * CODES];
 static hayro_cmap collection = HAYRO_CMAP_EMPTY;
+static hayro_cmap_encoder encoder = HAYRO_CMAP_EMPTY;
 
 static void fail(const char *what) {
     fprintf(stderr, "measure: %s\n", what);
@@ -61,14 +64,19 @@ static uint64_t at_once(hayro_cmap *map) {
     return sum;
 }
 
-static uint64_t extracted(hayro_cmap *map) {
+static size_t extract_all(hayro_cmap *map) {
     hayro_cmap none = HAYRO_CMAP_EMPTY;
     hayro_cmap_extracted done;
     if (hayro_cmap_extract(map, &none, &collection, string, sizeof string, characters, 2 * CODES, texts, sizeof texts,
                            &done) != HAYRO_CMAP_OK)
         fail("the string isn't extracted");
+    return done.made;
+}
+
+static uint64_t extracted(hayro_cmap *map) {
+    size_t made = extract_all(map);
     uint64_t sum = 0;
-    for (size_t i = 0; i < done.made; i++) sum += characters[i].code.cid + characters[i].text_len;
+    for (size_t i = 0; i < made; i++) sum += characters[i].code.cid + characters[i].text_len;
     return sum;
 }
 
@@ -86,6 +94,32 @@ static uint64_t apart(hayro_cmap *map) {
     return sum;
 }
 
+/* The texts of codes in codespace ranges, one after another: how many bytes they have. */
+static size_t text_of_all(hayro_cmap *map) {
+    size_t made = extract_all(map), len = 0;
+    for (size_t i = 0; i < made; i++)
+        if (characters[i].code.in_codespace) {
+            memcpy(wanted + len, texts + characters[i].text_start, characters[i].text_len);
+            len += characters[i].text_len;
+        }
+    return len;
+}
+
+static uint64_t encoded(hayro_cmap *map) {
+    static size_t len;
+    if (!encoder.full) {
+        hayro_cmap none = HAYRO_CMAP_EMPTY;
+        len = text_of_all(map);
+        if (hayro_cmap_encoder_build(&encoder, map, &none, &collection) != HAYRO_CMAP_OK) fail("there is no encoder");
+    }
+    size_t needed, offset;
+    if (hayro_cmap_encode(&encoder, wanted, len, string, sizeof string, &needed, &offset) != HAYRO_CMAP_OK)
+        fail("the text isn't encoded");
+    uint64_t count = 0;
+    for (size_t i = 0; i < len; i++) count += (wanted[i] & 0xC0) != 0x80;
+    return count;
+}
+
 static uint64_t round_of(const char *mode, hayro_cmap *map) {
     if (strcmp(mode, "cid") == 0) return one_by_one(map, false);
     if (strcmp(mode, "strict") == 0) return one_by_one(map, true);
@@ -93,7 +127,8 @@ static uint64_t round_of(const char *mode, hayro_cmap *map) {
     if (strcmp(mode, "cids") == 0) return at_once(map);
     if (strcmp(mode, "extract") == 0) return extracted(map);
     if (strcmp(mode, "apart") == 0) return apart(map);
-    fail("the mode is cid, strict, decode, cids, extract or apart");
+    if (strcmp(mode, "encode") == 0) return encoded(map);
+    fail("the mode is cid, strict, decode, cids, extract, apart or encode");
     return 0;
 }
 
@@ -118,6 +153,7 @@ int main(int argc, char **argv) {
     uint64_t sum = 0;
     for (long n = strtol(argv[3], NULL, 10); n > 0; n--) sum = round_of(argv[1], &map);
     printf("%" PRIu64 "\n", sum);
+    hayro_cmap_encoder_free(&encoder);
     hayro_cmap_free(&collection);
     hayro_cmap_free(&map);
     return 0;
