@@ -51,9 +51,9 @@ impl Gathered {
         requires { AreGathered (font_of font.now) (length_of len) 0 self.old }
         ensures { OnOk result (AreGathered (font_of font.now) (length_of len + 1) 0 self.new) }
     {
-        let end = code_count(len);
+        let last = u64::from(len.last_code());
         let mut next: u64 = 0;
-        while next < end {
+        while next <= last {
             let number = next as u32;
             next = self.add_from(alloc, font, Code { number, len })?;
         }
@@ -168,17 +168,5 @@ impl Gathered {
         let run = CodeRun::from_key(cid, code, last.min(whole.last) - code.number);
         self.cids.push(run)?;
         Ok(u64::from(code.number) + u64::from(run.range.end - run.range.start) + 1)
-    }
-}
-
-/// How many codes have this length.
-fn code_count(len: CodeLength) -> u64
-    ensures { result ≡ 256 ^ length_of len }
-{
-    match len {
-        CodeLength::One => 0x100,
-        CodeLength::Two => 0x1_0000,
-        CodeLength::Three => 0x100_0000,
-        CodeLength::Four => 0x1_0000_0000,
     }
 }

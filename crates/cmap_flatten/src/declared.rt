@@ -52,28 +52,14 @@ fn stretch_in(layer: &Layer, first: u32, len: CodeLength) -> LayerStretch
         first result.last result.cids }
     ensures fit { IfSome result.cids (λ cids. Fits cids (result.last - first)) }
 {
-    let cids = stretch_of(layer.cids(len), first);
+    let cids = layer.cids(len).stretch(first);
     if let Some(declaration) = cids.declaration {
         return counted_on(declaration, first, cids.last);
     }
-    let notdefs = stretch_of(layer.notdefs(len), first);
+    let notdefs = layer.notdefs(len).stretch(first);
     LayerStretch {
         cids: same_cid(notdefs.declaration),
         last: cids.last.min(notdefs.last),
-    }
-}
-
-/// The codes of a table from `first` on.
-fn stretch_of<T: HasRange>(table: &Table<T>, first: u32) -> Stretch<'_, T>
-    ensures within { first ≤ result.last }
-    ensures same { IsStretch T.span table.now first result.last (option_copied result.declaration) }
-    ensures start { IfSome result.declaration
-        (λ declaration. (T.span declaration.now).start ≤ first) }
-{
-    let mut looks = Looks::new();
-    match table.stretches(first, &mut looks).next(&mut looks) {
-        Some(stretch) => stretch,
-        None => unreachable!(),
     }
 }
 

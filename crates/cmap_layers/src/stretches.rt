@@ -98,7 +98,7 @@ impl Layers {
         let layers = self.as_slice();
         let mut last = u32::MAX;
         for layer in layers {
-            let stretch = stretch_of(layer.texts(), first);
+            let stretch = layer.texts().stretch(first);
             last = last.min(stretch.last);
             if let Some(declaration) = stretch.declaration {
                 return TextStretch {
@@ -146,11 +146,11 @@ fn stretch_in(layer: &Layer, first: u32, len: CodeLength) -> LayerStretch
         first result.last result.cids }
     ensures longest { IsLayerLongest (layer_seen layer.now) (length_of len) first result.last result.cids }
 {
-    let cids = stretch_of(layer.cids(len), first);
+    let cids = layer.cids(len).stretch(first);
     if let Some(declaration) = cids.declaration {
         return declared_cids(declaration, first, cids.last);
     }
-    let notdefs = stretch_of(layer.notdefs(len), first);
+    let notdefs = layer.notdefs(len).stretch(first);
     let last = cids.last.min(notdefs.last);
     if let Some(declaration) = notdefs.declaration {
         return LayerStretch {
@@ -162,21 +162,6 @@ fn stretch_in(layer: &Layer, first: u32, len: CodeLength) -> LayerStretch
     LayerStretch {
         cids: characters.cids,
         last: last.min(characters.last),
-    }
-}
-
-/// The codes of a table from `first` on.
-fn stretch_of<T: HasRange>(table: &Table<T>, first: u32) -> Stretch<'_, T>
-    ensures within { first ≤ result.last }
-    ensures same { IsStretch T.span table.now first result.last (option_copied result.declaration) }
-    ensures longest { IsLongest (map T.span table.now) first result.last }
-    ensures start { IfSome result.declaration
-        (λ declaration. (T.span declaration.now).start ≤ first) }
-{
-    let mut looks = Looks::new();
-    match table.stretches(first, &mut looks).next(&mut looks) {
-        Some(stretch) => stretch,
-        None => unreachable!(),
     }
 }
 
@@ -211,7 +196,7 @@ fn characters_in(texts: &Table<BfRange>, first: u32) -> LayerStretch
     ensures ends { IsLongest (map bf_span (map bf_entry_seen texts.now)) first result.last
         ⊎ EndsRow (map bf_entry_seen texts.now) result.last }
 {
-    let stretch = stretch_of(texts, first);
+    let stretch = texts.stretch(first);
     match stretch.declaration {
         Some(declaration) => declared_characters(declaration, first, stretch.last),
         None => LayerStretch {

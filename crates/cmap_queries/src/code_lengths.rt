@@ -26,16 +26,6 @@ fn declares_codes(layer: &Layer, len: CodeLength) -> bool {
         || layer.codespaces().iter().any(|space| space.len == len)
 }
 
-/// The last code of a length.
-pub fn last_code(len: CodeLength) -> u32 {
-    match len {
-        CodeLength::One => 0xFF,
-        CodeLength::Two => 0xFFFF,
-        CodeLength::Three => 0xFF_FFFF,
-        CodeLength::Four => u32::MAX,
-    }
-}
-
 /// How many bytes a code needs.
 fn byte_count(code: u32) -> u8 {
     match code {

@@ -8,7 +8,7 @@ use cmap_escape::digits::code_digits;
 use cmap_escape::object::Object;
 use cmap_escape::{escape, json};
 use cmap_queries::arguments::decimal;
-use cmap_queries::code_lengths::{LENGTHS, has_codes, last_code, text_code_len};
+use cmap_queries::code_lengths::{LENGTHS, has_codes, text_code_len};
 use cmap_unicode::Extractor;
 use hayro_cmap::runs::Range;
 use hayro_cmap::{CodeLength, Layers};
@@ -182,7 +182,7 @@ fn codes_of_cid(alloc: Global, encoding: &Layers, cid: u32) -> Result<Vec<Codes>
 
 /// Adds the codes of ranges that have this length.
 fn add_ranges(found: &mut Vec<Codes>, ranges: &[Range], len: CodeLength) -> Result<(), AllocError> {
-    let last = last_code(len);
+    let last = len.last_code();
     for range in ranges {
         if range.start <= last {
             let (start, end) = (range.start, range.end.min(last));

@@ -94,11 +94,11 @@ fn stretch_in(layer: &Layer, first: u32, len: CodeLength) -> LayerStretch
     ensures cids { Decides (λ code. declared_in (layer_seen layer.now) code (length_of len))
         first result.last result.cids }
 {
-    let cids = stretch_of(layer.cids(len), first);
+    let cids = layer.cids(len).stretch(first);
     if let Some(declaration) = cids.declaration {
         return declared_cids(declaration, first, cids.last);
     }
-    let notdefs = stretch_of(layer.notdefs(len), first);
+    let notdefs = layer.notdefs(len).stretch(first);
     LayerStretch {
         cids: notdef_cids(notdefs.declaration),
         last: cids.last.min(notdefs.last),
@@ -110,20 +110,6 @@ fn notdef_cids(declaration: Option<&CidRange>) -> Option<Cids>
     ensures { result ≡ option_map (λ (d : Declared). Same d.cid) (option_copied declaration.entry) }
 {
     Some(Cids::Same(declaration?.cid))
-}
-
-/// The codes of a table from `first` on.
-fn stretch_of(table: &Table<CidRange>, first: u32) -> Stretch<'_, CidRange>
-    ensures within { first ≤ result.last }
-    ensures same { IsStretch cid_range_span table.now first result.last (option_copied result.declaration) }
-    ensures start { IfSome result.declaration
-        (λ declaration. declaration.now.range.start ≤ first) }
-{
-    let mut looks = Looks::new();
-    match table.stretches(first, &mut looks).next(&mut looks) {
-        Some(stretch) => stretch,
-        None => unreachable!(),
-    }
 }
 
 /// The CIDs that a declaration gives to codes from `first` to `last`, which it contains, up to where

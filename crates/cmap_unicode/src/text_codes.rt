@@ -32,7 +32,7 @@ impl Extractor<'_> {
             AreCodesOfText (font_of self.now) (length_of len) (chars text.now) ranges.items) }
     {
         let wanted = chars_of(alloc, text)?;
-        let last = last_code(len);
+        let last = len.last_code();
         let mut ranges = Vec::new(alloc);
         let mut next = 0;
         while next <= u64::from(last) {
@@ -59,21 +59,9 @@ impl Extractor<'_> {
             (record { start = first; end = codes.1 }) codes.0) }
     {
         let row = self.text_row(alloc, first, len)?;
-        let end = row.last.min(last_code(len));
+        let end = row.last.min(len.last_code());
         let found = codes_among(alloc, &row, Range { start: first, end }, text)?;
         Ok((found, end))
-    }
-}
-
-/// The last code of a length.
-fn last_code(len: CodeLength) -> u32
-    ensures { result + 1 ≡ 256 ^ length_of len }
-{
-    match len {
-        CodeLength::One => 0xFF,
-        CodeLength::Two => 0xFFFF,
-        CodeLength::Three => 0xFF_FFFF,
-        CodeLength::Four => 0xFFFF_FFFF,
     }
 }
 

@@ -1,6 +1,6 @@
 //! How many bytes a code has, and the number that these write.
 
-ghost use Rattle.std.specs.Prelude.{◌≡◌, option_map, MatchOption};
+ghost use Rattle.std.specs.Prelude.{◌≡◌, ◌+◌, ◌^◌, option_map, MatchOption};
 ghost use Rattle.cmap_values.specs.CodeLengths.{IsCodeLength, code_seen, code_written, length_of};
 
 /// How many bytes a code has: one to four.
@@ -36,6 +36,18 @@ impl CodeLength {
             CodeLength::Two => 2,
             CodeLength::Three => 3,
             CodeLength::Four => 4,
+        }
+    }
+
+    /// The last code of this length.
+    pub fn last_code(self) -> u32
+        ensures { result + 1 ≡ 256 ^ length_of self }
+    {
+        match self {
+            CodeLength::One => 0xFF,
+            CodeLength::Two => 0xFFFF,
+            CodeLength::Three => 0xFF_FFFF,
+            CodeLength::Four => u32::MAX,
         }
     }
 }

@@ -1,7 +1,7 @@
 //! What codes have over all layers, run by run.
 
 use crate::list::line::{Given, Line, add_texts_of};
-use cmap_queries::code_lengths::{LENGTHS, has_codes, last_code};
+use cmap_queries::code_lengths::{LENGTHS, has_codes};
 use hayro_cmap::runs::Range;
 use hayro_cmap::{CMap, CidStretch, Cids, CodeLength, TextStretch};
 use std::alloc::{AllocError, Global};
@@ -20,7 +20,7 @@ pub fn effective_lines(alloc: Global, map: &CMap) -> Result<Vec<Line>, AllocErro
 
 /// Adds the CIDs of the codes of a length, in runs that are as long as possible.
 fn add_cids(lines: &mut Vec<Line>, map: &CMap, len: CodeLength) -> Result<(), AllocError> {
-    let end = u64::from(last_code(len));
+    let end = u64::from(len.last_code());
     let mut next: u64 = 0;
     while next <= end {
         let first = next as u32;
@@ -47,7 +47,7 @@ fn add_stretch(
         byte_len: len.count(),
         range: Range {
             start: first,
-            end: stretch.last.min(last_code(len)),
+            end: stretch.last.min(len.last_code()),
         },
         given,
     };

@@ -4,13 +4,14 @@ ghost use Rattle.std.specs.Prelude.{◌≡◌, ◌+◌, ◌-◌, ◌*◌, ◌<�
 ghost use Rattle.std.specs.Option.{option_copied};
 ghost use Rattle.cmap_runs.specs.Ranges.{AreTheRuns, HasDigits, contains, digits, last_of, runs_of};
 ghost use Rattle.cmap_runs.specs.SearchLooks.{LooksAtMost};
+ghost use Rattle.cmap_runs.specs.Stretches.{IsLongest, IsStretch};
 
 use super::HasRange;
 use super::blocks::Blocks;
 use super::held::Held;
 use super::looks::Looks;
 use super::search::find_among_last;
-use super::stretch::Stretches;
+use super::stretch::{Stretch, Stretches};
 use super::sweep::runs_of;
 use std::alloc::{AllocError, Global};
 use std::fmt;
@@ -110,6 +111,21 @@ impl<T: HasRange> Table<T> {
         ensures none { looks.new.declarations ≡ looks.old.declarations }
     {
         Stretches::of(&self.held, first, looks)
+    }
+
+    /// The stretch of the codes from `first` on.
+    pub fn stretch(&self, first: u32) -> Stretch<'_, T>
+        ensures within { first ≤ result.last }
+        ensures same { IsStretch T.span self.now first result.last (option_copied result.declaration) }
+        ensures longest { IsLongest (map T.span self.now) first result.last }
+        ensures start { IfSome result.declaration
+            (λ declaration. (T.span declaration.now).start ≤ first) }
+    {
+        let mut looks = Looks::new();
+        match self.stretches(first, &mut looks).next(&mut looks) {
+            Some(stretch) => stretch,
+            None => unreachable!(),
+        }
     }
 
     /// How many declarations the table has.

@@ -16,17 +16,17 @@ use Rattle.cmap_flatten.proofs.declared.stretch_in.Goals as goal
 pub returns-in-Some-clause-cids : goal.returns-in-Some-clause-cids
 returns-in-Some-clause-cids c = λ code le lt.
     let first = c.args.first in let layer = layer_seen c.args.layer.now in let len = length_of c.args.len in
-    let table = c.cids.result.now in let last = c.stretch_of-cids.result.last in let d = c.in-Some.declaration.now in
-    let here = subst (λ o. IsStretch cid_range_span table first last (option_copied o)) c.in-Some.is c.stretch_of-cids.ensures.same in
+    let table = c.cids.result.now in let last = c.stretch-cids.result.last in let d = c.in-Some.declaration.now in
+    let here = subst (λ o. IsStretch cid_range_span table first last (option_copied o)) c.in-Some.is c.stretch-cids.ensures.same in
     let found = found_in table (of_length layer.lists.cids len) first last code (Some d) c.cids.ensures here le (omega (arith, lt, c.counted_on.ensures.within)) in
     ap (λ o. given_by code o (last_cid (of_length layer.lists.notdefs len) code)) found ∙ c.counted_on.ensures.cids code le lt
 
 pub returns-clause-cids : goal.returns-clause-cids
 returns-clause-cids c = λ code le lt.
     let first = c.args.first in let layer = layer_seen c.args.layer.now in let len = length_of c.args.len in
-    let none = subst (λ o. IsStretch cid_range_span c.cids.result.now first c.stretch_of-cids.result.last (option_copied o)) c.in_default.is c.stretch_of-cids.ensures.same in
-    let missed = found_in c.cids.result.now (of_length layer.lists.cids len) first c.stretch_of-cids.result.last code None c.cids.ensures none le (omega arith) in
-    let found = found_in c.notdefs.result.now (of_length layer.lists.notdefs len) first c.stretch_of-notdefs.result.last code (option_copied c.stretch_of-notdefs.result.declaration) c.notdefs.ensures c.stretch_of-notdefs.ensures.same le (omega arith) in
+    let none = subst (λ o. IsStretch cid_range_span c.cids.result.now first c.stretch-cids.result.last (option_copied o)) c.in_default.is c.stretch-cids.ensures.same in
+    let missed = found_in c.cids.result.now (of_length layer.lists.cids len) first c.stretch-cids.result.last code None c.cids.ensures none le (omega arith) in
+    let found = found_in c.notdefs.result.now (of_length layer.lists.notdefs len) first c.stretch-notdefs.result.last code (option_copied c.stretch-notdefs.result.declaration) c.notdefs.ensures c.stretch-notdefs.ensures.same le (omega arith) in
     ap (λ o. given_by code o (last_cid (of_length layer.lists.notdefs len) code)) missed
-    ∙ ap (λ o. given_by code None o) found ∙ notdef_gives code (code - first) (option_copied c.stretch_of-notdefs.result.declaration)
+    ∙ ap (λ o. given_by code None o) found ∙ notdef_gives code (code - first) (option_copied c.stretch-notdefs.result.declaration)
     ∙ ap (option_map (λ these. given_after these (code - first))) (sym c.same_cid.ensures)

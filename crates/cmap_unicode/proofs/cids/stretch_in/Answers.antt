@@ -16,17 +16,17 @@ use Rattle.cmap_unicode.proofs.cids.stretch_in.Goals as goal
 pub returns-in-Some-clause-cids : goal.returns-in-Some-clause-cids
 returns-in-Some-clause-cids c = λ code le lt.
     let first = c.args.first in let layer = layer_seen c.args.layer.now in let len = length_of c.args.len in
-    let table = c.cids.result.now in let last = c.stretch_of-cids.result.last in let d = c.in-Some.declaration.now in
-    let here = subst (λ o. IsStretch cid_range_span table first last (option_copied o)) c.in-Some.is c.stretch_of-cids.ensures.same in
+    let table = c.cids.result.now in let last = c.stretch-cids.result.last in let d = c.in-Some.declaration.now in
+    let here = subst (λ o. IsStretch cid_range_span table first last (option_copied o)) c.in-Some.is c.stretch-cids.ensures.same in
     let found = found_in table (of_length layer.lists.cids len) first last code (Some d) c.cids.ensures here le (omega (arith, lt, c.declared_cids.ensures.within)) in
     ap (λ o. declared_by code o (last_cid (of_length layer.lists.notdefs len) code)) found ∙ c.declared_cids.ensures.cids code le lt
 
 pub returns-clause-cids : goal.returns-clause-cids
 returns-clause-cids c = λ code le lt.
     let first = c.args.first in let layer = layer_seen c.args.layer.now in let len = length_of c.args.len in
-    let none = subst (λ o. IsStretch cid_range_span c.cids.result.now first c.stretch_of-cids.result.last (option_copied o)) c.in_default.is c.stretch_of-cids.ensures.same in
-    let missed = found_in c.cids.result.now (of_length layer.lists.cids len) first c.stretch_of-cids.result.last code None c.cids.ensures none le (omega arith) in
-    let notdef = option_copied c.stretch_of-notdefs.result.declaration in
-    let found = found_in c.notdefs.result.now (of_length layer.lists.notdefs len) first c.stretch_of-notdefs.result.last code notdef c.notdefs.ensures c.stretch_of-notdefs.ensures.same le (omega arith) in
+    let none = subst (λ o. IsStretch cid_range_span c.cids.result.now first c.stretch-cids.result.last (option_copied o)) c.in_default.is c.stretch-cids.ensures.same in
+    let missed = found_in c.cids.result.now (of_length layer.lists.cids len) first c.stretch-cids.result.last code None c.cids.ensures none le (omega arith) in
+    let notdef = option_copied c.stretch-notdefs.result.declaration in
+    let found = found_in c.notdefs.result.now (of_length layer.lists.notdefs len) first c.stretch-notdefs.result.last code notdef c.notdefs.ensures c.stretch-notdefs.ensures.same le (omega arith) in
     ap (λ o. declared_by code o (last_cid (of_length layer.lists.notdefs len) code)) missed ∙ ap (declared_by code None) found ∙ notdefs_declared code (code - first) notdef
     ∙ ap (option_map (λ these. cid_after these (code - first))) (sym c.notdef_cids.ensures)

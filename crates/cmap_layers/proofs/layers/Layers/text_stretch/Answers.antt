@@ -17,10 +17,10 @@ use Rattle.cmap_layers.proofs.layers.Layers.text_stretch.Goals.{In-Some}
 decided : (c : In-Some) (code : ℕ) → c.args.first ≤ code → code ≤ c.min-last.result → deciding_bf (layers_seen c.as_slice-layers.result.now) code ≡ Some (bf_entry_seen c.in-Some.declaration.now)
 decided c code le lt =
     let layers = layers_seen c.as_slice-layers.result.now in let below = layers_seen (drop (c.loop-layer.layer-index + 1) c.as_slice-layers.result.now) in
-    let layer = layer_seen c.layer-item.result in let last = c.stretch_of-stretch.result.last in let d = c.in-Some.declaration.now in
+    let layer = layer_seen c.layer-item.result in let last = c.stretch-stretch.result.last in let d = c.in-Some.declaration.now in
     let next = ap layers_seen (drop_next c.as_slice-layers.result.now c.loop-layer.layer-index c.layer-item.result c.loop-layer-test.true c.layer-item.is) in
     let passed = c.loop-layer.invariant.passed code le (omega arith) ∙ ap (λ rest. deciding_bf rest code) next in
-    let here = subst (λ o. IsStretch bf_range_span c.texts.result.now c.args.first last (option_copied o)) c.in-Some.is c.stretch_of-stretch.ensures.same in
+    let here = subst (λ o. IsStretch bf_range_span c.texts.result.now c.args.first last (option_copied o)) c.in-Some.is c.stretch-stretch.ensures.same in
     let found = found_text c.texts.result.now layer.lists.bfs c.args.first last code (Some d) c.texts.ensures here le (omega arith) in
     text_decided layers below layer code (option_map bf_entry_seen (Some d)) passed found
 
@@ -30,26 +30,26 @@ returns-in-Some-clause-texts c =
     record {
       decides = λ code le lt. ap (λ layers. deciding_bf layers code) (sym layers) ∙ decided c code le lt;
       texts = λ code le lt. ap (λ layers. bf_of layers code) (sym layers) ∙ bf_of-deciding_bf (layers_seen c.as_slice-layers.result.now) code ∙ ap (option_and_then (λ e. bf_at e code)) (decided c code le lt);
-      longest = rw layers at (texts_end c.as_slice-layers.result.now c.loop-layer.layer-index c.layer-item.result c.texts.result.now c.args.first c.loop-layer.last c.stretch_of-stretch.result.last c.min-last.result
-          c.loop-layer-test.true c.layer-item.is c.texts.ensures (omega (arith, c.min-last.ensures)) c.loop-layer.invariant.undecided c.loop-layer.invariant.longest c.stretch_of-stretch.ensures.longest);
+      longest = rw layers at (texts_end c.as_slice-layers.result.now c.loop-layer.layer-index c.layer-item.result c.texts.result.now c.args.first c.loop-layer.last c.stretch-stretch.result.last c.min-last.result
+          c.loop-layer-test.true c.layer-item.is c.texts.ensures (omega (arith, c.min-last.ensures)) c.loop-layer.invariant.undecided c.loop-layer.invariant.longest c.stretch-stretch.ensures.longest);
     }
 
 pub loop-layer-preserved : goal.loop-layer-preserved
 loop-layer-preserved c = record {
   within = omega arith;
-  longest = texts_end c.as_slice-layers.result.now c.loop-layer.layer-index c.layer-item.result c.texts.result.now c.args.first c.loop-layer.last c.stretch_of-stretch.result.last c.min-last.result
-      c.loop-layer-test.true c.layer-item.is c.texts.ensures (omega (arith, c.min-last.ensures)) c.loop-layer.invariant.undecided c.loop-layer.invariant.longest c.stretch_of-stretch.ensures.longest;
+  longest = texts_end c.as_slice-layers.result.now c.loop-layer.layer-index c.layer-item.result c.texts.result.now c.args.first c.loop-layer.last c.stretch-stretch.result.last c.min-last.result
+      c.loop-layer-test.true c.layer-item.is c.texts.ensures (omega (arith, c.min-last.ensures)) c.loop-layer.invariant.undecided c.loop-layer.invariant.longest c.stretch-stretch.ensures.longest;
   undecided =
       let layer = layer_seen c.layer-item.result in
-      let none = subst (λ o. IsStretch bf_range_span c.texts.result.now c.args.first c.stretch_of-stretch.result.last (option_copied o)) c.in_default.is c.stretch_of-stretch.ensures.same in
+      let none = subst (λ o. IsStretch bf_range_span c.texts.result.now c.args.first c.stretch-stretch.result.last (option_copied o)) c.in_default.is c.stretch-stretch.ensures.same in
       passed_next (HasNoText c.args.first) c.as_slice-layers.result.now c.loop-layer.layer-index c.layer-item.result c.loop-layer-test.true c.layer-item.is c.loop-layer.invariant.undecided
-      (found_text c.texts.result.now layer.lists.bfs c.args.first c.stretch_of-stretch.result.last c.args.first None c.texts.ensures none (omega arith) (omega arith));
+      (found_text c.texts.result.now layer.lists.bfs c.args.first c.stretch-stretch.result.last c.args.first None c.texts.ensures none (omega arith) (omega arith));
   passed = λ code le lt.
       let layers = layers_seen c.as_slice-layers.result.now in let below = layers_seen (drop (c.loop-layer.layer-index + 1) c.as_slice-layers.result.now) in
-      let layer = layer_seen c.layer-item.result in let last = c.stretch_of-stretch.result.last in
+      let layer = layer_seen c.layer-item.result in let last = c.stretch-stretch.result.last in
       let next = ap layers_seen (drop_next c.as_slice-layers.result.now c.loop-layer.layer-index c.layer-item.result c.loop-layer-test.true c.layer-item.is) in
       let passed = c.loop-layer.invariant.passed code le (omega arith) ∙ ap (λ rest. deciding_bf rest code) next in
-      let none = subst (λ o. IsStretch bf_range_span c.texts.result.now c.args.first last (option_copied o)) c.in_default.is c.stretch_of-stretch.ensures.same in
+      let none = subst (λ o. IsStretch bf_range_span c.texts.result.now c.args.first last (option_copied o)) c.in_default.is c.stretch-stretch.ensures.same in
       let missed = found_text c.texts.result.now layer.lists.bfs c.args.first last code None c.texts.ensures none le (omega arith) in
       text_decided layers below layer code None passed missed;
 }
