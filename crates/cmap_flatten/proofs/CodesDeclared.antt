@@ -12,7 +12,8 @@ use Rattle.cmap_values.specs.Files.{CidEntry}
 use Rattle.cmap_layers.specs.Layers.{Layer}
 use Rattle.cmap_tidy.specs.Tidy.{AreTidyCids, AreTidyNotdefs, notdef_said}
 use Rattle.cmap_flatten.specs.Chosen.{Chosen, codes_span}
-use Rattle.cmap_flatten.specs.Kinds.{Given, cid_given, cid_listed, given, notdef_given}
+use Rattle.cmap_unicode.specs.Given.{Given, cid_given, given, notdef_given}
+use Rattle.cmap_flatten.specs.Subsets.{cid_listed}
 use Rattle.cmap_flatten.specs.Parts.{AreDeclared, AreDeclaredBelow, IsAdded, parts, wanted}
 use Rattle.cmap_flatten.specs.declared.codes.Codes.{Codes}
 use Rattle.cmap_flatten.proofs.ListsAdded.{none_added}

@@ -1,7 +1,6 @@
 pub mod AnyElements
 pub mod ChosenCodes
 pub mod CodesDeclared
-pub mod DeclaredStretches
 pub mod LengthsTried
 pub mod ListsAdded
 pub mod OneFile

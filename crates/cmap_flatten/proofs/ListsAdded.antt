@@ -10,7 +10,8 @@ use Rattle.cmap_layers.specs.Lookups.{cid_at, cid_span}
 use Rattle.cmap_tidy.specs.Tidy.{AreTidyCids, AreTidyNotdefs, cid_said, notdef_at, notdef_said, said, said_with}
 use Rattle.cmap_tidy.proofs.ListsSaid.{is_after, is_before, is_in}
 use Rattle.cmap_tidy.proofs.SaidSoFar.{said_none}
-use Rattle.cmap_flatten.specs.Kinds.{Given, as_cid, as_notdef, cid_listed}
+use Rattle.cmap_unicode.specs.Given.{Given, as_cid, as_notdef}
+use Rattle.cmap_flatten.specs.Subsets.{cid_listed}
 use Rattle.cmap_flatten.specs.Parts.{IsAdded, IsRoom, parts}
 
 pub none_of : {A : Type 0} (o : Option A) → (IsSome o → ⊥) → o ≡ None

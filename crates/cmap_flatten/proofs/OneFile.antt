@@ -20,14 +20,14 @@ use Rattle.cmap_layers.proofs.LayerStretches.{has_code_length}
 use Rattle.cmap_unicode.specs.Cids.{declared_cid}
 use Rattle.cmap_tidy.specs.Tidy.{AreTidyCids, notdef_at, notdef_said}
 use Rattle.cmap_flatten.specs.Chosen.{Chosen, ChosenNumber}
-use Rattle.cmap_flatten.specs.Kinds.{as_cid, cid_given, cid_listed, given, given_by, notdef_given}
+use Rattle.cmap_unicode.specs.Given.{as_cid, cid_given, given, given_by, notdef_given}
 use Rattle.cmap_flatten.specs.Parts.{AreAllKept, AreDeclared, AreLists, HasCidsOfOne, IsFileOf, text_said}
-use Rattle.cmap_flatten.specs.Subsets.{AnswersOnly, AreAllTidy, IsContradiction, IsFlat, IsSubset}
+use Rattle.cmap_flatten.specs.Subsets.{AnswersOnly, AreAllTidy, IsContradiction, IsFlat, IsSubset, cid_listed}
 use Rattle.cmap_flatten.specs.declared.answers.Contradiction.{Contradiction}
 use Rattle.cmap_flatten.specs.declared.codes.Codes.{Codes}
 use Rattle.cmap_flatten.proofs.AnyElements.{Any-nil}
 use Rattle.cmap_flatten.proofs.ChosenCodes.{found_one}
-use Rattle.cmap_flatten.proofs.DeclaredStretches.{declared_is, number}
+use Rattle.cmap_unicode.proofs.DeclaredStretches.{declared_is, number}
 
 -- ---- a map of one layer
 decided_is : (code : ℕ) (found : Option BfEntry) → decided_text code found None ≡ option_and_then (λ e. bf_at e code) found

@@ -1,4 +1,3 @@
 pub mod Chosen
-pub mod Kinds
 pub mod Subsets
 pub mod Parts

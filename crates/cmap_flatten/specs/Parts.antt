@@ -1,5 +1,5 @@
 -- Private aid: what is declared for codes in a row, and the lists so far.
-use Rattle.std.specs.Prelude.{◌≡◌, ◌≢◌, ◌↔◌, ℕ, ◌+◌, ◌-◌, ◌<◌, ◌≤◌, ◌^◌, List, [], All, AllPairs, Contains, Option, Some, None, option_and_then, option_map}
+use Rattle.std.specs.Prelude.{◌≡◌, ◌≢◌, ◌↔◌, ℕ, ◌<◌, ◌≤◌, ◌^◌, List, [], All, AllPairs, Contains, Option, Some, option_and_then}
 use Rattle.cmap_runs.specs.Ranges.{last_of}
 use Rattle.cmap_values.specs.CodeLengths.{length_of}
 use Rattle.cmap_values.specs.Files.{BfEntry, CidEntry, File, Lists}
@@ -7,35 +7,12 @@ use Rattle.cmap_values.specs.declared.code_length.CodeLength.{CodeLength}
 use Rattle.cmap_layers.specs.Layers.{Layer, top_metadata}
 use Rattle.cmap_layers.specs.Lookups.{bf_at, bf_of, cid_of, last_bf}
 use Rattle.cmap_layers.specs.StringCodes.{ranges_of}
-use Rattle.cmap_layers.specs.declared.stretches.Cids.{Cids}
-use Rattle.cmap_layers.specs.declared.stretches.Cids.TheVariants.{Absent, CountOn, Same}
-use Rattle.cmap_layers.specs.declared.stretches.CidStretch.{CidStretch}
 use Rattle.cmap_flatten.specs.Chosen.{Chosen, ChosenNumber, codes_span}
-use Rattle.cmap_flatten.specs.Kinds.{Given, as_cid, as_notdef, cid_given, cid_listed, given, notdef_given}
-use Rattle.cmap_flatten.specs.Subsets.{AnswersOnly, IsContradiction, IsKept, cid_of_one}
+use Rattle.cmap_unicode.specs.Given.{Given, cid_given, given, notdef_given}
+use Rattle.cmap_flatten.specs.Subsets.{AnswersOnly, IsContradiction, IsKept, cid_listed, cid_of_one}
 use Rattle.cmap_flatten.specs.declared.answers.Contradiction.{Contradiction}
 use Rattle.cmap_tidy.specs.Tidy.{AreTidyCids, AreTidyNotdefs, AreTidyTexts, notdef_said}
 use Rattle.cmap_flatten.specs.declared.codes.Codes.{Codes}
-
--- the CIDs that count on are numbers of 32 bits up to this many codes after the first
-abbrev pub Fits : Cids → ℕ → Type 0
-Fits (CountOn cid) more = cid + more < 2 ^ 32
-Fits _ more = Unit {0}
-
--- CIDs that count on are declared as CIDs, and one CID for all codes as a notdef
-abbrev pub given_after : Cids → ℕ → Option Given
-given_after Absent k = None
-given_after (Same cid) k = Some (as_notdef cid)
-given_after (CountOn cid) k = Some (as_cid (cid + k))
-
--- of the codes from the first to the last one a layer decides that these are declared, or it decides nothing
-abbrev pub Decides : (ℕ → Option (Option Given)) → ℕ → ℕ → Option Cids → Type 0
-Decides decision first last cids = (code : ℕ) → first ≤ code → code ≤ last → decision code ≡ option_map (λ these. given_after these (code - first)) cids
-
--- what is declared for codes of len bytes from the first one on
-pub record IsDeclaredStretch (layers : List Layer) (len first : ℕ) (stretch : CidStretch) : Type 0 where
-  pub cids : (code : ℕ) → first ≤ code → code ≤ stretch.last → given layers code len ≡ given_after stretch.cids (code - first)
-  pub fit : Fits stretch.cids (stretch.last - first)
 
 -- the CID and the notdef that two lists give to a code
 abbrev pub said : List CidEntry → List CidEntry → ℕ → Option ℕ × Option ℕ

@@ -1,18 +1,22 @@
 -- One file with the answers of a map of several layers, for all codes or for those that are chosen.
-use Rattle.std.specs.Prelude.{◌≡◌, ◌≢◌, ◌↔◌, ℕ, ◌<◌, ◌^◌, List, [], ◌∷◌, AllPairs, Any, Option, Some, None}
+use Rattle.std.specs.Prelude.{◌≡◌, ◌≢◌, ◌↔◌, ℕ, ◌<◌, ◌^◌, List, [], ◌∷◌, AllPairs, Any, Option, Some, None, unwrap_or}
 use Rattle.std.specs.List.{Contains}
 use Rattle.std.specs.Option.{option_or}
 use Rattle.cmap_tokens.specs.Texts.{only_character}
 use Rattle.cmap_values.specs.CodeLengths.{IsCodeLength, length_of}
-use Rattle.cmap_values.specs.Files.{Codespace, File, Lists, of_length}
+use Rattle.cmap_values.specs.Files.{CidEntry, Codespace, File, Lists, of_length}
 use Rattle.cmap_layers.specs.Layers.{Layer, layer_of, top_metadata}
 use Rattle.cmap_layers.specs.Lookups.{bf_of, cid_of}
 use Rattle.cmap_unicode.specs.Cids.{declared_cid}
+use Rattle.cmap_unicode.specs.Given.{cid_given, given, notdef_given}
 use Rattle.cmap_flatten.specs.Chosen.{Chosen, ChosenNumber}
-use Rattle.cmap_flatten.specs.Kinds.{cid_given, cid_listed, given, notdef_given}
-use Rattle.cmap_tidy.specs.Tidy.{AreTidyCids, AreTidyNotdefs, AreTidyTexts, notdef_said}
+use Rattle.cmap_tidy.specs.Tidy.{AreTidyCids, AreTidyNotdefs, AreTidyTexts, cid_said, notdef_said}
 use Rattle.cmap_flatten.specs.declared.codes.Codes.{Codes}
 use Rattle.cmap_flatten.specs.declared.answers.Contradiction.{Contradiction}
+
+-- the CID that a list of declarations of CIDs gives
+abbrev pub cid_listed : List CidEntry → ℕ → Option ℕ
+cid_listed entries code = unwrap_or (cid_said entries code) None
 
 -- of what is chosen the answer is that of the whole, and of all else there is none
 abbrev pub AnswersOnly : {A : Type 0} → Type 0 → Option A → Option A → Type 0

@@ -3,15 +3,15 @@
 ghost use Rattle.std.specs.Prelude.{◌+◌, ◌-◌, ◌≤◌, ◌^◌, IfOk, OnOk};
 ghost use Rattle.cmap_values.specs.CodeLengths.{length_of};
 ghost use Rattle.cmap_values.specs.DeclarationsSeen.{entries_seen};
-ghost use Rattle.cmap_flatten.specs.Kinds.{given};
-ghost use Rattle.cmap_flatten.specs.Parts.{AreDeclared, AreDeclaredBelow, Fits, IsAdded, IsRoom, given_after};
+ghost use Rattle.cmap_unicode.specs.Given.{given, Fits, given_after};
+ghost use Rattle.cmap_flatten.specs.Parts.{AreDeclared, AreDeclaredBelow, IsAdded, IsRoom};
 
 use crate::codes::{Codes, codes_of_length};
-use crate::declared::declared_stretch;
 use cmap_layers::layers::Layers;
 use cmap_layers::stretches::Cids;
 use cmap_runs::runs::{Looks, Range, Table};
 use cmap_tidy::{push_cids, push_notdefs};
+use cmap_unicode::declared_stretch;
 use cmap_values::code_length::CodeLength;
 use cmap_values::declarations::CidRange;
 use std::alloc::{AllocError, Global};

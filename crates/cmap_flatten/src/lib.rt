@@ -4,7 +4,6 @@
 mod answers;
 mod cids;
 mod codes;
-mod declared;
 mod lists;
 mod subsets;
 mod texts;

@@ -2,6 +2,6 @@ pub mod CharactersInRow
 pub mod OneText
 pub mod TextsCounted
 pub mod RowsOfTexts
-pub mod StretchesDeclared
+pub mod DeclaredStretches
 pub mod TextsFilled
 pub mod RowsWithText

@@ -3,6 +3,7 @@ pub mod TextsOfCodes
 pub mod Characters
 pub mod Collections
 pub mod LayersTried
+pub mod Given
 pub mod CountedTexts
 pub mod TextRows
 pub mod SimpleFonts

@@ -5,7 +5,6 @@ use Rattle.cmap_tokens.specs.TextSeen.{text_seen}
 use Rattle.cmap_layers.specs.CodeStretches.{cid_after}
 use Rattle.cmap_layers.specs.Layers.{Layer}
 use Rattle.cmap_layers.specs.Lookups.{bf_of}
-use Rattle.cmap_layers.specs.declared.stretches.CidStretch.{CidStretch}
 use Rattle.cmap_layers.specs.declared.stretches.Cids.{Cids}
 use Rattle.cmap_unicode.specs.Cids.{declared_cid}
 use Rattle.cmap_unicode.specs.CountedTexts.{counted_on, text_after}
@@ -25,11 +24,6 @@ pub record AreTexts (texts : ℕ → Option Text) (first : ℕ) (row : TextRow) 
 -- codes of len bytes have texts so in the font
 abbrev pub IsTextRow : Font → ℕ → ℕ → TextRow → Type 0
 IsTextRow font len first row = AreTexts (its_text font len) first row
-
--- the CIDs that layers declare for codes of len bytes from the first to the last one
-pub record AreDeclaredCids (layers : List Layer) (len first : ℕ) (stretch : CidStretch) : Type 0 where
-  pub within : first ≤ stretch.last
-  pub cids : (code : ℕ) → first ≤ code → code ≤ stretch.last → declared_cid layers code len ≡ cid_after stretch.cids (code - first)
 
 -- ---- private aid
 -- the texts of a map from the first to the last code count on

@@ -1,23 +1,20 @@
 //! The CIDs that a map declares, without the texts.
 
-ghost use Rattle.std.specs.Prelude.{◌≡◌, ◌-◌, ◌≤◌, Some, map, option_map, IfSome};
+ghost use Rattle.std.specs.Prelude.{◌≡◌, ◌-◌, ◌≤◌, Some, option_map, IfSome};
 ghost use Rattle.std.specs.Option.{option_copied};
 ghost use Rattle.cmap_values.specs.CodeLengths.{length_of};
-ghost use Rattle.cmap_values.specs.DeclarationsSeen.{cid_entry_seen, cid_range_span, entries_seen};
-ghost use Rattle.cmap_values.specs.declared.declarations.CidRange.{CidRange as Declared};
+ghost use Rattle.cmap_values.specs.DeclarationsSeen.{cid_entry_seen, entries_seen};
 ghost use Rattle.cmap_layers.specs.declared.stretches.Cids.TheVariants.{Same};
-ghost use Rattle.cmap_runs.specs.Stretches.{IsStretch};
-ghost use Rattle.cmap_layers.specs.CodeStretches.{Decides};
 ghost use Rattle.cmap_layers.specs.LayersSeen.{layer_seen};
-ghost use Rattle.cmap_layers.specs.Lookups.{cid_at, last_cid};
+ghost use Rattle.cmap_layers.specs.Lookups.{last_cid};
 ghost use Rattle.cmap_unicode.specs.Cids.{declared_cid};
 ghost use Rattle.cmap_unicode.specs.LayersTried.{declared_in};
-ghost use Rattle.cmap_unicode.specs.TextRows.{AreDeclaredCids};
+ghost use Rattle.cmap_unicode.specs.Given.{AreDeclaredCids, Decides, Fits, given_at, given_in};
 
 use cmap_layers::layer::Layer;
 use cmap_layers::layers::Layers;
 use cmap_layers::stretches::{CidStretch, Cids};
-use cmap_runs::runs::{Looks, Stretch, Table};
+use cmap_runs::runs::{Looks, Table};
 use cmap_values::code_length::CodeLength;
 use cmap_values::declarations::CidRange;
 use cmap_values::names::Cid;
@@ -91,35 +88,37 @@ pub fn declared_stretch(map: &Layers, first: u32, len: CodeLength) -> CidStretch
 /// What a layer declares for codes from `first` on.
 fn stretch_in(layer: &Layer, first: u32, len: CodeLength) -> LayerStretch
     ensures within { first ≤ result.last }
-    ensures cids { Decides (λ code. declared_in (layer_seen layer.now) code (length_of len))
+    ensures cids { Decides (λ code. given_in (layer_seen layer.now) code (length_of len))
         first result.last result.cids }
+    ensures fit { IfSome result.cids (λ cids. Fits cids (result.last - first)) }
 {
     let cids = layer.cids(len).stretch(first);
     if let Some(declaration) = cids.declaration {
-        return declared_cids(declaration, first, cids.last);
+        return counted_on(declaration, first, cids.last);
     }
     let notdefs = layer.notdefs(len).stretch(first);
     LayerStretch {
-        cids: notdef_cids(notdefs.declaration),
+        cids: same_cid(notdefs.declaration),
         last: cids.last.min(notdefs.last),
     }
 }
 
-/// The CIDs of a notdef declaration, if there is one.
-fn notdef_cids(declaration: Option<&CidRange>) -> Option<Cids>
-    ensures { result ≡ option_map (λ (d : Declared). Same d.cid) (option_copied declaration.entry) }
+/// The CID that the declaration of a notdef, if there is one, gives to all its codes.
+fn same_cid(declaration: Option<&CidRange>) -> Option<Cids>
+    ensures { result ≡ option_map (λ e. Same e.cid) (option_copied declaration.entry) }
 {
     Some(Cids::Same(declaration?.cid))
 }
 
 /// The CIDs that a declaration gives to codes from `first` to `last`, which it contains, up to where
 /// they pass 32 bits.
-fn declared_cids(declaration: &CidRange, first: u32, last: u32) -> LayerStretch
+fn counted_on(declaration: &CidRange, first: u32, last: u32) -> LayerStretch
     requires start { declaration.now.range.start ≤ first }
     requires last { first ≤ last }
     ensures within { (first ≤ result.last) × (result.last ≤ last) }
-    ensures cids { Decides (λ code. Some (cid_at (cid_entry_seen declaration.now) code))
+    ensures cids { Decides (λ code. Some (given_at (cid_entry_seen declaration.now) code))
         first result.last result.cids }
+    ensures fit { IfSome result.cids (λ cids. Fits cids (result.last - first)) }
 {
     match declaration.cid.checked_add(first - declaration.range.start) {
         Some(cid) => LayerStretch {

@@ -1,13 +1,12 @@
-use Rattle.std.proofs.Common.{◌≡◌, ℕ, ◌≤◌, drop, map}
+use Rattle.std.proofs.Common.{◌≡◌, ℕ, ◌≤◌, drop}
 use Rattle.cmap_values.specs.CodeLengths.{length_of}
 use Rattle.cmap_layers.specs.LayersSeen.{layers_seen}
-use Rattle.cmap_layers.specs.Lookups.{cid_in}
-use Rattle.cmap_unicode.specs.Cids.{without_texts}
+use Rattle.cmap_unicode.specs.Given.{given}
 use Rattle.cmap_unicode.proofs.cids.declared_stretch.Given as goal
 
--- no layer so far declares anything for the codes
+-- no layer so far declares anything for any of the codes
 abbrev pub invariant-loop-layer : goal.invariant-loop-layer
 invariant-loop-layer l = record {
   within : l.first ≤ l.last;
-  passed : (code : ℕ) → l.first ≤ code → code ≤ l.last → cid_in (map without_texts (layers_seen l.layers)) code (length_of l.len) ≡ cid_in (map without_texts (layers_seen (drop l.layer-index l.layers))) code (length_of l.len);
+  passed : (code : ℕ) → l.first ≤ code → code ≤ l.last → given (layers_seen l.layers) code (length_of l.len) ≡ given (layers_seen (drop l.layer-index l.layers)) code (length_of l.len);
 }

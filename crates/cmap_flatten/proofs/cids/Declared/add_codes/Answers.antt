@@ -1,8 +1,8 @@
 use Rattle.std.proofs.Common.{◌+◌, ◌-◌, sym, subst, arith}
 use Rattle.cmap_values.specs.CodeLengths.{length_of}
 use Rattle.cmap_values.specs.DeclarationsSeen.{entries_seen}
-use Rattle.cmap_flatten.specs.Kinds.{given}
-use Rattle.cmap_flatten.specs.Parts.{IsAdded, given_after}
+use Rattle.cmap_unicode.specs.Given.{given, given_after}
+use Rattle.cmap_flatten.specs.Parts.{IsAdded}
 use Rattle.cmap_flatten.proofs.ListsAdded.{AreAdded-more}
 use Rattle.cmap_flatten.proofs.cids.Declared.add_codes.Goals as goal
 
@@ -17,5 +17,5 @@ loop-next-preserved c =
       added = subst (λ end. IsAdded (entries_seen before.cids.items) (entries_seen before.notdefs.items) first (end + 1) (λ code. given layers code len) (entries_seen now.cids.items) (entries_seen now.notdefs.items)) (sym c.from-next-in-loop-next.ensures)
           (AreAdded-more (entries_seen before.cids.items) (entries_seen before.notdefs.items) first next (last + 1) (λ code. given layers code len) (λ code. given_after these (code - next))
           (entries_seen so_far.cids.items) (entries_seen so_far.notdefs.items) (entries_seen now.cids.items) (entries_seen now.notdefs.items) old.from old.added c.in_ok-add.ensures
-          (λ code le lt. c.declared_stretch-declared.ensures.cids.cids code le (omega arith)));
+          (λ code le lt. c.declared_stretch-declared.ensures.declared code le (omega arith)));
     }

@@ -1,7 +1,7 @@
 use Rattle.std.proofs.Common.{ℕ, ◌+◌, ◌-◌, ◌≤◌}
 use Rattle.cmap_values.specs.CodeLengths.{length_of}
 use Rattle.cmap_values.specs.DeclarationsSeen.{entries_seen}
-use Rattle.cmap_flatten.specs.Kinds.{given}
+use Rattle.cmap_unicode.specs.Given.{given}
 use Rattle.cmap_flatten.specs.Parts.{IsAdded}
 use Rattle.cmap_flatten.proofs.cids.Declared.add_codes.Given as goal
 
