@@ -30,7 +30,7 @@ pub extern "C" fn hayro_cmap_bundle_open(
         ⊎ (((result ≡ number NoMemory) ⊎ (result ≡ number NotABundle))
         × (bundle.new.slot.bundle ≡ None)) }
 {
-    hayro_cmap_bundle_free(bundle, alloc);
+    bundle.clear(alloc);
     match OwnedBundle::parse(alloc, bytes) {
         Ok(Some(parsed)) => bundle.keep(Shared::new(alloc, parsed)),
         Ok(None) => Status::NotABundle.number(),
@@ -49,13 +49,11 @@ pub extern "C" fn hayro_cmap_bundle_share(
     ensures shared { ((result ≡ number Done) × (other.new.slot.bundle ≡ bundle.old.slot.bundle))
         ⊎ ((result ≡ number NoMemory) × (other.new.slot.bundle ≡ None)) }
 {
-    hayro_cmap_bundle_free(other, alloc);
-    let Some(found) = bundle.take(alloc) else {
-        return Status::Done.number();
-    };
-    let shared = found.share(alloc);
-    bundle.put(found);
-    other.keep(shared)
+    other.clear(alloc);
+    match bundle.shared() {
+        Some(shared) => other.keep(shared.share(alloc)),
+        None => Status::Done.number(),
+    }
 }
 
 /// The bytes of the bundle's file of this name.
@@ -72,12 +70,10 @@ pub extern "C" fn hayro_cmap_bundle_file(
         ((result ≡ number Absent) × (room.new ≡ room.old) × (needed.new ≡ needed.old))
         (λ bytes. IsPut bytes room.old room.new needed.new result) }
 {
-    let Some(found) = bundle.take(alloc) else {
-        return Status::Absent.number();
-    };
-    let status = put_found(found.value().file_of(name), room, needed);
-    bundle.put(found);
-    status
+    match bundle.bundle() {
+        Some(bundle) => put_found(bundle.file_of(name), room, needed),
+        None => Status::Absent.number(),
+    }
 }
 
 /// Frees the bundle, if there is one.
@@ -85,5 +81,5 @@ pub extern "C" fn hayro_cmap_bundle_file(
 pub extern "C" fn hayro_cmap_bundle_free(bundle: &mut BundleHandle, alloc: Global)
     ensures { bundle.new.slot.bundle ≡ None }
 {
-    let _bundle = bundle.take(alloc);
+    bundle.clear(alloc);
 }

@@ -14,7 +14,7 @@ use crate::keep::keep_read;
 use crate::parse::{limit, tables_of};
 use cmap_chains::named_files::NamedFiles;
 use cmap_chains::read_layers;
-use cmap_handles::bundle::{BundleHandle, lent};
+use cmap_handles::bundle::BundleHandle;
 use cmap_handles::handle::MapHandle;
 use cmap_handles::room::put;
 use cmap_handles::status::Status;
@@ -55,9 +55,7 @@ pub extern "C" fn hayro_cmap_explain(
         ⊎ ((result ≤ number OverBudget) × (map.new.slot.map ≡ None)) }
 {
     map.clear(alloc);
-    let found = bundle.take(alloc);
-    let explained = explain_owned(alloc, limit(budget), data, lent(&found), files);
-    bundle.put_back(found);
+    let explained = explain_owned(alloc, limit(budget), data, bundle.bundle(), files);
     keep_read(map, alloc, tell(explained, fault, room, needed))
 }
 

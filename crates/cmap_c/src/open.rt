@@ -14,7 +14,7 @@ use crate::keep::keep_read;
 use crate::parse::{limit, tables_of};
 use cmap_chains::named_files::NamedFiles;
 use cmap_chains::open_layers;
-use cmap_handles::bundle::{BundleHandle, lent};
+use cmap_handles::bundle::BundleHandle;
 use cmap_handles::handle::MapHandle;
 use cmap_handles::status::Status;
 use cmap_layers::layers::Layers;
@@ -48,9 +48,7 @@ pub extern "C" fn hayro_cmap_open(
         ⊎ (((result ≤ number OverBudget) ⊎ (result ≡ number Absent)) × (map.new.slot.map ≡ None)) }
 {
     map.clear(alloc);
-    let found = bundle.take(alloc);
-    let opened = open_owned(alloc, limit(budget), name, lent(&found), files);
-    bundle.put_back(found);
+    let opened = open_owned(alloc, limit(budget), name, bundle.bundle(), files);
     keep_read(map, alloc, opened)
 }
 

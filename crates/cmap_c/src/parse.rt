@@ -15,7 +15,7 @@ use crate::files::BaseFile;
 use crate::keep::keep_read;
 use cmap_chains::named_files::{BundleFiles, NamedFiles};
 use cmap_chains::read_layers;
-use cmap_handles::bundle::{BundleHandle, lent};
+use cmap_handles::bundle::BundleHandle;
 use cmap_handles::handle::MapHandle;
 use cmap_handles::status::Status;
 use cmap_layers::layers::Layers;
@@ -75,9 +75,7 @@ pub extern "C" fn hayro_cmap_parse_over(
         ⊎ ((result ≤ number OverBudget) × (map.new.slot.map ≡ None)) }
 {
     map.clear(alloc);
-    let found = bundle.take(alloc);
-    let parsed = parse_owned(alloc, limit(budget), data, lent(&found), files);
-    bundle.put_back(found);
+    let parsed = parse_owned(alloc, limit(budget), data, bundle.bundle(), files);
     keep_read(map, alloc, parsed)
 }
 

@@ -14,7 +14,7 @@ use crate::files::BaseFile;
 use crate::parse::{limit, tables_of};
 use cmap_chains::named_files::NamedFiles;
 use cmap_chains::{Refusal, SalvagedLayers, salvaged_layers};
-use cmap_handles::bundle::{BundleHandle, lent};
+use cmap_handles::bundle::BundleHandle;
 use cmap_handles::handle::MapHandle;
 use cmap_handles::names::push_names;
 use cmap_handles::room::{put, put_head};
@@ -53,10 +53,7 @@ pub extern "C" fn hayro_cmap_salvage(
         ⊎ ((result ≡ number NoMemory) × (map.new.slot.map ≡ None)) }
 {
     map.clear(alloc);
-    let read = bundle.take(alloc);
-    let salvaged = salvage_owned(alloc, limit(budget), data, lent(&read), files);
-    bundle.put_back(read);
-    let Ok(salvaged) = salvaged else {
+    let Ok(salvaged) = salvage_owned(alloc, limit(budget), data, bundle.bundle(), files) else {
         return Status::NoMemory.number();
     };
     map.put(salvaged.map);

@@ -10,7 +10,7 @@ ghost use Rattle.cmap_handles.specs.declared.status.Status.TheVariants.{Refused,
 
 use crate::parse::tables_of;
 use cmap_chains::uses;
-use cmap_handles::bundle::{BundleHandle, lent};
+use cmap_handles::bundle::BundleHandle;
 use cmap_handles::names::joined;
 use cmap_handles::room::{fill, put};
 use cmap_handles::status::Status;
@@ -40,10 +40,7 @@ pub extern "C" fn hayro_cmap_uses(
     ensures ends { ((result ≡ number Done) ⊎ (result ≡ number NoRoom))
         ⊎ ((result ≡ number Refused) ⊎ (result ≡ number NoMemory)) }
 {
-    let found = bundle.take(alloc);
-    let uses = uses(alloc, data, tables_of(lent(&found)));
-    bundle.put_back(found);
-    match uses {
+    match uses(alloc, data, tables_of(bundle.bundle())) {
         Ok(Some(used)) => put_names(alloc, &used, name_lens, names, room, needed),
         Ok(None) => Status::Refused.number(),
         Err(_) => Status::NoMemory.number(),

@@ -1,2 +1,3 @@
 pub mod Encoded
 pub mod HeldEncoder
+pub mod LentEncoder

@@ -1,6 +1,7 @@
 //! Encoders of fonts, for C.
 
 ghost use Rattle.std.specs.Prelude.{◌≡◌, None, IfOk, MatchOption};
+ghost use Rattle.std.specs.Option.{option_copied};
 ghost use Rattle.cmap_handles.specs.Statuses.{number};
 ghost use Rattle.cmap_handles.specs.declared.status.Status.TheVariants.{Absent};
 ghost use Rattle.cmap_unicode.specs.Characters.{font_of};
@@ -9,9 +10,10 @@ ghost use Rattle.cmap_c_encoder.specs.Encoded.{IsBuilt};
 
 use crate::handle::EncoderHandle;
 use cmap_encode::Encoder;
-use cmap_handles::handle::{MapHandle, lent};
+use cmap_handles::handle::MapHandle;
 use cmap_handles::shared::Shared;
 use cmap_handles::status::Status;
+use cmap_layers::layers::Layers;
 use cmap_unicode::Extractor;
 use std::alloc::{AllocError, Global};
 
@@ -35,23 +37,30 @@ pub extern "C" fn hayro_cmap_encoder_build(
         encoder.new.slot.encoder result) }
 {
     encoder.clear(alloc);
-    let Some(found) = encoding.take(alloc) else {
+    let Some(layers) = encoding.layers() else {
         return Status::Absent.number();
     };
-    let texts = to_unicode.take(alloc);
-    let texts_of_cids = collection.take(alloc);
-    let texts_layers = lent(&texts);
-    let collection_layers = lent(&texts_of_cids);
-    let font = Extractor {
-        encoding: found.value(),
-        to_unicode: texts_layers,
-        collection: collection_layers,
-    };
-    let built = built(alloc, &font);
-    encoding.put(found);
-    to_unicode.put_back(texts);
-    collection.put_back(texts_of_cids);
-    encoder.keep(built)
+    let font = font(layers, to_unicode.layers(), collection.layers());
+    encoder.keep(built(alloc, &font))
+}
+
+/// The font with these maps.
+fn font<'m>(
+    encoding: &'m Layers,
+    to_unicode: Option<&'m Layers>,
+    collection: Option<&'m Layers>,
+) -> Extractor<'m>
+    ensures { font_of result ≡ record {
+      encoding = encoding.now;
+      to_unicode = option_copied to_unicode.entry;
+      collection = option_copied collection.entry;
+    } }
+{
+    Extractor {
+        encoding,
+        to_unicode,
+        collection,
+    }
 }
 
 /// The encoder of a font, which several handles may have.

@@ -32,12 +32,10 @@ pub extern "C" fn hayro_cmap_encode(
         (λ given. (font : Font) → IsEncoderOf font given → PutsString font text.now
         room.old room.new needed.old needed.new offset.old offset.new result) }
 {
-    let Some(found) = encoder.take(alloc) else {
+    let Some(encoder) = encoder.encoder() else {
         return Status::Absent.number();
     };
-    let string = string_of(alloc, found.value(), text);
-    encoder.put(found);
-    put_string(string, room, needed, offset)
+    put_string(string_of(alloc, encoder, text), room, needed, offset)
 }
 
 /// The same with bytes in the place of each character that no string shows.
@@ -56,12 +54,15 @@ pub extern "C" fn hayro_cmap_encode_lossy(
         (λ given. (font : Font) → IsEncoderOf font given → PutsLossyString font missing.now text.now
         room.old room.new needed.old needed.new result) }
 {
-    let Some(found) = encoder.take(alloc) else {
+    let Some(encoder) = encoder.encoder() else {
         return Status::Absent.number();
     };
-    let string = lossy_string_of(alloc, found.value(), text, missing);
-    encoder.put(found);
-    put_string(string, room, needed, &mut 0)
+    put_string(
+        lossy_string_of(alloc, encoder, text, missing),
+        room,
+        needed,
+        &mut 0,
+    )
 }
 
 /// The string that shows a text in UTF-8; refused where there is none.

@@ -1,6 +1,7 @@
 //! Encoders that C holds.
 
-ghost use Rattle.std.specs.Prelude.{◌≡◌, None, Some, MatchResult, is_some, option_map};
+ghost use Rattle.std.specs.Prelude.{◌≡◌, None, Some, MatchResult, is_some};
+ghost use Rattle.std.specs.Option.{option_copied};
 ghost use Rattle.cmap_handles.specs.Statuses.{number};
 ghost use Rattle.cmap_handles.specs.declared.status.Status.TheVariants.{Done, NoMemory};
 
@@ -11,9 +12,6 @@ use cmap_handles::shared::Shared;
 use cmap_handles::status::Status;
 use std::alloc::{AllocError, Global};
 use std::mem;
-
-/// An encoder that was taken from a handle, if it had one.
-pub(crate) type TakenEncoder = Option<Box<Shared<Encoder>>>;
 
 /// An encoder that C holds, or none. One that is empty is all zero bytes.
 #[repr(C)]
@@ -26,6 +24,9 @@ pub struct EncoderHandle {
 }
 
 impl EncoderHandle {
+    ghost use Rattle.std.specs.Borrow.{sem};
+    ghost use Rattle.cmap_c_encoder.specs.LentEncoder.{RestsEncoder};
+
     /// A handle without an encoder.
     pub(crate) fn empty(alloc: Global) -> EncoderHandle
         ensures { result.slot.encoder ≡ None }
@@ -36,16 +37,26 @@ impl EncoderHandle {
         }
     }
 
-    /// The encoder, which the handle then no longer has.
-    pub(crate) fn take(&mut self, alloc: Global) -> TakenEncoder
-        ensures encoder { option_map (λ b. b.value) result ≡ self.old.slot.encoder }
-        ensures empty { self.new.slot.encoder ≡ None }
+    /// The encoder, if there is one, to share it.
+    pub(crate) fn shared(&mut self) -> Option<&Shared<Encoder>>
+        ensures* rests { sem 𝓛 (RestsEncoder self.entry) }
+        ensures encoder { option_copied result ≡ self.old.slot.encoder }
     {
-        let EncoderHandle { full, slot } = mem::replace(self, EncoderHandle::empty(alloc));
-        if full {
-            Some(slot.into_loose().into_box())
+        if self.full {
+            Some(self.slot.shared())
         } else {
             None
+        }
+    }
+
+    /// The encoder, if there is one, to encode by it.
+    pub(crate) fn encoder(&mut self) -> Option<&Encoder>
+        ensures* rests { sem 𝓛 (RestsEncoder self.entry) }
+        ensures encoder { option_copied result ≡ self.old.slot.encoder }
+    {
+        match self.shared() {
+            Some(shared) => Some(shared.value()),
+            None => None,
         }
     }
 
@@ -80,6 +91,9 @@ impl EncoderHandle {
     pub(crate) fn clear(&mut self, alloc: Global)
         ensures { self.new.slot.encoder ≡ None }
     {
-        let _encoder = self.take(alloc);
+        let EncoderHandle { full, slot } = mem::replace(self, EncoderHandle::empty(alloc));
+        if full {
+            drop(slot.into_loose().into_box());
+        }
     }
 }

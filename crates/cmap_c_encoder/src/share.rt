@@ -20,12 +20,10 @@ pub extern "C" fn hayro_cmap_encoder_share(
         ⊎ ((result ≡ number NoMemory) × (other.new.slot.encoder ≡ None)) }
 {
     other.clear(alloc);
-    let Some(found) = encoder.take(alloc) else {
-        return Status::Done.number();
-    };
-    let shared = found.share(alloc);
-    encoder.put(found);
-    other.keep(shared)
+    match encoder.shared() {
+        Some(shared) => other.keep(shared.share(alloc)),
+        None => Status::Done.number(),
+    }
 }
 
 /// Frees the encoder, if there is one.

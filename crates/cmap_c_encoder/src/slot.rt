@@ -32,6 +32,9 @@ impl Model for EncoderSlot {
 unsafe impl Send for EncoderSlot {}
 
 impl EncoderSlot {
+    ghost use Rattle.std.specs.Borrow.{sem};
+    ghost use Rattle.cmap_c_encoder.specs.LentEncoder.{LendsEncoder};
+
     /// No encoder.
     pub(crate) fn empty(alloc: Global) -> EncoderSlot
         ensures { result.encoder ≡ None }
@@ -51,6 +54,15 @@ impl EncoderSlot {
             at: at as *mut u8,
             alloc,
         }
+    }
+
+    /// The encoder.
+    pub(crate) fn shared(&mut self) -> &mut Shared<Encoder>
+        requires { IsSome self.old.encoder }
+        ensures* lends { sem 𝓛 (LendsEncoder self.entry result) }
+        ensures encoder { Some result.now ≡ self.old.encoder }
+    {
+        unsafe { &mut *(self.at as *mut Shared<Encoder>) }
     }
 
     /// The encoder, which the pointer then no longer owns.

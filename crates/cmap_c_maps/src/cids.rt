@@ -21,12 +21,10 @@ pub extern "C" fn hayro_cmap_cid(
         ((result ≡ false) × (cid.new ≡ cid.old))
         (λ c. (result ≡ true) × (cid.new ≡ c)) }
 {
-    let Some(found) = map.take(alloc) else {
-        return false;
-    };
-    let answer = found.value().cid(code, byte_len, &mut Looks::new());
-    map.put(found);
-    put_cid(answer, cid)
+    match map.layers() {
+        Some(layers) => put_cid(layers.cid(code, byte_len, &mut Looks::new()), cid),
+        None => false,
+    }
 }
 
 /// The same, where the code lies in a codespace range of some layer.
@@ -46,12 +44,10 @@ pub extern "C" fn hayro_cmap_cid_strict(
     ensures outside { (InHandle map.old.slot.map code byte_len → ⊥)
         → (result ≡ false) × (cid.new ≡ cid.old) }
 {
-    let Some(found) = map.take(alloc) else {
-        return false;
-    };
-    let answer = found.value().strict_cid(code, byte_len, &mut Looks::new());
-    map.put(found);
-    put_cid(answer, cid)
+    match map.layers() {
+        Some(layers) => put_cid(layers.strict_cid(code, byte_len, &mut Looks::new()), cid),
+        None => false,
+    }
 }
 
 /// Writes a CID, if there is one: whether there is.

@@ -32,12 +32,10 @@ pub extern "C" fn hayro_cmap_codes_of_cid(
     ensures unwritten { result ≡ number NoMemory
         → (ranges.new ≡ ranges.old) × (needed.new ≡ needed.old) }
 {
-    let Some(found) = map.take(alloc) else {
+    let Some(layers) = map.layers() else {
         return Status::Absent.number();
     };
-    let codes = codes_of(alloc, found.value(), cid, byte_len);
-    map.put(found);
-    match codes {
+    match codes_of(alloc, layers, cid, byte_len) {
         Ok(codes) => put_items(&codes, ranges, needed),
         Err(_) => Status::NoMemory.number(),
     }

@@ -10,11 +10,12 @@ ghost use Rattle.cmap_handles.specs.Statuses.{number};
 ghost use Rattle.cmap_handles.specs.declared.status.Status.TheVariants.{Absent};
 
 use crate::layers::layer_at;
-use cmap_handles::handle::{MapHandle, TakenMap};
+use cmap_handles::handle::MapHandle;
 use cmap_handles::ranges::{DeclaredCids, DeclaredTexts};
 use cmap_handles::room::{put, put_found, put_items};
 use cmap_handles::status::Status;
 use cmap_layers::layer::Layer;
+use cmap_layers::layers::Layers;
 use cmap_runs::runs::Looks;
 use cmap_values::code_length::CodeLength;
 use std::alloc::Global;
@@ -34,10 +35,7 @@ pub extern "C" fn hayro_cmap_cid_ranges(
         ((result ≡ number Absent) × (ranges.new ≡ ranges.old) × (needed.new ≡ needed.old))
         (λ given. IsPut (cids_declared given byte_len) ranges.old ranges.new needed.new result) }
 {
-    let found = map.take(alloc);
-    let status = put_cids(layer_at(&found, layer), byte_len, ranges, needed);
-    map.put_back(found);
-    status
+    put_cids(layer_at(map.layers(), layer), byte_len, ranges, needed)
 }
 
 /// The declarations of notdefs of a layer, for codes of `byte_len` bytes, in the order of its file.
@@ -55,10 +53,7 @@ pub extern "C" fn hayro_cmap_notdef_ranges(
         ((result ≡ number Absent) × (ranges.new ≡ ranges.old) × (needed.new ≡ needed.old))
         (λ given. IsPut (notdefs_declared given byte_len) ranges.old ranges.new needed.new result) }
 {
-    let found = map.take(alloc);
-    let status = put_notdefs(layer_at(&found, layer), byte_len, ranges, needed);
-    map.put_back(found);
-    status
+    put_notdefs(layer_at(map.layers(), layer), byte_len, ranges, needed)
 }
 
 /// The declarations of texts of a layer, in the order of its file.
@@ -75,10 +70,7 @@ pub extern "C" fn hayro_cmap_text_ranges(
         ((result ≡ number Absent) × (ranges.new ≡ ranges.old) × (needed.new ≡ needed.old))
         (λ given. IsPut (texts_declared given) ranges.old ranges.new needed.new result) }
 {
-    let found = map.take(alloc);
-    let status = put_texts(layer_at(&found, layer), ranges, needed);
-    map.put_back(found);
-    status
+    put_texts(layer_at(map.layers(), layer), ranges, needed)
 }
 
 /// The units of the declaration of texts at an index of a layer: those of the text of its first code.
@@ -96,10 +88,7 @@ pub extern "C" fn hayro_cmap_text_units(
         ((result ≡ number Absent) × (units.new ≡ units.old) × (needed.new ≡ needed.old))
         (λ declared. IsPut declared.units units.old units.new needed.new result) }
 {
-    let found = map.take(alloc);
-    let status = put_found(units_at(&found, layer, index), units, needed);
-    map.put_back(found);
-    status
+    put_found(units_at(map.layers(), layer, index), units, needed)
 }
 
 /// Writes the declarations of CIDs of a layer, if there is one.
@@ -155,11 +144,11 @@ fn put_texts(layer: Option<&Layer>, ranges: &mut [DeclaredTexts], needed: &mut u
 }
 
 /// The units of the declaration of texts at an index of a layer.
-fn units_at(found: &TakenMap, layer: usize, index: usize) -> Option<&[u16]>
+fn units_at(map: Option<&Layers>, layer: usize, index: usize) -> Option<&[u16]>
     ensures { option_copied result ≡ option_map (λ declared. declared.units)
-        (text_in (option_map (λ b. b.value) found.now) layer index) }
+        (text_in (option_copied map.entry) layer index) }
 {
-    let Some(layer) = layer_at(found, layer) else {
+    let Some(layer) = layer_at(map, layer) else {
         return None;
     };
     let texts = layer.texts();

@@ -47,14 +47,12 @@ pub extern "C" fn hayro_cmap_decode(
         ((result ≡ number Absent) × (codes.new ≡ codes.old) × (made.new ≡ 0) × (taken.new ≡ 0))
         (λ layers. IsDecoded layers text.now codes.old codes.new made.new taken.new result) }
 {
-    let Some(found) = map.take(alloc) else {
+    let Some(layers) = map.layers() else {
         *made = 0;
         *taken = 0;
         return Status::Absent.number();
     };
-    let status = decode(found.value(), text, codes, made, taken);
-    map.put(found);
-    status
+    decode(layers, text, codes, made, taken)
 }
 
 /// Cuts a string into codes, as many as there is room for.

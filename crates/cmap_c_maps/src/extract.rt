@@ -2,6 +2,7 @@
 
 ghost use Rattle.std.specs.Prelude.{◌≡◌, ◌-◌, ◌<◌, ◌≤◌, None, MatchOption, MatchResult, length};
 ghost use Rattle.std.specs.Bool.{MatchBool};
+ghost use Rattle.std.specs.Option.{option_copied};
 ghost use Rattle.cmap_unicode.specs.Characters.{font_of};
 ghost use Rattle.cmap_c_maps.specs.Extracted.{IsExtracted, bytes_of, character_seen, font_given};
 ghost use Rattle.cmap_c_maps.specs.ExtractedParts.{IsMade, IsPutAt, IsStop};
@@ -9,8 +10,9 @@ ghost use Rattle.cmap_handles.specs.Statuses.{number};
 ghost use Rattle.cmap_handles.specs.declared.status.Status.TheVariants.{Absent};
 
 use crate::decode::Code;
-use cmap_handles::handle::{MapHandle, lent};
+use cmap_handles::handle::MapHandle;
 use cmap_handles::status::Status;
+use cmap_layers::layers::Layers;
 use cmap_tokens::utf16::BfString;
 use cmap_unicode::{Character, Extractor};
 use std::alloc::Global;
@@ -65,23 +67,27 @@ pub extern "C" fn hayro_cmap_extract(
         string.now characters.old characters.new text.old text.new extracted.new result) }
 {
     *extracted = Extracted::none();
-    let Some(found) = encoding.take(alloc) else {
+    let Some(layers) = encoding.layers() else {
         return Status::Absent.number();
     };
-    let texts = to_unicode.take(alloc);
-    let texts_of_cids = collection.take(alloc);
-    let texts_layers = lent(&texts);
-    let collection_layers = lent(&texts_of_cids);
-    let font = Extractor {
-        encoding: found.value(),
-        to_unicode: texts_layers,
-        collection: collection_layers,
-    };
-    let status = extract(alloc, &font, string, characters, text, extracted);
-    encoding.put(found);
-    to_unicode.put_back(texts);
-    collection.put_back(texts_of_cids);
-    status
+    let font = font(layers, to_unicode.layers(), collection.layers());
+    extract(alloc, &font, string, characters, text, extracted)
+}
+
+/// The font with these maps.
+fn font<'m>(
+    encoding: &'m Layers,
+    to_unicode: Option<&'m Layers>,
+    collection: Option<&'m Layers>,
+) -> Extractor<'m>
+    ensures { font_of result
+        ≡ font_given encoding.now (option_copied to_unicode.entry) (option_copied collection.entry) }
+{
+    Extractor {
+        encoding,
+        to_unicode,
+        collection,
+    }
 }
 
 impl Extracted {

@@ -8,11 +8,12 @@ ghost use Rattle.cmap_handles.specs.Rooms.{IsPut};
 ghost use Rattle.cmap_handles.specs.Statuses.{number};
 ghost use Rattle.cmap_handles.specs.declared.status.Status.TheVariants.{Absent};
 
-use cmap_handles::handle::{MapHandle, TakenMap, lent};
+use cmap_handles::handle::MapHandle;
 use cmap_handles::ranges::CodespaceRange;
 use cmap_handles::room::put_items;
 use cmap_handles::status::Status;
 use cmap_layers::layer::Layer;
+use cmap_layers::layers::Layers;
 use std::alloc::Global;
 
 /// How many layers the map has.
@@ -22,12 +23,10 @@ pub extern "C" fn hayro_cmap_layers(map: &mut MapHandle, alloc: Global) -> usize
     ensures count { MatchOption map.old.slot.map (result ≡ 0)
         (λ layers. (result ≡ length layers) × (1 ≤ result) × (result ≤ 16)) }
 {
-    let Some(found) = map.take(alloc) else {
-        return 0;
-    };
-    let count = found.value().as_slice().len();
-    map.put(found);
-    count
+    match map.layers() {
+        Some(layers) => layers.as_slice().len(),
+        None => 0,
+    }
 }
 
 /// The codespace ranges of a layer, in the order of its file. ISO 32000-1, 9.7.6.2.
@@ -44,21 +43,18 @@ pub extern "C" fn hayro_cmap_codespaces(
         ((result ≡ number Absent) × (ranges.new ≡ ranges.old) × (needed.new ≡ needed.old))
         (λ given. IsPut (ranges_seen given.lists.spaces) ranges.old ranges.new needed.new result) }
 {
-    let found = map.take(alloc);
-    let status = match layer_at(&found, layer) {
+    match layer_at(map.layers(), layer) {
         Some(given) => put_items(&given.codespaces(), ranges, needed),
         None => Status::Absent.number(),
-    };
-    map.put_back(found);
-    status
+    }
 }
 
-/// The layer at an index of a map that was taken, where it has one.
-pub(crate) fn layer_at(found: &TakenMap, layer: usize) -> Option<&Layer>
+/// The layer at an index of a map, if there is one.
+pub(crate) fn layer_at(map: Option<&Layers>, layer: usize) -> Option<&Layer>
     ensures { option_map layer_seen (option_copied result)
-        ≡ layer_in (option_map (λ b. b.value) found.now) layer }
+        ≡ layer_in (option_copied map.entry) layer }
 {
-    let layers = lent(found)?.as_slice();
+    let layers = map?.as_slice();
     if layer < layers.len() {
         Some(&layers[layer])
     } else {

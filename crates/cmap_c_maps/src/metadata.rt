@@ -10,9 +10,10 @@ ghost use Rattle.cmap_handles.specs.Statuses.{number};
 ghost use Rattle.cmap_handles.specs.declared.status.Status.TheVariants.{Absent};
 
 use crate::layers::layer_at;
-use cmap_handles::handle::{MapHandle, TakenMap};
+use cmap_handles::handle::MapHandle;
 use cmap_handles::room::{put, put_found};
 use cmap_handles::status::Status;
+use cmap_layers::layers::Layers;
 use cmap_values::character_collection::CharacterCollection;
 use cmap_values::writing_mode::WritingMode;
 use std::alloc::Global;
@@ -48,10 +49,7 @@ pub extern "C" fn hayro_cmap_layer_name(
         ((result ≡ number Absent) × (room.new ≡ room.old) × (needed.new ≡ needed.old))
         (λ name. IsPut name room.old room.new needed.new result) }
 {
-    let found = map.take(alloc);
-    let status = put_found(name_at(&found, layer), room, needed);
-    map.put_back(found);
-    status
+    put_found(name_at(map.layers(), layer), room, needed)
 }
 
 /// The registry of the character collection that the file gives.
@@ -85,13 +83,10 @@ pub extern "C" fn hayro_cmap_layer_registry(
         ((result ≡ number Absent) × (room.new ≡ room.old) × (needed.new ≡ needed.old))
         (λ given. IsPut (registry_of given.family) room.old room.new needed.new result) }
 {
-    let found = map.take(alloc);
-    let status = match collection_at(&found, layer) {
+    match collection_at(map.layers(), layer) {
         Some(given) => put(given.family.registry(), room, needed),
         None => Status::Absent.number(),
-    };
-    map.put_back(found);
-    status
+    }
 }
 
 /// The ordering of the character collection that the file gives.
@@ -125,13 +120,10 @@ pub extern "C" fn hayro_cmap_layer_ordering(
         ((result ≡ number Absent) × (room.new ≡ room.old) × (needed.new ≡ needed.old))
         (λ given. IsPut (ordering_of given.family) room.old room.new needed.new result) }
 {
-    let found = map.take(alloc);
-    let status = match collection_at(&found, layer) {
+    match collection_at(map.layers(), layer) {
         Some(given) => put(given.family.ordering(), room, needed),
         None => Status::Absent.number(),
-    };
-    map.put_back(found);
-    status
+    }
 }
 
 /// The supplement of the character collection that the file gives: whether it gives one, and which.
@@ -164,16 +156,13 @@ pub extern "C" fn hayro_cmap_layer_supplement(
         ((result ≡ false) × (supplement.new ≡ supplement.old))
         (λ given. (result ≡ true) × (supplement.new ≡ given.supplement)) }
 {
-    let found = map.take(alloc);
-    let has = match collection_at(&found, layer) {
+    match collection_at(map.layers(), layer) {
         Some(given) => {
             *supplement = given.supplement;
             true
         }
         None => false,
-    };
-    map.put_back(found);
-    has
+    }
 }
 
 /// The writing mode that the file gives: 0 horizontal, 1 vertical, 2 where it gives none.
@@ -196,9 +185,7 @@ pub extern "C" fn hayro_cmap_layer_writing_mode(
     ensures same { map.new.slot.map ≡ map.old.slot.map }
     ensures mode { result ≡ mode_number (layer_mode map.old.slot.map layer) }
 {
-    let found = map.take(alloc);
-    let mode = mode_at(&found, layer);
-    map.put_back(found);
+    let mode = mode_at(map.layers(), layer);
     match mode {
         Some(WritingMode::Horizontal) => 0,
         Some(WritingMode::Vertical) => 1,
@@ -207,31 +194,31 @@ pub extern "C" fn hayro_cmap_layer_writing_mode(
 }
 
 /// The name that the file of a layer gives.
-fn name_at(found: &TakenMap, layer: usize) -> Option<&[u8]>
-    ensures { option_copied result ≡ layer_name (option_map (λ b. b.value) found.now) layer }
+fn name_at(map: Option<&Layers>, layer: usize) -> Option<&[u8]>
+    ensures { option_copied result ≡ layer_name (option_copied map.entry) layer }
 {
-    match layer_at(found, layer) {
+    match layer_at(map, layer) {
         Some(layer) => layer.metadata().name.as_deref(),
         None => None,
     }
 }
 
 /// The character collection that the file of a layer gives.
-fn collection_at(found: &TakenMap, layer: usize) -> Option<&CharacterCollection>
+fn collection_at(map: Option<&Layers>, layer: usize) -> Option<&CharacterCollection>
     ensures { option_map collection_seen (option_copied result)
-        ≡ layer_collection (option_map (λ b. b.value) found.now) layer }
+        ≡ layer_collection (option_copied map.entry) layer }
 {
-    match layer_at(found, layer) {
+    match layer_at(map, layer) {
         Some(layer) => layer.metadata().character_collection.as_ref(),
         None => None,
     }
 }
 
 /// The writing mode that the file of a layer gives.
-fn mode_at(found: &TakenMap, layer: usize) -> Option<WritingMode>
-    ensures { option_map mode_seen result ≡ layer_mode (option_map (λ b. b.value) found.now) layer }
+fn mode_at(map: Option<&Layers>, layer: usize) -> Option<WritingMode>
+    ensures { option_map mode_seen result ≡ layer_mode (option_copied map.entry) layer }
 {
-    match layer_at(found, layer) {
+    match layer_at(map, layer) {
         Some(layer) => layer.metadata().writing_mode,
         None => None,
     }

@@ -22,10 +22,9 @@ pub extern "C" fn hayro_cmap_cids(
         ((result ≡ false) × (cids.new ≡ cids.old))
         (λ layers. (result ≡ true) × AreCidsOf layers byte_len absent first cids.new) }
 {
-    let Some(found) = map.take(alloc) else {
+    let Some(layers) = map.layers() else {
         return false;
     };
-    found.value().fill_cids(first, byte_len, absent, cids);
-    map.put(found);
+    layers.fill_cids(first, byte_len, absent, cids);
     true
 }

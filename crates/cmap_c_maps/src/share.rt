@@ -16,12 +16,10 @@ pub extern "C" fn hayro_cmap_share(map: &mut MapHandle, alloc: Global, other: &m
         ⊎ ((result ≡ number NoMemory) × (other.new.slot.map ≡ None)) }
 {
     other.clear(alloc);
-    let Some(found) = map.take(alloc) else {
-        return Status::Done.number();
-    };
-    let shared = found.share(alloc);
-    map.put(found);
-    other.keep(shared)
+    match map.shared() {
+        Some(shared) => other.keep(shared.share(alloc)),
+        None => Status::Done.number(),
+    }
 }
 
 /// Frees the map, if there is one.

@@ -32,12 +32,10 @@ pub extern "C" fn hayro_cmap_text(
     ensures unwritten { result ≡ number NoMemory
         → (room.new ≡ room.old) × (needed.new ≡ needed.old) }
 {
-    let Some(found) = map.take(alloc) else {
+    let Some(layers) = map.layers() else {
         return Status::Absent.number();
     };
-    let answer = found.value().text(alloc, code, &mut Looks::new());
-    map.put(found);
-    match answer {
+    match layers.text(alloc, code, &mut Looks::new()) {
         Ok(Some(text)) => put_text(&text, room, needed),
         Ok(None) => Status::Absent.number(),
         Err(_) => Status::NoMemory.number(),

@@ -36,12 +36,10 @@ pub extern "C" fn hayro_cmap_write(
         (λ layers. PutsText (IsWrittenText layers codes.now) (HasNoWrittenText layers codes.now)
         room.old room.new needed.old needed.new result) }
 {
-    let Some(found) = map.take(alloc) else {
+    let Some(layers) = map.layers() else {
         return Status::Absent.number();
     };
-    let text = written_text(alloc, found.value(), codes);
-    map.put(found);
-    put_text(text, room, needed)
+    put_text(written_text(alloc, layers, codes), room, needed)
 }
 
 /// The text; refused where there is none.

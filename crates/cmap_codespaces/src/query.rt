@@ -23,6 +23,7 @@ pub struct Query {
 
 impl Query {
     /// The ranges with codes of `byte_len` bytes, from 1 to 4, that may begin with these, at most four.
+    #[inline(always)]
     pub fn of_front(byte_len: u8, front: &[u8]) -> Query
         requires length { IsCodeLength byte_len }
         requires few { length front.now ≤ 4 }
@@ -42,6 +43,7 @@ impl Query {
     }
 
     /// The ranges that contain a code of this length.
+    #[inline(always)]
     pub fn of_code(code: u32, len: CodeLength) -> Query
         ensures rows { AreRows result }
         ensures ranges { (space : Codespace)
@@ -57,6 +59,7 @@ impl Query {
     }
 
     /// Whether a range of a block is in all rows.
+    #[inline(always)]
     pub(crate) fn finds(&self, rows: &[u64]) -> bool
         requires size { length rows.now ≡ row_count }
         requires rows { AreRows self.now }
@@ -66,6 +69,7 @@ impl Query {
     }
 
     /// The bits that are set in all rows.
+    #[inline(always)]
     pub(crate) fn among(&self, rows: &[u64]) -> u64
         requires size { length rows.now ≡ row_count }
         requires rows { AreRows self.now }
@@ -80,6 +84,7 @@ impl Query {
 }
 
 /// The row of the byte at a place, or another one where there are fewer bytes.
+#[inline(always)]
 fn row_at(front: &[u8], otherwise: usize, place: u8) -> usize
     ensures { result ≡ front_row front.now otherwise place }
 {

@@ -128,6 +128,7 @@ impl Spaces {
     }
 
     /// Whether one of the ranges is asked for.
+    #[inline(always)]
     pub fn any(&self, query: &Query) -> bool
         requires { AreRows query.now }
         ensures { IsTrue result ↔ Any (InRows query.now) (map codespace_seen self.now) }

@@ -1,6 +1,6 @@
 //! Bundles that C holds.
 
-ghost use Rattle.std.specs.Prelude.{◌≡◌, None, Some, MatchResult, is_some, option_map};
+ghost use Rattle.std.specs.Prelude.{◌≡◌, None, Some, MatchResult, is_some};
 ghost use Rattle.std.specs.Option.{option_copied};
 ghost use Rattle.cmap_handles.specs.Statuses.{number};
 ghost use Rattle.cmap_handles.specs.declared.status.Status.TheVariants.{Done, NoMemory};
@@ -13,19 +13,6 @@ use cmap_packed::OwnedBundle;
 use std::alloc::{AllocError, Global};
 use std::mem;
 
-/// A bundle that was taken from a handle, if it had one.
-pub type TakenBundle = Option<Box<Shared<OwnedBundle>>>;
-
-/// The bundle that was taken, to read it.
-pub fn lent(found: &TakenBundle) -> Option<&OwnedBundle>
-    ensures { option_copied result ≡ option_map (λ b. b.value) found.now }
-{
-    match found {
-        Some(shared) => Some(shared.value()),
-        None => None,
-    }
-}
-
 /// A bundle that C holds, or none. One that is empty is all zero bytes.
 #[repr(C)]
 #[derive(Drop)]
@@ -37,6 +24,9 @@ pub struct BundleHandle {
 }
 
 impl BundleHandle {
+    ghost use Rattle.std.specs.Borrow.{sem};
+    ghost use Rattle.cmap_handles.specs.Lent.{RestsBundle};
+
     /// A handle without a bundle.
     pub fn empty(alloc: Global) -> BundleHandle
         ensures { result.slot.bundle ≡ None }
@@ -47,16 +37,26 @@ impl BundleHandle {
         }
     }
 
-    /// The bundle, which the handle then no longer has.
-    pub fn take(&mut self, alloc: Global) -> TakenBundle
-        ensures bundle { option_map (λ b. b.value) result ≡ self.old.slot.bundle }
-        ensures empty { self.new.slot.bundle ≡ None }
+    /// The bundle, if there is one, to share it.
+    pub fn shared(&mut self) -> Option<&Shared<OwnedBundle>>
+        ensures* rests { sem 𝓛 (RestsBundle self.entry) }
+        ensures bundle { option_copied result ≡ self.old.slot.bundle }
     {
-        let BundleHandle { full, slot } = mem::replace(self, BundleHandle::empty(alloc));
-        if full {
-            Some(slot.into_loose().into_box())
+        if self.full {
+            Some(self.slot.shared())
         } else {
             None
+        }
+    }
+
+    /// The bundle, if there is one, to read it.
+    pub fn bundle(&mut self) -> Option<&OwnedBundle>
+        ensures* rests { sem 𝓛 (RestsBundle self.entry) }
+        ensures bundle { option_copied result ≡ self.old.slot.bundle }
+    {
+        match self.shared() {
+            Some(shared) => Some(shared.value()),
+            None => None,
         }
     }
 
@@ -69,16 +69,6 @@ impl BundleHandle {
             full: true,
             slot: BundleSlot::of_loose(Loose::of(bundle)),
         };
-    }
-
-    /// Gives an empty handle the bundle that was taken from it, if it had one.
-    pub fn put_back(&mut self, found: TakenBundle)
-        requires { self.old.slot.bundle ≡ None }
-        ensures { self.new.slot.bundle ≡ option_map (λ b. b.value) found }
-    {
-        if let Some(bundle) = found {
-            self.put(bundle);
-        }
     }
 
     /// Gives an empty handle the bundle that was made, or none where memory ran out.
@@ -94,6 +84,15 @@ impl BundleHandle {
                 Status::Done.number()
             }
             Err(_) => Status::NoMemory.number(),
+        }
+    }
+    /// Frees the bundle, if there is one.
+    pub fn clear(&mut self, alloc: Global)
+        ensures { self.new.slot.bundle ≡ None }
+    {
+        let BundleHandle { full, slot } = mem::replace(self, BundleHandle::empty(alloc));
+        if full {
+            drop(slot.into_loose().into_box());
         }
     }
 }

@@ -1,6 +1,6 @@
 //! Maps that C holds.
 
-ghost use Rattle.std.specs.Prelude.{◌≡◌, None, Some, MatchResult, is_some, option_map};
+ghost use Rattle.std.specs.Prelude.{◌≡◌, None, Some, MatchResult, is_some};
 ghost use Rattle.std.specs.Option.{option_copied};
 ghost use Rattle.cmap_handles.specs.Statuses.{number};
 ghost use Rattle.cmap_handles.specs.declared.status.Status.TheVariants.{Done, NoMemory};
@@ -13,19 +13,6 @@ use cmap_layers::layers::Layers;
 use std::alloc::{AllocError, Global};
 use std::mem;
 
-/// A map that was taken from a handle, if it had one.
-pub type TakenMap = Option<Box<Shared<Layers>>>;
-
-/// The map that was taken, to ask it.
-pub fn lent(found: &TakenMap) -> Option<&Layers>
-    ensures { option_copied result ≡ option_map (λ b. b.value) found.now }
-{
-    match found {
-        Some(shared) => Some(shared.value()),
-        None => None,
-    }
-}
-
 /// A map that C holds, or none. One that is empty is all zero bytes.
 #[repr(C)]
 #[derive(Drop)]
@@ -37,6 +24,9 @@ pub struct MapHandle {
 }
 
 impl MapHandle {
+    ghost use Rattle.std.specs.Borrow.{sem};
+    ghost use Rattle.cmap_handles.specs.Lent.{RestsMap};
+
     /// A handle without a map.
     pub fn empty(alloc: Global) -> MapHandle
         ensures { result.slot.map ≡ None }
@@ -47,16 +37,26 @@ impl MapHandle {
         }
     }
 
-    /// The map, which the handle then no longer has.
-    pub fn take(&mut self, alloc: Global) -> TakenMap
-        ensures map { option_map (λ b. b.value) result ≡ self.old.slot.map }
-        ensures empty { self.new.slot.map ≡ None }
+    /// The map, if there is one, to share it.
+    pub fn shared(&mut self) -> Option<&Shared<Layers>>
+        ensures* rests { sem 𝓛 (RestsMap self.entry) }
+        ensures map { option_copied result ≡ self.old.slot.map }
     {
-        let MapHandle { full, slot } = mem::replace(self, MapHandle::empty(alloc));
-        if full {
-            Some(slot.into_loose().into_box())
+        if self.full {
+            Some(self.slot.shared())
         } else {
             None
+        }
+    }
+
+    /// The map, if there is one, to ask it.
+    pub fn layers(&mut self) -> Option<&Layers>
+        ensures* rests { sem 𝓛 (RestsMap self.entry) }
+        ensures map { option_copied result ≡ self.old.slot.map }
+    {
+        match self.shared() {
+            Some(shared) => Some(shared.value()),
+            None => None,
         }
     }
 
@@ -69,16 +69,6 @@ impl MapHandle {
             full: true,
             slot: MapSlot::of_loose(Loose::of(map)),
         };
-    }
-
-    /// Gives an empty handle the map that was taken from it, if it had one.
-    pub fn put_back(&mut self, found: TakenMap)
-        requires { self.old.slot.map ≡ None }
-        ensures { self.new.slot.map ≡ option_map (λ b. b.value) found }
-    {
-        if let Some(map) = found {
-            self.put(map);
-        }
     }
 
     /// Gives an empty handle the map that was made, or none where memory ran out.
@@ -101,6 +91,9 @@ impl MapHandle {
     pub fn clear(&mut self, alloc: Global)
         ensures { self.new.slot.map ≡ None }
     {
-        let _map = self.take(alloc);
+        let MapHandle { full, slot } = mem::replace(self, MapHandle::empty(alloc));
+        if full {
+            drop(slot.into_loose().into_box());
+        }
     }
 }

@@ -33,6 +33,9 @@ impl Model for MapSlot {
 unsafe impl Send for MapSlot {}
 
 impl MapSlot {
+    ghost use Rattle.std.specs.Borrow.{sem};
+    ghost use Rattle.cmap_handles.specs.Lent.{LendsMap};
+
     /// No map.
     pub(crate) fn empty(alloc: Global) -> MapSlot
         ensures { result.map ≡ None }
@@ -52,6 +55,15 @@ impl MapSlot {
             at: at as *mut u8,
             alloc,
         }
+    }
+
+    /// The map.
+    pub(crate) fn shared(&mut self) -> &mut Shared<Layers>
+        requires { IsSome self.old.map }
+        ensures* lends { sem 𝓛 (LendsMap self.entry result) }
+        ensures map { Some result.now ≡ self.old.map }
+    {
+        unsafe { &mut *(self.at as *mut Shared<Layers>) }
     }
 
     /// The map, which the pointer then no longer owns.
@@ -87,6 +99,9 @@ impl Model for BundleSlot {
 unsafe impl Send for BundleSlot {}
 
 impl BundleSlot {
+    ghost use Rattle.std.specs.Borrow.{sem};
+    ghost use Rattle.cmap_handles.specs.Lent.{LendsBundle};
+
     /// No bundle.
     pub(crate) fn empty(alloc: Global) -> BundleSlot
         ensures { result.bundle ≡ None }
@@ -106,6 +121,15 @@ impl BundleSlot {
             at: at as *mut u8,
             alloc,
         }
+    }
+
+    /// The bundle.
+    pub(crate) fn shared(&mut self) -> &mut Shared<OwnedBundle>
+        requires { IsSome self.old.bundle }
+        ensures* lends { sem 𝓛 (LendsBundle self.entry result) }
+        ensures bundle { Some result.now ≡ self.old.bundle }
+    {
+        unsafe { &mut *(self.at as *mut Shared<OwnedBundle>) }
     }
 
     /// The bundle, which the pointer then no longer owns.

@@ -17,6 +17,7 @@ use cmap_values::code_length::CodeLength;
 impl Layers {
     /// Whether a codespace range of some layer contains a code of `byte_len` bytes. None does where
     /// the code doesn't fit in these, or `byte_len` is outside 1 to 4.
+    #[inline(always)]
     pub fn in_codespace(&self, code: u32, byte_len: u8) -> bool
         ensures { IsTrue result ↔ InCodespace self.now code byte_len }
     {
@@ -61,6 +62,7 @@ fn shortest_of_all(layers: &[Layer], text: &[u8]) -> Option<u8>
 }
 
 /// Whether a codespace range of some layer is asked for.
+#[inline(always)]
 fn any(layers: &[Layer], query: &Query) -> bool
     requires { AreRows query.now }
     ensures { IsTrue result
@@ -68,8 +70,18 @@ fn any(layers: &[Layer], query: &Query) -> bool
 {
     match layers {
         [only] => only.spaces.any(query),
-        _ => layers.iter().any(|layer| layer.spaces.any(query)),
+        _ => any_of_all(layers, query),
     }
+}
+
+/// The answer of `any`, of any number of layers.
+#[inline(never)]
+fn any_of_all(layers: &[Layer], query: &Query) -> bool
+    requires { AreRows query.now }
+    ensures { IsTrue result
+        ↔ Any (λ layer. Any (InRows query.now) layer.lists.spaces) (layers_seen layers.now) }
+{
+    layers.iter().any(|layer| layer.spaces.any(query))
 }
 
 /// Whether a code fits in this many bytes.

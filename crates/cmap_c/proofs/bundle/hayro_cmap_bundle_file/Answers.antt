@@ -1,16 +1,10 @@
-use Rattle.std.proofs.Common.{◌∙◌, None, Some, ap, refl}
+use Rattle.std.proofs.Common.{Some, None, refl}
 use Rattle.cmap_chains.specs.Answers.{embedded}
 use Rattle.cmap_handles.proofs.HandlesRead.{given_in}
 use Rattle.cmap_c.proofs.bundle.hayro_cmap_bundle_file.Goals as goal
 
-pub returns-in_default : goal.returns-in_default
-returns-in_default c = record {
-  same = c.in_default.ensures.empty ∙ c.in_default.ensures.bundle;
-  file = given_in (λ bundle. embedded bundle c.args.name.now) _ None None _ _ refl c.in_default.ensures.bundle (c.number.ensures, refl, refl);
-}
+pub returns-in-Some-clause-file : goal.returns-in-Some-clause-file
+returns-in-Some-clause-file c = given_in (λ bundle. embedded bundle c.args.name.now) _ (Some c.in-Some.bundle.now) _ _ _ c.file_of.ensures c.in-Some.ensures.bundle c.put_found.ensures
 
-pub returns : goal.returns
-returns c = record {
-  same = c.put.ensures ∙ c.in-Some.ensures.bundle;
-  file = given_in (λ bundle. embedded bundle c.args.name.now) _ (Some c.value.result.now) _ _ _ c.file_of.ensures (ap Some (c.value.ensures ∙ c.deref.ensures) ∙ c.in-Some.ensures.bundle) c.put_found-status.ensures;
-}
+pub returns-in-None-clause-file : goal.returns-in-None-clause-file
+returns-in-None-clause-file c = given_in (λ bundle. embedded bundle c.args.name.now) _ None None _ _ refl c.in-None.ensures.bundle (c.number.ensures, refl, refl)

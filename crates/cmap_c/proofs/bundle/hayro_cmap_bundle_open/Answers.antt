@@ -23,12 +23,12 @@ returns-in-Ok-None c =
     record {
       opened = λ done. absurd (not_both NotABundle Done refl c.number.ensures done);
       not_a_bundle = λ _. none;
-      failed = inr (inr c.number.ensures, c.hayro_cmap_bundle_free.ensures);
+      failed = inr (inr c.number.ensures, c.clear.ensures);
     }
 
 pub returns-in-Err : goal.returns-in-Err
 returns-in-Err c = record {
   opened = λ done. absurd (not_both NoMemory Done refl c.number-in-Err.ensures done);
   not_a_bundle = λ none. absurd (not_both NoMemory NotABundle refl c.number-in-Err.ensures none);
-  failed = inr (inl c.number-in-Err.ensures, c.hayro_cmap_bundle_free.ensures);
+  failed = inr (inl c.number-in-Err.ensures, c.clear.ensures);
 }

@@ -1,4 +1,4 @@
-use Rattle.std.proofs.Common.{◌≡◌, ◌∙◌}
+use Rattle.std.proofs.Common.{◌≡◌}
 use Rattle.std.specs.Option.{option_copied}
 use Rattle.cmap_c.specs.NamedFiles.{ExceedsBudgetOver, FitsBudgetOver, HasNoMapOver, IsMapOver, budget_of}
 use Rattle.cmap_c.proofs.MapsKept.{Ended, ended, few}
@@ -8,17 +8,20 @@ use Rattle.cmap_c.proofs.parse.hayro_cmap_parse_over.Goals as goal
 says : (c : goal.After-keep_read) → let bundle = c.args.bundle.now.slot.bundle in let files = c.args.files.now in let bytes = c.args.data.now in let budget = budget_of c.args.budget in
     Ended (IsMapOver bundle files bytes) (HasNoMapOver bundle files bytes) (FitsBudgetOver bundle files bytes budget) (ExceedsBudgetOver bundle files bytes budget) ⊥ ⊥ c.keep_read.result c.keep_read.new.handle.slot.map
 says c =
-    let given : option_copied c.lent.result ≡ c.args.bundle.now.slot.bundle = c.lent.ensures ∙ c.take-found.ensures.bundle in
+    let given : option_copied c.bundle.result ≡ c.args.bundle.now.slot.bundle = c.bundle.ensures.bundle in
     ended _ _ _ _ _ _ c.parse_owned-parsed.result _ _ (rw (given, c.limit.ensures) at c.parse_owned-parsed.ensures) c.keep_read.ensures
 
-pub returns : goal.returns
-returns c =
-    let ends = says c in
-    record {
-      same = c.put_back.ensures ∙ c.take-found.ensures.bundle;
-      accepts = ends.accepts;
-      refuses = ends.refuses;
-      over = ends.passes;
-      within = ends.within;
-      failed = few ends.failed;
-    }
+pub returns-clause-accepts : goal.returns-clause-accepts
+returns-clause-accepts c = (says c).accepts
+
+pub returns-clause-refuses : goal.returns-clause-refuses
+returns-clause-refuses c = (says c).refuses
+
+pub returns-clause-over : goal.returns-clause-over
+returns-clause-over c = (says c).passes
+
+pub returns-clause-within : goal.returns-clause-within
+returns-clause-within c = (says c).within
+
+pub returns-clause-failed : goal.returns-clause-failed
+returns-clause-failed c = few (says c).failed

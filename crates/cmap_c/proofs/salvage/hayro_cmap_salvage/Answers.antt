@@ -13,7 +13,7 @@ heads old new items shown many same count put = rw (same, count) at put
 
 pub returns-in_default : goal.returns-in_default
 returns-in_default c = record {
-  same = c.put_back.ensures ∙ c.take-read.ensures.bundle;
+  same = c.bundle.follows.holds-at-none;
   says = λ done. absurd (not_both NoMemory Done refl c.number.ensures done);
   unwritten = λ _. (refl, refl, refl, refl);
   failed = inr (c.number.ensures, c.clear.ensures);
@@ -21,14 +21,14 @@ returns-in_default c = record {
 
 pub returns : goal.returns
 returns c =
-    let given : option_copied c.lent.result ≡ c.args.bundle.now.slot.bundle = c.lent.ensures ∙ c.take-read.ensures.bundle in
+    let given : option_copied c.bundle.result ≡ c.args.bundle.now.slot.bundle = c.bundle.ensures.bundle in
     let files = c.args.files.now in
     let said = subst (λ budget. IsSalvagedWith (IsSalvageOver c.args.bundle.now.slot.bundle files c.args.data.now budget) c.in-Ok.salvaged) c.limit.ensures
     (subst (λ bundle. IsSalvagedWith (IsSalvageOver bundle files c.args.data.now c.limit.result) c.in-Ok.salvaged) given c.in-Ok.ensures) in
     let faults = said.0 in
     let many : length (numbers_of_all faults) ≡ length faults = length-map faults (λ fault. fault_numbers fault.names fault.cause) in
     record {
-      same = c.put_back.ensures ∙ c.take-read.ensures.bundle;
+      same = c.bundle.follows.holds-at-none;
       says = λ _. record {
         layers = c.in-Ok.salvaged.map.value;
         faults = faults;

@@ -60,23 +60,23 @@ returns-in-Ok-Some c =
     let only : IsOnly (AreUses (Means (tables_given c.tables_of.result)) bytes) used = rw c.in-Ok-Some.field-0-is at c.in-Ok-Some.ensures in
     let put = c.put_names in
     let is : IsUsed (AreUsesOver c.args.bundle.now.slot.bundle bytes) used c.args.name_lens.now put.new.name_lens c.args.names.now put.new.names c.args.room.now put.new.room c.args.needed.now put.new.needed put.result =
-    used_as _ _ _ _ _ _ _ _ _ _ _ _ (ap names_seen c.deref.ensures.value) (only_over bytes _ _ _ c.tables_of.ensures (c.lent.ensures ∙ c.take-found.ensures.bundle) used only) put.ensures in
-    record { same = c.put_back.ensures ∙ c.take-found.ensures.bundle; uses = is.uses; refuses = is.refuses; unwritten = is.unwritten; ends = is.ends }
+    used_as _ _ _ _ _ _ _ _ _ _ _ _ (ap names_seen c.deref.ensures.value) (only_over bytes _ _ _ c.tables_of.ensures c.bundle.ensures.bundle used only) put.ensures in
+    record { same = c.bundle.follows.holds-at-none; uses = is.uses; refuses = is.refuses; unwritten = is.unwritten; ends = is.ends }
 
 pub returns-in-Ok-None : goal.returns-in-Ok-None
 returns-in-Ok-None c =
     let none : HoldsOfNone (AreUses (Means (tables_given c.tables_of.result)) c.args.data.now) = rw c.in-Ok-None.field-0-is at c.in-Ok-None.ensures in
     record {
-      same = c.put_back.ensures ∙ c.take-found.ensures.bundle;
+      same = c.bundle.follows.holds-at-none;
       uses = λ put. absurd (neither Refused Done NoRoom refl refl c.number.ensures put);
-      refuses = λ _. none_over c.args.data.now _ _ _ c.tables_of.ensures (c.lent.ensures ∙ c.take-found.ensures.bundle) none;
+      refuses = λ _. none_over c.args.data.now _ _ _ c.tables_of.ensures c.bundle.ensures.bundle none;
       unwritten = λ _. (refl, refl, refl, refl);
       ends = inr (inl c.number.ensures);
     }
 
 pub returns-in-Err : goal.returns-in-Err
 returns-in-Err c = record {
-  same = c.put_back.ensures ∙ c.take-found.ensures.bundle;
+  same = c.bundle.follows.holds-at-none;
   uses = λ put. absurd (neither NoMemory Done NoRoom refl refl c.number-in-Err.ensures put);
   refuses = λ refused. absurd (not_both NoMemory Refused refl c.number-in-Err.ensures refused);
   unwritten = λ _. (refl, refl, refl, refl);

@@ -1,22 +1,16 @@
-use Rattle.std.proofs.Common.{◌∙◌, refl}
+use Rattle.std.proofs.Common.{refl}
 use Rattle.std.proofs.lemmas.Option.{MatchOption-at_none}
 use Rattle.cmap_handles.proofs.HandlesRead.{answered_in, in_handle, in_lent, none_found}
 use Rattle.cmap_c_maps.proofs.cids.hayro_cmap_cid_strict.Goals as goal
 
-pub returns-in_default : goal.returns-in_default
-returns-in_default c = record {
-  same = c.in_default.ensures.empty ∙ c.in_default.ensures.map;
-  within = λ _. none_found _ _ _ _ c.in_default.ensures.map (refl, refl);
-  outside = λ _. (refl, refl);
-}
+pub returns-in-Some-clause-within : goal.returns-in-Some-clause-within
+returns-in-Some-clause-within c = λ within. answered_in _ _ c.in-Some.layers.now c.strict_cid.result _ _ c.in-Some.ensures.map (c.strict_cid.ensures.value.within (in_lent _ _ _ _ c.in-Some.ensures.map within)) c.put_cid.ensures
 
-pub returns : goal.returns
-returns c =
-    let map = c.in-Some.ensures.map in
-    let lent = c.value.ensures ∙ c.deref.ensures in
-    let answer = c.strict_cid-answer in
-    record {
-      same = c.put.ensures ∙ map;
-      within = λ within. answered_in _ _ c.in-Some.found.value c.value.result.now answer.result _ _ map lent (answer.ensures.value.within (in_lent _ _ _ _ _ map lent within)) c.put_cid.ensures;
-      outside = λ outside. MatchOption-at_none _ _ (answer.ensures.value.outside (λ within. outside (in_handle _ _ _ _ _ map lent within))) c.put_cid.ensures;
-    }
+pub returns-in-Some-clause-outside : goal.returns-in-Some-clause-outside
+returns-in-Some-clause-outside c = λ outside. MatchOption-at_none _ _ (c.strict_cid.ensures.value.outside (λ within. outside (in_handle _ _ _ _ c.in-Some.ensures.map within))) c.put_cid.ensures
+
+pub returns-in-None-clause-within : goal.returns-in-None-clause-within
+returns-in-None-clause-within c = λ _. none_found _ _ _ _ c.in-None.ensures.map (refl, refl)
+
+pub returns-in-None-clause-outside : goal.returns-in-None-clause-outside
+returns-in-None-clause-outside c = λ _. (refl, refl)

@@ -1,4 +1,5 @@
 use Rattle.std.proofs.Common.{◌≡◌, ◌∙◌, ◌<◌, ◌≤◌, ℕ, List, Option, None, Some, ap, get_or, length, refl, sym}
+use Rattle.std.specs.Option.{option_copied}
 use Rattle.std.specs.Prelude.{option_map}
 use Rattle.std.proofs.lemmas.Option.{slice_get-map, slice_get_past, slice_get_read}
 use Rattle.cmap_layers.specs.Layers as specs
@@ -18,7 +19,7 @@ past_lent layers map seen i shown same past =
     ap (option_map layer_seen) (sym (slice_get_past layers i past)) ∙ sym (slice_get-map layer_seen layers i) ∙ ap (λ map. layer_in map i) (ap Some shown ∙ same)
 
 pub returns-then-layer-layers : goal.returns-then-layer-layers
-returns-then-layer-layers c = of_lent c.as_slice-layers.result.now _ _ c.args.layer c.index-layers-layer.result c.as_slice-layers.ensures.layers c.in_ok-lent.ensures c.if-layer-layers.true c.index-layers-layer.is
+returns-then-layer-layers c = of_lent c.as_slice-layers.result.now _ _ c.args.layer c.index-layers-layer.result c.as_slice-layers.ensures.layers (sym (ap option_copied c.in_ok-map.was)) c.if-layer-layers.true c.index-layers-layer.is
 
 pub returns-else-layer-layers : goal.returns-else-layer-layers
-returns-else-layer-layers c = past_lent c.as_slice-layers.result.now _ _ c.args.layer c.as_slice-layers.ensures.layers c.in_ok-lent.ensures c.if-layer-layers.false
+returns-else-layer-layers c = past_lent c.as_slice-layers.result.now _ _ c.args.layer c.as_slice-layers.ensures.layers (sym (ap option_copied c.in_ok-map.was)) c.if-layer-layers.false

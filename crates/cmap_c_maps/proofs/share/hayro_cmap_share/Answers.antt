@@ -3,14 +3,8 @@ use Rattle.cmap_layers.specs.Layers.{Layer}
 use Rattle.cmap_handles.proofs.HandlesRead.{shared}
 use Rattle.cmap_c_maps.proofs.share.hayro_cmap_share.Goals as goal
 
-pub returns-in_default : goal.returns-in_default
-returns-in_default c = record {
-  same = c.in_default.ensures.empty ∙ c.in_default.ensures.map;
-  shared = inl (c.number.ensures, c.clear.ensures ∙ c.in_default.ensures.map);
-}
+pub returns-in-Some-clause-shared : goal.returns-in-Some-clause-shared
+returns-in-Some-clause-shared c = shared {M = List Layer} _ _ c.share.result _ _ _ c.in-Some.ensures.map c.share.ensures c.keep.ensures
 
-pub returns : goal.returns
-returns c = record {
-  same = c.put.ensures ∙ c.in-Some.ensures.map;
-  shared = shared {M = List Layer} _ _ c.share-shared.result _ _ _ _ c.in-Some.ensures.map c.deref.ensures c.share-shared.ensures c.keep.ensures;
-}
+pub returns-in-None-clause-shared : goal.returns-in-None-clause-shared
+returns-in-None-clause-shared c = inl (c.number.ensures, c.clear.ensures ∙ c.in-None.ensures.map)

@@ -10,40 +10,45 @@ use Rattle.cmap_handles.proofs.StatusNumbers.{not_both, put_no_memory}
 use Rattle.cmap_c_maps.proofs.TextsOfBytes.{holds_of_bytes, holds_of_none}
 use Rattle.cmap_c_maps.proofs.utf8_text.hayro_cmap_text.Goals as goal
 
-pub returns-in_default : goal.returns-in_default
-returns-in_default c = record {
-  same = c.in_default.ensures.empty ∙ c.in_default.ensures.map;
-  text = λ _. none_found _ _ _ _ c.in_default.ensures.map (c.number.ensures, refl, refl);
-  err = λ memory. absurd (not_both Absent NoMemory refl c.number.ensures memory);
-  unwritten = λ memory. absurd (not_both Absent NoMemory refl c.number.ensures memory);
-}
+pub returns-in_default-clause-text : goal.returns-in_default-clause-text
+returns-in_default-clause-text c = λ _. none_found _ _ _ _ c.in_default.ensures.map (c.number.ensures, refl, refl)
 
-pub returns-in-Ok-Some : goal.returns-in-Ok-Some
-returns-in-Ok-Some c =
-    let found : Some (text_seen c.in-Ok-Some.text) ≡ option_map text_of_characters (bf_of c.value.result.now c.args.code) = sym (ap (option_map text_seen) c.in-Ok-Some.field-0-is) ∙ c.in-Ok-Some.ensures.text.value in
-    record {
-      same = c.put.ensures ∙ c.in-Some.ensures.map;
-      text = λ _. found_in _ _ c.in-Some.found.value c.value.result.now _ _ c.in-Some.ensures.map (c.value.ensures ∙ c.deref.ensures)
-          (holds_of_bytes (λ bytes. IsPut bytes c.args.room.now c.put_text.new.room c.put_text.new.needed c.put_text.result) _ (bf_of c.value.result.now c.args.code) c.in-Ok-Some.text found c.put_text.ensures);
-      err = λ memory. absurd (put_no_memory _ _ _ _ _ c.put_text.ensures memory);
-      unwritten = λ memory. absurd (put_no_memory _ _ _ _ _ c.put_text.ensures memory);
-    }
+pub returns-in_default-clause-err : goal.returns-in_default-clause-err
+returns-in_default-clause-err c = λ memory. absurd (not_both Absent NoMemory refl c.number.ensures memory)
 
-pub returns-in-Ok-None : goal.returns-in-Ok-None
-returns-in-Ok-None c =
-    let found : None ≡ option_map text_of_characters (bf_of c.value.result.now c.args.code) = sym (ap (option_map text_seen) c.in-Ok-None.field-0-is) ∙ c.in-Ok-None.ensures.text.value in
-    record {
-      same = c.put.ensures ∙ c.in-Some.ensures.map;
-      text = λ _. found_in _ _ c.in-Some.found.value c.value.result.now _ _ c.in-Some.ensures.map (c.value.ensures ∙ c.deref.ensures)
-          (holds_of_none _ _ (bf_of c.value.result.now c.args.code) found (c.number-in-Ok-None.ensures, refl, refl));
-      err = λ memory. absurd (not_both Absent NoMemory refl c.number-in-Ok-None.ensures memory);
-      unwritten = λ memory. absurd (not_both Absent NoMemory refl c.number-in-Ok-None.ensures memory);
-    }
+pub returns-in_default-clause-unwritten : goal.returns-in_default-clause-unwritten
+returns-in_default-clause-unwritten c = λ memory. absurd (not_both Absent NoMemory refl c.number.ensures memory)
 
-pub returns-in-Err : goal.returns-in-Err
-returns-in-Err c = record {
-  same = c.put.ensures ∙ c.in-Some.ensures.map;
-  text = λ other. absurd (other c.number-in-Err.ensures);
-  err = λ _. found_some _ _ c.in-Some.found.value c.value.result.now _ c.in-Some.ensures.map (c.value.ensures ∙ c.deref.ensures) c.in-Err.ensures.text.err;
-  unwritten = λ _. (refl, refl);
-}
+pub returns-in-Ok-Some-clause-text : goal.returns-in-Ok-Some-clause-text
+returns-in-Ok-Some-clause-text c =
+    let layers = c.in-Some.layers.now in
+    let found : Some (text_seen c.in-Ok-Some.text) ≡ option_map text_of_characters (bf_of layers c.args.code) = sym (ap (option_map text_seen) c.in-Ok-Some.field-0-is) ∙ c.in-Ok-Some.ensures.text.value in
+    λ _. found_in _ _ layers _ _ c.in-Some.ensures.map
+    (holds_of_bytes (λ bytes. IsPut bytes c.args.room.now c.put_text.new.room c.put_text.new.needed c.put_text.result) _ (bf_of layers c.args.code) c.in-Ok-Some.text found c.put_text.ensures)
+
+pub returns-in-Ok-Some-clause-err : goal.returns-in-Ok-Some-clause-err
+returns-in-Ok-Some-clause-err c = λ memory. absurd (put_no_memory _ _ _ _ _ c.put_text.ensures memory)
+
+pub returns-in-Ok-Some-clause-unwritten : goal.returns-in-Ok-Some-clause-unwritten
+returns-in-Ok-Some-clause-unwritten c = λ memory. absurd (put_no_memory _ _ _ _ _ c.put_text.ensures memory)
+
+pub returns-in-Ok-None-clause-text : goal.returns-in-Ok-None-clause-text
+returns-in-Ok-None-clause-text c =
+    let layers = c.in-Some.layers.now in
+    let found : None ≡ option_map text_of_characters (bf_of layers c.args.code) = sym (ap (option_map text_seen) c.in-Ok-None.field-0-is) ∙ c.in-Ok-None.ensures.text.value in
+    λ _. found_in _ _ layers _ _ c.in-Some.ensures.map (holds_of_none _ _ (bf_of layers c.args.code) found (c.number-in-Ok-None.ensures, refl, refl))
+
+pub returns-in-Ok-None-clause-err : goal.returns-in-Ok-None-clause-err
+returns-in-Ok-None-clause-err c = λ memory. absurd (not_both Absent NoMemory refl c.number-in-Ok-None.ensures memory)
+
+pub returns-in-Ok-None-clause-unwritten : goal.returns-in-Ok-None-clause-unwritten
+returns-in-Ok-None-clause-unwritten c = λ memory. absurd (not_both Absent NoMemory refl c.number-in-Ok-None.ensures memory)
+
+pub returns-in-Err-clause-text : goal.returns-in-Err-clause-text
+returns-in-Err-clause-text c = λ other. absurd (other c.number-in-Err.ensures)
+
+pub returns-in-Err-clause-err : goal.returns-in-Err-clause-err
+returns-in-Err-clause-err c = λ _. found_some _ _ c.in-Some.layers.now _ c.in-Some.ensures.map c.in-Err.ensures.text.err
+
+pub returns-in-Err-clause-unwritten : goal.returns-in-Err-clause-unwritten
+returns-in-Err-clause-unwritten c = λ _. (refl, refl)
