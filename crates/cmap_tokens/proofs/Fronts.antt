@@ -227,6 +227,16 @@ unfolding tokens_of
 left_after old new token (gap, piece, only, is) =
     left_front only.front old.passed ∙ ap (λ n. with_token token old.passed (left_from n (rest_of new))) (sym (ap (λ p. p.passed) is))
 
+-- one token after another
+pub two_read : (here old : Cursor) (text : List ℕ) (n len : ℕ) (token other : Token) → here ≡ old → text ≡ rest_of here → FirstToken text token n → FirstToken (drop n text) other len
+    → (between : Cursor) × ReadsToken old token between × LeavesAfter token old between × ReadsToken between other (past (n + len) here) × LeavesAfter other between (past (n + len) here)
+two_read here old text n len token other same is first second =
+    let read = read_token here old text n token same is first in
+    let next = read_token (past n here) (past n here) (drop n text) len other refl (ap (drop n) is ∙ drop-drop n here.passed here.source) second in
+    let place : past len (past n here) ≡ past (n + len) here = ap (λ k. record { source = here.source; passed = k }) (omega arith) in
+    let both = subst (ReadsToken (past n here) other) place next in
+    (past n here, read, left_after old (past n here) token read, both, left_after (past n here) (past (n + len) here) other both)
+
 pub passed_of : (cursor : Cursor) → (tokens_of cursor).passed ≡ cursor.passed
 unfolding tokens_of
 passed_of cursor = passed_is cursor.passed (rest_of cursor)

@@ -18,7 +18,9 @@ use self::gaps::gap_len;
 use self::lengths::malformed_len;
 use self::numerals::{blank_decimal, short_decimal};
 pub use self::piece_reader::{MalformedPiece, Piece, PieceReader};
-use self::pieces::{TWO_BYTES_LEN, first_token, spaced_pairs, spaced_parts, two_bytes};
+use self::pieces::{
+    TWO_BYTES_LEN, first_token, spaced_pairs, spaced_parts, two_bytes, two_bytes_and_decimal,
+};
 use self::values::{decode_hex, decode_text, pairs_number};
 use std::alloc::AllocError;
 use std::fmt;
@@ -214,7 +216,7 @@ impl<'a> Scanner<'a> {
     ghost use Rattle.cmap_tokens.specs.TokenReading.{gap_len};
     ghost use Rattle.cmap_tokens.specs.TokensLeft.{HasTokens, IsDecidedByFronts, EndInOrder, LeavesAfter, LeavesMalformed, LeavesNone, start_of, tokens_of};
     ghost use Rattle.cmap_tokens.specs.Numbers.{Integer};
-    ghost use Rattle.cmap_tokens.specs.Scanner.{ReadsToken, past, rest_of, spaced_decimal, spaced_pairs, spaced_parts, spaced_two_bytes};
+    ghost use Rattle.cmap_tokens.specs.Scanner.{Cursor, ReadsToken, past, rest_of, spaced_decimal, spaced_pairs, spaced_parts, spaced_two_bytes};
     ghost use Rattle.cmap_tokens.specs.Strings.{WritesBytes, WritesParts, WritesTwoBytes};
     ghost use Rattle.cmap_tokens.specs.Tokens as tokens;
     ghost use Rattle.cmap_tokens.specs.TokenSeen.{malformed_seen, token_seen};
@@ -269,6 +271,7 @@ impl<'a> Scanner<'a> {
     /// The number that the two bytes of the next string write, the high one first, where one white
     /// byte and then `<`, four digits and `>` come next, as in most codes. The scanner is moved past
     /// the string. `None` of any other text, leaving the scanner in place.
+    #[inline(always)]
     pub fn next_two_bytes(&mut self) -> Option<u16>
         ensures token { IfSome result (λ number. (piece : List ℕ)
             × ReadsToken self.old (tokens.String piece) self.new × WritesTwoBytes piece number
@@ -315,8 +318,28 @@ impl<'a> Scanner<'a> {
         Some((count, high, low))
     }
 
+    /// The number that the two bytes of the next string write, and the number after it, where one white
+    /// byte stands before each, four digits write the bytes, and four or five decimal digits before a
+    /// white byte the number. The scanner is moved past both. `None` of any other text and near the end
+    /// of the text, leaving the scanner in place.
+    #[inline(always)]
+    pub fn next_two_bytes_and_decimal(&mut self) -> Option<(u16, u64)>
+        ensures tokens { IfSome result (λ found. (between : Cursor) × (piece : List ℕ)
+            × ReadsToken self.old (tokens.String piece) between × WritesTwoBytes piece found.0
+            × LeavesAfter (tokens.String piece) self.old between
+            × ReadsToken between (tokens.Numeral (Integer (pos found.1))) self.new
+            × LeavesAfter (tokens.Numeral (Integer (pos found.1))) between self.new) }
+        ensures few { IfSome result (λ found. found.1 < 2 ^ 32) }
+        ensures stays { result ≡ None → self.new ≡ self.old }
+    {
+        let (bytes, number, len) = two_bytes_and_decimal(&self.source[self.offset..])?;
+        self.offset += TWO_BYTES_LEN + (1 + len);
+        Some((bytes, number))
+    }
+
     /// The next number, where one white byte, one to 18 decimal digits and then a byte that ends them
     /// come next. The scanner is moved past the digits. `None` of any other text, leaving it in place.
+    #[inline(always)]
     pub fn next_decimal(&mut self) -> Option<u64>
         ensures token { IfSome result (λ number.
             ReadsToken self.old (tokens.Numeral (Integer (pos number))) self.new
@@ -327,12 +350,8 @@ impl<'a> Scanner<'a> {
         ensures stays { result ≡ None → self.new ≡ self.old }
     {
         let rest = &self.source[self.offset..];
-        if let Some(number) = short_decimal(rest, 4) {
-            self.offset += 5;
-            return Some(number);
-        }
-        if let Some(number) = short_decimal(rest, 5) {
-            self.offset += 6;
+        if let Some((number, len)) = short_decimal(rest) {
+            self.offset += 1 + len;
             return Some(number);
         }
         self.next_other_decimal()
