@@ -4,7 +4,7 @@
 ghost use Rattle.std.specs.Prelude.{◌≡◌, ℕ, ◌+◌, ◌-◌, IfErr, IfOk, OnOk};
 ghost use Rattle.cmap_values.specs.CodeLengths.{length_of};
 ghost use Rattle.cmap_values.specs.DeclarationsSeen.{cid_entry_seen, lists_seen};
-ghost use Rattle.cmap_text.specs.EntriesSeen.{AddsDeclarations, AddsIf, AddsTexts, ReadsAs, WhereRefused};
+ghost use Rattle.cmap_text.specs.EntriesSeen.{AddsDeclarations, AddsEntryIf, AddsIf, AddsTexts, ReadsAs, WhereRefused};
 ghost use Rattle.cmap_values.specs.Files.{lists_of};
 ghost use Rattle.cmap_values.specs.Files as declared;
 ghost use Rattle.cmap_values.specs.ListsAppended.{append_lists};
@@ -82,6 +82,28 @@ pub(crate) fn add_cids(
         CidKind::Notdef => lists.add_notdef(filed.len, filed.range)?,
     }
     Ok(())
+}
+
+/// An entry of a single CID, where its code has two bytes and both stand as most do. `false` of any other
+/// tokens, leaving the reader in place.
+#[inline(always)]
+pub(crate) fn add_plain_cid(
+    reader: &mut TokenReader<'_>,
+    lists: &mut Lists,
+) -> Result<bool, Fault<WrongToken>>
+    ensures adds { IfOk result (AddsEntryIf (files.cids files.mapped files.single)
+        reader.old lists.old lists.new reader.new) }
+    ensures fails { IfErr result (λ fault. fault ≡ Memory) }
+{
+    let Some((code, cid)) = reader.two_byte_code_and_cid() else {
+        return Ok(false);
+    };
+    let range = Range {
+        start: code.number,
+        end: code.number,
+    };
+    lists.add_cid(code.len, CidRange { range, cid })?;
+    Ok(true)
 }
 
 /// A destination of two bytes after the code of an entry, where it stands as most do. `false` of any

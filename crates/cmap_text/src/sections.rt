@@ -12,7 +12,8 @@ ghost use Rattle.cmap_text.specs.TextSeen.{code_seen, extent_seen, kind_seen, se
 ghost use Rattle.cmap_text.specs.TokenParsers.{head_in, or_wrong};
 
 use crate::entries::{
-    CidKind, Extent, add_bf_char, add_bf_range, add_cids, add_codespace_range, add_plain_unit,
+    CidKind, Extent, add_bf_char, add_bf_range, add_cids, add_codespace_range, add_plain_cid,
+    add_plain_unit,
 };
 use crate::tokens::{Code, TokenReader, is_executable};
 use crate::wrong_token::WrongToken;
@@ -142,13 +143,39 @@ fn read_entries(
         lists.old lists.new reader.new result }
 {
     loop {
-        read_two_byte_entries(reader, section, lists)?;
+        read_plain_entries(reader, section, lists)?;
         match next_start(reader, section) {
             Ok(Some(start)) => read_entry(reader, section, start, lists)?,
             Ok(None) => return Ok(()),
             Err(fault) => return Err(fault),
         }
     }
+}
+
+/// Reads the entries of a section that stand as most do, up to one that doesn't.
+#[inline(always)]
+fn read_plain_entries(
+    reader: &mut TokenReader<'_>,
+    section: Section,
+    lists: &mut Lists,
+) -> Result<(), Fault<WrongToken>>
+    ensures reads { ReadsOn (body_in (section_seen section)) reader.old lists.old lists.new reader.new result }
+    ensures fewer { OnOk result (length reader.new.tokens ≤ length reader.old.tokens) }
+{
+    match section {
+        Section::Cids(CidKind::Cid, Extent::Single) => read_plain_cids(reader, lists),
+        _ => read_two_byte_entries(reader, section, lists),
+    }
+}
+
+/// Reads the entries of a section of single CIDs that stand as most do, up to one that doesn't.
+#[inline(always)]
+fn read_plain_cids(reader: &mut TokenReader<'_>, lists: &mut Lists) -> Result<(), Fault<WrongToken>>
+    ensures reads { ReadsOn (body_in (files.cids files.mapped files.single)) reader.old lists.old lists.new reader.new result }
+    ensures fewer { OnOk result (length reader.new.tokens ≤ length reader.old.tokens) }
+{
+    while add_plain_cid(reader, lists)? {}
+    Ok(())
 }
 
 /// Reads the entries of a section that begin with a code of two bytes, up to one that doesn't.

@@ -106,6 +106,21 @@ impl<'d> TokenReader<'d> {
         Some(Code { len, number })
     }
 
+    /// The code of two bytes and the CID that come next, where both stand as most do; `None` of any other
+    /// tokens.
+    #[inline(always)]
+    pub(crate) fn two_byte_code_and_cid(&mut self) -> Option<(Code, Cid)>
+        ensures { MatchOption result (self.new ≡ self.old) (λ found. (piece : List ℕ) × (between : Left)
+            × (token_in self.old ≡ Ok (String piece, between))
+            × (code_in (String piece) ≡ Some (code_seen found.0))
+            × (run next_cid between ≡ Ok (found.1, self.new))) }
+    {
+        let (number, cid) = self.scanner.next_two_bytes_and_decimal()?;
+        let number = u32::from(number);
+        let len = CodeLength::Two;
+        Some((Code { len, number }, cid as u32))
+    }
+
     /// The code that comes next, where it stands as most do; `None` of any other token.
     #[inline(always)]
     pub(crate) fn plain_code(&mut self) -> Option<Code>
