@@ -20,6 +20,7 @@ use self::numerals::{blank_decimal, short_decimal};
 pub use self::piece_reader::{MalformedPiece, Piece, PieceReader};
 use self::pieces::{
     TWO_BYTES_LEN, first_token, spaced_pairs, spaced_parts, two_bytes, two_bytes_and_decimal,
+    two_strings_and_decimal,
 };
 use self::values::{decode_hex, decode_text, pairs_number};
 use std::alloc::AllocError;
@@ -335,6 +336,26 @@ impl<'a> Scanner<'a> {
         let (bytes, number, len) = two_bytes_and_decimal(&self.source[self.offset..])?;
         self.offset += TWO_BYTES_LEN + (1 + len);
         Some((bytes, number))
+    }
+
+    /// The numbers that the two bytes of each of the next two strings write, and the number after them,
+    /// where these stand as `next_two_bytes_and_decimal` says. The scanner is moved past all three. `None`
+    /// of any other text and near the end of the text, leaving the scanner in place.
+    #[inline(always)]
+    pub fn next_two_strings_and_decimal(&mut self) -> Option<(u16, u16, u64)>
+        ensures tokens { IfSome result (λ found. (first second : Cursor) × (low high : List ℕ)
+            × ReadsToken self.old (tokens.String low) first × WritesTwoBytes low found.0
+            × LeavesAfter (tokens.String low) self.old first
+            × ReadsToken first (tokens.String high) second × WritesTwoBytes high found.1
+            × LeavesAfter (tokens.String high) first second
+            × ReadsToken second (tokens.Numeral (Integer (pos found.2))) self.new
+            × LeavesAfter (tokens.Numeral (Integer (pos found.2))) second self.new) }
+        ensures few { IfSome result (λ found. found.2 < 2 ^ 32) }
+        ensures stays { result ≡ None → self.new ≡ self.old }
+    {
+        let (low, high, number, len) = two_strings_and_decimal(&self.source[self.offset..])?;
+        self.offset += 2 * TWO_BYTES_LEN + (1 + len);
+        Some((low, high, number))
     }
 
     /// The next number, where one white byte, one to 18 decimal digits and then a byte that ends them

@@ -11,10 +11,12 @@ const WHITE: u8 = 1;
 
 const REGULAR: u8 = 2;
 
+const BEGINS_NUMBER: u8 = 4;
+
 /// The sum of the classes of each byte. A delimiter has none.
 static CLASSES: [u8; 256] = [
     1, 2, 2, 2, 2, 2, 2, 2, 2, 1, 1, 2, 1, 1, 2, 2, 2, 2, 2, 2, 2, 2, 2, 2, 2, 2, 2, 2, 2, 2, 2, 2,
-    1, 2, 2, 2, 2, 0, 2, 2, 0, 0, 2, 2, 2, 2, 2, 0, 2, 2, 2, 2, 2, 2, 2, 2, 2, 2, 2, 2, 0, 2, 0, 2,
+    1, 2, 2, 2, 2, 0, 2, 2, 0, 0, 2, 6, 2, 6, 6, 0, 6, 6, 6, 6, 6, 6, 6, 6, 6, 6, 2, 2, 0, 2, 0, 2,
     2, 2, 2, 2, 2, 2, 2, 2, 2, 2, 2, 2, 2, 2, 2, 2, 2, 2, 2, 2, 2, 2, 2, 2, 2, 2, 2, 0, 2, 0, 2, 2,
     2, 2, 2, 2, 2, 2, 2, 2, 2, 2, 2, 2, 2, 2, 2, 2, 2, 2, 2, 2, 2, 2, 2, 2, 2, 2, 2, 0, 2, 0, 2, 2,
     2, 2, 2, 2, 2, 2, 2, 2, 2, 2, 2, 2, 2, 2, 2, 2, 2, 2, 2, 2, 2, 2, 2, 2, 2, 2, 2, 2, 2, 2, 2, 2,
@@ -176,6 +178,13 @@ pub fn is_regular(byte: u8) -> bool
     ensures { result ≡ bytes.is_regular byte }
 {
     CLASSES[byte as usize] & REGULAR != 0
+}
+
+/// Whether a number may begin with a byte: a decimal digit, a sign or a dot.
+pub(super) fn begins_number(byte: u8) -> bool
+    ensures { result ≡ reading.begins_number byte }
+{
+    CLASSES[byte as usize] & BEGINS_NUMBER != 0
 }
 
 /// The value of a digit or letter, from 0 to 35, and 36 for any other byte.

@@ -9,7 +9,8 @@ ghost use Rattle.cmap_tokens.specs.TokenReading as reading;
 
 use super::Number;
 use super::byte_class::{
-    NO_DIGIT, decimal_pair, decimal_weight, digit_value, hex_pair, is_regular, is_white,
+    NO_DIGIT, begins_number, decimal_pair, decimal_weight, digit_value, hex_pair, is_regular,
+    is_white,
 };
 
 /// The decimal number that a text begins with after one white byte, and how many digits it has.
@@ -112,9 +113,19 @@ fn ended_digits(text: &[u8]) -> Option<(u64, usize)>
     None
 }
 
-/// The number that a run of regular bytes is spelled as.
-#[tactic(auto, unfolding(crate::specs::Numbers::numeral))]
+/// The number that a run of regular bytes is spelled as. Most runs are names, which their first byte shows.
 pub(super) fn number_of(run: &[u8]) -> Option<Number>
+    ensures { option_map number_seen result ≡ numbers.numeral run.now }
+{
+    match run {
+        [first, ..] if begins_number(*first) => spelled_number(run),
+        _ => None,
+    }
+}
+
+/// The same, by all bytes of the run.
+#[tactic(auto, unfolding(crate::specs::Numbers::numeral))]
+fn spelled_number(run: &[u8]) -> Option<Number>
     ensures { option_map number_seen result ≡ numbers.numeral run.now }
 {
     if let Some(number) = integer_of(run) {

@@ -140,6 +140,29 @@ pub(super) fn two_bytes_and_decimal(text: &[u8]) -> Option<(u16, u64, usize)>
     Some((number, decimal, len))
 }
 
+/// Where fewer bytes are left, no two strings of two bytes and a short decimal number are looked for.
+const TWO_STRINGS_AND_DECIMAL_LEN: usize = TWO_BYTES_LEN + TWO_BYTES_AND_DECIMAL_LEN;
+
+/// The numbers that the two bytes of each of two strings write, the decimal number of four or five
+/// digits after them, and how many digits that has, where a text begins with such strings after one white
+/// byte each.
+#[inline(always)]
+pub(super) fn two_strings_and_decimal(text: &[u8]) -> Option<(u16, u16, u64, usize)>
+    ensures first { IfSome result (λ found. spaced_two_bytes text.now ≡ Some found.0) }
+    ensures second { IfSome result (λ found. spaced_two_bytes (drop 7 text.now) ≡ Some found.1) }
+    ensures decimal { IfSome result (λ found.
+        spaced_decimal (drop 7 (drop 7 text.now)) ≡ Some (found.2, found.3)) }
+    ensures few { IfSome result (λ found. found.2 < 2 ^ 32) }
+    ensures within { IfSome result (λ found. 15 + found.3 ≤ length text.now) }
+{
+    if text.len() < TWO_STRINGS_AND_DECIMAL_LEN {
+        return None;
+    }
+    let first = two_bytes(text)?;
+    let (second, decimal, len) = two_bytes_and_decimal(&text[TWO_BYTES_LEN..])?;
+    Some((first, second, decimal, len))
+}
+
 /// How many bytes a string writes in pairs of digits, one to four, and their number, where a text
 /// begins with such a string after one white byte.
 pub(super) fn spaced_pairs(text: &[u8]) -> Option<(u8, u32)>
