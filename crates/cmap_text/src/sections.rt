@@ -12,7 +12,7 @@ ghost use Rattle.cmap_text.specs.TextSeen.{code_seen, extent_seen, kind_seen, se
 ghost use Rattle.cmap_text.specs.TokenParsers.{head_in, or_wrong};
 
 use crate::entries::{
-    CidKind, Extent, add_bf_char, add_bf_range, add_cids, add_codespace_range, add_plain_cid,
+    CidKind, Extent, add_bf_char, add_bf_range, add_cids, add_codespace_range, add_plain_cids,
     add_plain_unit,
 };
 use crate::tokens::{Code, TokenReader, is_executable};
@@ -163,18 +163,22 @@ fn read_plain_entries(
     ensures fewer { OnOk result (length reader.new.tokens ≤ length reader.old.tokens) }
 {
     match section {
-        Section::Cids(CidKind::Cid, Extent::Single) => read_plain_cids(reader, lists),
+        Section::Cids(CidKind::Cid, extent) => read_plain_cids(reader, extent, lists),
         _ => read_two_byte_entries(reader, section, lists),
     }
 }
 
-/// Reads the entries of a section of single CIDs that stand as most do, up to one that doesn't.
+/// Reads the entries of a section of CIDs that stand as most do, up to one that doesn't.
 #[inline(always)]
-fn read_plain_cids(reader: &mut TokenReader<'_>, lists: &mut Lists) -> Result<(), Fault<WrongToken>>
-    ensures reads { ReadsOn (body_in (files.cids files.mapped files.single)) reader.old lists.old lists.new reader.new result }
+fn read_plain_cids(
+    reader: &mut TokenReader<'_>,
+    extent: Extent,
+    lists: &mut Lists,
+) -> Result<(), Fault<WrongToken>>
+    ensures reads { ReadsOn (body_in (files.cids files.mapped (extent_seen extent))) reader.old lists.old lists.new reader.new result }
     ensures fewer { OnOk result (length reader.new.tokens ≤ length reader.old.tokens) }
 {
-    while add_plain_cid(reader, lists)? {}
+    while add_plain_cids(reader, extent, lists)? {}
     Ok(())
 }
 

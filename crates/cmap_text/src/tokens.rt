@@ -101,9 +101,8 @@ impl<'d> TokenReader<'d> {
             × (token_in self.old ≡ Ok (String piece, self.new))
             × (code_in (String piece) ≡ Some (code_seen code))) }
     {
-        let number = u32::from(self.scanner.next_two_bytes()?);
-        let len = CodeLength::Two;
-        Some(Code { len, number })
+        let number = self.scanner.next_two_bytes()?;
+        Some(two_byte_code(number))
     }
 
     /// The code of two bytes and the CID that come next, where both stand as most do; `None` of any other
@@ -116,9 +115,24 @@ impl<'d> TokenReader<'d> {
             × (run next_cid between ≡ Ok (found.1, self.new))) }
     {
         let (number, cid) = self.scanner.next_two_bytes_and_decimal()?;
-        let number = u32::from(number);
-        let len = CodeLength::Two;
-        Some((Code { len, number }, cid as u32))
+        Some((two_byte_code(number), cid as u32))
+    }
+
+    /// The two codes of two bytes and the CID that come next, where all stand as most do; `None` of any
+    /// other tokens.
+    #[inline(always)]
+    pub(crate) fn two_byte_range_and_cid(&mut self) -> Option<(Code, Code, Cid)>
+        ensures { MatchOption result (self.new ≡ self.old) (λ found. (low high : List ℕ) × (first second : Left)
+            × (token_in self.old ≡ Ok (String low, first))
+            × (code_in (String low) ≡ Some (code_seen found.0))
+            × (token_in first ≡ Ok (String high, second))
+            × (code_in (String high) ≡ Some (code_seen found.1))
+            × (run next_cid second ≡ Ok (found.2, self.new))) }
+    {
+        let (low, high, cid) = self.scanner.next_two_strings_and_decimal()?;
+        let start = two_byte_code(low);
+        let end = two_byte_code(high);
+        Some((start, end, cid as u32))
     }
 
     /// The code that comes next, where it stands as most do; `None` of any other token.
@@ -333,6 +347,17 @@ pub(crate) fn malformed_reason(malformed: Malformed) -> Reason
         Malformed::UnclosedText | Malformed::UnclosedHexadecimal => Reason::UnclosedString,
         Malformed::WrongDigit => Reason::WrongDigit,
         Malformed::Stray => Reason::StrayDelimiter,
+    }
+}
+
+/// The code of two bytes that write this number.
+#[inline(always)]
+fn two_byte_code(number: u16) -> Code
+    ensures { code_seen result ≡ record { len = 2; number = number } }
+{
+    Code {
+        len: CodeLength::Two,
+        number: u32::from(number),
     }
 }
 
