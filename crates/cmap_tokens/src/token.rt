@@ -20,7 +20,7 @@ use self::numerals::{blank_decimal, short_decimal};
 pub use self::piece_reader::{MalformedPiece, Piece, PieceReader};
 use self::pieces::{
     TWO_BYTES_LEN, first_token, spaced_pairs, spaced_parts, two_bytes, two_bytes_and_decimal,
-    two_strings_and_decimal,
+    two_strings, two_strings_and_decimal,
 };
 use self::values::{decode_hex, decode_text, pairs_number};
 use std::alloc::AllocError;
@@ -317,6 +317,23 @@ impl<'a> Scanner<'a> {
         let (count, high, low) = spaced_parts(&self.source[self.offset..])?;
         self.offset += 3 + 2 * usize::from(count);
         Some((count, high, low))
+    }
+
+    /// The numbers that the two bytes of each of the next two strings write, where both stand as
+    /// `next_two_bytes` says. The scanner is moved past both. `None` of any other text, leaving the scanner
+    /// in place.
+    #[inline(always)]
+    pub fn next_two_strings(&mut self) -> Option<(u16, u16)>
+        ensures tokens { IfSome result (λ found. (between : Cursor) × (first second : List ℕ)
+            × ReadsToken self.old (tokens.String first) between × WritesTwoBytes first found.0
+            × LeavesAfter (tokens.String first) self.old between
+            × ReadsToken between (tokens.String second) self.new × WritesTwoBytes second found.1
+            × LeavesAfter (tokens.String second) between self.new) }
+        ensures stays { result ≡ None → self.new ≡ self.old }
+    {
+        let (first, second) = two_strings(&self.source[self.offset..])?;
+        self.offset += 2 * TWO_BYTES_LEN;
+        Some((first, second))
     }
 
     /// The number that the two bytes of the next string write, and the number after it, where one white

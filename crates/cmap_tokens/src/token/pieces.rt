@@ -120,6 +120,22 @@ pub(super) fn two_bytes(text: &[u8]) -> Option<u16>
     }
 }
 
+/// The numbers that the two bytes of each of two strings write, which a text begins with after one white
+/// byte each.
+#[inline(always)]
+pub(super) fn two_strings(text: &[u8]) -> Option<(u16, u16)>
+    ensures first { IfSome result (λ found. spaced_two_bytes text.now ≡ Some found.0) }
+    ensures second { IfSome result (λ found. spaced_two_bytes (drop 7 text.now) ≡ Some found.1) }
+    ensures within { IfSome result (λ _. 14 ≤ length text.now) }
+{
+    if text.len() < 2 * TWO_BYTES_LEN {
+        return None;
+    }
+    let first = two_bytes(text)?;
+    let second = two_bytes(&text[TWO_BYTES_LEN..])?;
+    Some((first, second))
+}
+
 /// Where fewer bytes are left, no string of two bytes and a short decimal number after it are looked for.
 const TWO_BYTES_AND_DECIMAL_LEN: usize = 14;
 
