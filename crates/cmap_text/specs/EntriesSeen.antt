@@ -43,11 +43,6 @@ AddsDeclarations read old before after here = ReadsAs (run (read (lists_seen bef
 abbrev pub ReadsOn : {A : Type 0} → (files.Lists → Parser files.Lists) → Left → Lists → Lists → Left → Result A (Fault WrongToken) → Type 0
 ReadsOn read old before after here = Outcome (λ done. run (read (lists_seen before)) old ≡ run (read (lists_seen after)) here) (RefusesAt here (run (read (lists_seen before)) old))
 
--- either this is read and gives the lists as they are now, or all is as it was
-abbrev pub AddsIf : (files.Lists → Parser files.Lists) → Left → Lists → Lists → Left → Bool → Type 0
-AddsIf read old before after here true = run (read (lists_seen before)) old ≡ Ok (lists_seen after, here)
-AddsIf read old before after here false = (here ≡ old) × (lists_seen after ≡ lists_seen before)
-
 -- either an entry is read from its first code on and gives the lists as they are now, or all is as it was
 abbrev pub AddsEntryIf : Section → Left → Lists → Lists → Left → Bool → Type 0
 AddsEntryIf section old before after here true =

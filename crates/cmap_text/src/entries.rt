@@ -4,7 +4,7 @@
 ghost use Rattle.std.specs.Prelude.{◌≡◌, ℕ, ◌+◌, ◌-◌, List, Ok, Some, IfErr, IfOk, MatchOption, OnOk};
 ghost use Rattle.cmap_values.specs.CodeLengths.{length_of};
 ghost use Rattle.cmap_values.specs.DeclarationsSeen.{cid_entry_seen, lists_seen};
-ghost use Rattle.cmap_text.specs.EntriesSeen.{AddsDeclarations, AddsEntryIf, AddsIf, AddsTexts, ReadsAs, WhereRefused};
+ghost use Rattle.cmap_text.specs.EntriesSeen.{AddsDeclarations, AddsEntryIf, AddsTexts, ReadsAs, WhereRefused};
 ghost use Rattle.cmap_values.specs.Files.{lists_of};
 ghost use Rattle.cmap_values.specs.Files as declared;
 ghost use Rattle.cmap_values.specs.ListsAppended.{append_lists};
@@ -107,19 +107,17 @@ pub(crate) fn add_plain_cids(
     Ok(true)
 }
 
-/// A destination of two bytes after the code of an entry, where it stands as most do. `false` of any
-/// other token, leaving the reader in place.
+/// The text of a single code, where both have two bytes and stand as most do. `false` of any other
+/// tokens, leaving the reader in place.
 #[inline(always)]
-pub(crate) fn add_plain_unit(
+pub(crate) fn add_plain_text(
     reader: &mut TokenReader<'_>,
-    code: Code,
     lists: &mut Lists,
 ) -> Result<bool, Fault<WrongToken>>
-    ensures adds { IfOk result (AddsIf (entry_after files.bf_char (code_seen code))
-        reader.old lists.old lists.new reader.new) }
+    ensures adds { IfOk result (AddsEntryIf files.bf_char reader.old lists.old lists.new reader.new) }
     ensures fails { IfErr result (λ fault. fault ≡ Memory) }
 {
-    let Some(unit) = reader.plain_unit() else {
+    let Some((code, unit)) = reader.two_byte_code_and_unit() else {
         return Ok(false);
     };
     add_text(lists, code.number, code.number, Units::One([unit]))?;

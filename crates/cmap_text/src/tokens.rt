@@ -135,6 +135,20 @@ impl<'d> TokenReader<'d> {
         Some((start, end, cid as u32))
     }
 
+    /// The code of two bytes and the destination of two bytes that come next, where both stand as most do;
+    /// `None` of any other tokens.
+    #[inline(always)]
+    pub(crate) fn two_byte_code_and_unit(&mut self) -> Option<(Code, u16)>
+        ensures { MatchOption result (self.new ≡ self.old) (λ found. (piece text : List ℕ) × (between : Left)
+            × (token_in self.old ≡ Ok (String piece, between))
+            × (code_in (String piece) ≡ Some (code_seen found.0))
+            × (token_in between ≡ Ok (String text, self.new))
+            × (destination_in (String text) ≡ Some (found.1 ∷ []))) }
+    {
+        let (number, unit) = self.scanner.next_two_strings()?;
+        Some((two_byte_code(number), unit))
+    }
+
     /// The code that comes next, where it stands as most do; `None` of any other token.
     #[inline(always)]
     pub(crate) fn plain_code(&mut self) -> Option<Code>
@@ -186,18 +200,6 @@ impl<'d> TokenReader<'d> {
             Ok(None) => Err(wrong(Reason::TextExpected)),
             Err(AllocError) => Err(Fault::Memory),
         }
-    }
-
-    /// The unit of the destination of two bytes that comes next, where it stands as most do; `None` of
-    /// any other token.
-    #[inline(always)]
-    pub(crate) fn plain_unit(&mut self) -> Option<u16>
-        ensures { MatchOption result (self.new ≡ self.old) (λ unit. (piece : List ℕ)
-            × (token_in self.old ≡ Ok (String piece, self.new))
-            × (destination_in (String piece) ≡ Some (unit ∷ []))) }
-    {
-        let unit = self.scanner.next_two_bytes()?;
-        Some(unit)
     }
 
     /// The units of the destination that comes next, where it stands as most do; `None` of any other
