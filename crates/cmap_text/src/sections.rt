@@ -163,11 +163,39 @@ fn read_plain_entries(
     ensures reads { ReadsOn (body_in (section_seen section)) reader.old lists.old lists.new reader.new result }
     ensures fewer { OnOk result (length reader.new.tokens ≤ length reader.old.tokens) }
 {
-    match section {
-        Section::Cids(CidKind::Cid, extent) => read_plain_cids(reader, extent, lists),
-        Section::BfChar => read_plain_texts(reader, lists),
-        _ => read_two_byte_entries(reader, section, lists),
+    if !reader.may_have_two_byte_code() {
+        return Ok(());
     }
+    match section {
+        Section::Cids(CidKind::Cid, Extent::Range) => read_plain_cid_ranges(reader, lists),
+        Section::Cids(CidKind::Cid, Extent::Single) => read_plain_single_cids(reader, lists),
+        Section::BfChar => read_plain_texts(reader, lists),
+        _ => Ok(()),
+    }
+}
+
+/// Reads the entries of a section of ranges of CIDs that stand as most do, up to one that doesn't.
+#[inline(never)]
+fn read_plain_cid_ranges(
+    reader: &mut TokenReader<'_>,
+    lists: &mut Lists,
+) -> Result<(), Fault<WrongToken>>
+    ensures reads { ReadsOn (body_in (files.cids files.mapped files.range)) reader.old lists.old lists.new reader.new result }
+    ensures fewer { OnOk result (length reader.new.tokens ≤ length reader.old.tokens) }
+{
+    read_plain_cids(reader, Extent::Range, lists)
+}
+
+/// Reads the entries of a section of single CIDs that stand as most do, up to one that doesn't.
+#[inline(never)]
+fn read_plain_single_cids(
+    reader: &mut TokenReader<'_>,
+    lists: &mut Lists,
+) -> Result<(), Fault<WrongToken>>
+    ensures reads { ReadsOn (body_in (files.cids files.mapped files.single)) reader.old lists.old lists.new reader.new result }
+    ensures fewer { OnOk result (length reader.new.tokens ≤ length reader.old.tokens) }
+{
+    read_plain_cids(reader, Extent::Single, lists)
 }
 
 /// Reads the entries of a section of CIDs that stand as most do, up to one that doesn't.
@@ -185,7 +213,7 @@ fn read_plain_cids(
 }
 
 /// Reads the entries of a section of texts of single codes that stand as most do, up to one that doesn't.
-#[inline(always)]
+#[inline(never)]
 fn read_plain_texts(
     reader: &mut TokenReader<'_>,
     lists: &mut Lists,
@@ -194,22 +222,6 @@ fn read_plain_texts(
     ensures fewer { OnOk result (length reader.new.tokens ≤ length reader.old.tokens) }
 {
     while add_plain_text(reader, lists)? {}
-    Ok(())
-}
-
-/// Reads the entries of a section that begin with a code of two bytes, up to one that doesn't.
-#[inline(always)]
-fn read_two_byte_entries(
-    reader: &mut TokenReader<'_>,
-    section: Section,
-    lists: &mut Lists,
-) -> Result<(), Fault<WrongToken>>
-    ensures reads { ReadsOn (body_in (section_seen section)) reader.old lists.old lists.new reader.new result }
-    ensures fewer { OnOk result (length reader.new.tokens ≤ length reader.old.tokens) }
-{
-    while let Some(start) = reader.two_byte_code() {
-        read_entry(reader, section, start, lists)?;
-    }
     Ok(())
 }
 
@@ -232,8 +244,8 @@ pub(crate) fn next_start(
     }
 }
 
-/// The code that the next entry begins with, where it stands as most do; `None` of any other token. Codes
-/// of texts have two bytes most often.
+/// The code that the next entry begins with, where it stands as most do; `None` of any other token. Before
+/// an entry of CIDs most codes of two bytes are read already.
 #[inline(always)]
 fn plain_start(reader: &mut TokenReader<'_>, section: Section) -> Option<Code>
     ensures { MatchOption result (reader.new ≡ reader.old) (λ code. (piece : List ℕ)
@@ -241,8 +253,8 @@ fn plain_start(reader: &mut TokenReader<'_>, section: Section) -> Option<Code>
         × (code_in (String piece) ≡ Some (code_seen code))) }
 {
     match section {
-        Section::BfChar => reader.plain_code(),
-        _ => reader.short_code(),
+        Section::Cids(CidKind::Cid, _) => reader.short_code(),
+        _ => reader.plain_code(),
     }
 }
 

@@ -94,6 +94,12 @@ impl<'d> TokenReader<'d> {
         }
     }
 
+    /// Whether a code of two bytes may come next that stands as most do.
+    #[inline(always)]
+    pub(crate) fn may_have_two_byte_code(&self) -> bool {
+        self.scanner.may_have_two_bytes()
+    }
+
     /// The code of two bytes that comes next, where it stands as most do; `None` of any other token.
     #[inline(always)]
     pub(crate) fn two_byte_code(&mut self) -> Option<Code>

@@ -210,7 +210,8 @@ impl<'a> Model for Scanner<'a> {
 }
 
 impl<'a> Scanner<'a> {
-    ghost use Rattle.std.specs.Prelude.{◌≡◌, ℕ, ◌↔◌, ◌+◌, ◌*◌, ◌%◌, ◌<◌, ◌≤◌, ◌^◌, List, [], false, true, length, None, Some, Ok, pos, IfOk, IfSome, IsErr, MatchOption, MatchResult, OnErr};
+    ghost use Rattle.cmap_tokens.specs.Ascii.{greater};
+    ghost use Rattle.std.specs.Prelude.{◌≡◌, ◌==◌, get_or, ℕ, ◌↔◌, ◌+◌, ◌*◌, ◌%◌, ◌<◌, ◌≤◌, ◌^◌, List, [], false, true, length, None, Some, Ok, pos, IfOk, IfSome, IsErr, MatchOption, MatchResult, OnErr};
     ghost use Rattle.cmap_tokens.specs.Gaps.{IsBlank};
     ghost use Rattle.cmap_tokens.specs.Tokens.{HasNoFront, IsMalformed};
     ghost use Rattle.cmap_tokens.specs.Stops.{StopsAt};
@@ -267,6 +268,14 @@ impl<'a> Scanner<'a> {
         let rest = &self.source[self.offset..];
         let gap = gap_len(rest);
         self.offset + gap + malformed_len(&rest[gap..])
+    }
+
+    /// Whether a `>` stands where the string ends that `next_two_bytes` reads, as it does in most files.
+    #[inline(always)]
+    pub fn may_have_two_bytes(&self) -> bool
+        ensures { result ≡ (get_or (rest_of self.now) 6 0 == greater) }
+    {
+        matches!(&self.source[self.offset..], [_, _, _, _, _, _, b'>', ..])
     }
 
     /// The number that the two bytes of the next string write, the high one first, where one white
