@@ -250,6 +250,9 @@ impl<'d> TokenReader<'d> {
         if let Some(number) = self.scanner.next_decimal() {
             return cid_of_number(number);
         }
+        if let Some(number) = self.scanner.next_padded_decimal() {
+            return cid_of_number(number);
+        }
         match self.required_token() {
             Ok(token) => cid_of(&token).ok_or(wrong(Reason::CidExpected)),
             // By `?` a file takes up to 2 % more instructions.

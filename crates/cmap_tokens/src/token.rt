@@ -16,7 +16,7 @@ mod values;
 pub use self::byte_class::is_regular;
 use self::gaps::gap_len;
 use self::lengths::malformed_len;
-use self::numerals::{blank_decimal, short_decimal};
+use self::numerals::{blank_decimal, padded_decimal, short_decimal};
 pub use self::piece_reader::{MalformedPiece, Piece, PieceReader};
 use self::pieces::{
     TWO_BYTES_LEN, first_token, spaced_pairs, spaced_parts, two_bytes, two_bytes_and_decimal,
@@ -417,6 +417,22 @@ impl<'a> Scanner<'a> {
     {
         let (number, len) = blank_decimal(&self.source[self.offset..])?;
         self.offset += 1 + len;
+        Some(number)
+    }
+
+    /// The next number, where two white bytes, one to 18 decimal digits and then a byte that ends them
+    /// come next, as in columns of numbers. The scanner is moved past the digits. `None` of any other
+    /// text, leaving it in place.
+    #[inline(never)]
+    pub fn next_padded_decimal(&mut self) -> Option<u64>
+        ensures token { IfSome result (λ number.
+            ReadsToken self.old (tokens.Numeral (Integer (pos number))) self.new
+            × LeavesAfter (tokens.Numeral (Integer (pos number))) self.old self.new) }
+        ensures few { IfSome result (λ number. number < 10 ^ 18) }
+        ensures stays { result ≡ None → self.new ≡ self.old }
+    {
+        let (number, len) = padded_decimal(&self.source[self.offset..])?;
+        self.offset += 1 + (1 + len);
         Some(number)
     }
 

@@ -1,7 +1,8 @@
 //! The numbers that runs of regular bytes are spelled as.
 
-ghost use Rattle.std.specs.Prelude.{◌≡◌, ℕ, ◌+◌, ◌-◌, ◌<◌, ◌≤◌, ◌^◌, ◌%◌, false, List, ◌∷◌, ◌++◌, min, length, take, IfSome, IsSome, IsTrue, MatchOption, Some, option_map, pos, neg_ℤ, if◌then◌else◌};
+ghost use Rattle.std.specs.Prelude.{◌≡◌, ℕ, ◌+◌, ◌-◌, ◌<◌, ◌≤◌, ◌^◌, ◌%◌, false, List, ◌∷◌, ◌++◌, min, length, get_or, drop, take, true, IfSome, IsSome, IsTrue, MatchOption, Some, option_map, pos, neg_ℤ, if◌then◌else◌};
 ghost use Rattle.std.specs.List.{prefix_len};
+ghost use Rattle.cmap_tokens.specs.Bytes as bytes;
 ghost use Rattle.cmap_tokens.specs.Numbers as numbers;
 ghost use Rattle.cmap_tokens.specs.Scanner.{spaced_decimal};
 ghost use Rattle.cmap_tokens.specs.NumberSeen.{number_seen};
@@ -21,6 +22,18 @@ pub(super) fn blank_decimal(text: &[u8]) -> Option<(u64, usize)>
 {
     match text {
         [blank, rest @ ..] if is_white(*blank) => decimal(rest),
+        _ => None,
+    }
+}
+
+/// The decimal number that a text begins with after two white bytes, and how many digits it has.
+pub(super) fn padded_decimal(text: &[u8]) -> Option<(u64, usize)>
+    ensures blank { IfSome result (λ _. bytes.is_white (get_or text.now 0 0) ≡ true) }
+    ensures front { IfSome result (λ first. spaced_decimal (drop 1 text.now) ≡ Some first) }
+    ensures within { IfSome result (λ first. 2 + first.1 ≤ length text.now) }
+{
+    match text {
+        [blank, ..] if is_white(*blank) => blank_decimal(&text[1..]),
         _ => None,
     }
 }
