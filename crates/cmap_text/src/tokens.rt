@@ -170,7 +170,7 @@ impl<'d> TokenReader<'d> {
 
     /// The code of any length that comes next, where its digits stand as most do; `None` of any other
     /// token.
-    #[inline(always)]
+    #[inline(never)]
     pub(crate) fn short_code(&mut self) -> Option<Code>
         ensures { MatchOption result (self.new ≡ self.old) (λ code. (piece : List ℕ)
             × (token_in self.old ≡ Ok (String piece, self.new))
@@ -210,7 +210,7 @@ impl<'d> TokenReader<'d> {
 
     /// The units of the destination that comes next, where it stands as most do; `None` of any other
     /// token.
-    #[inline(always)]
+    #[inline(never)]
     pub(crate) fn plain_destination(&mut self) -> Option<Units>
         ensures { MatchOption result (self.new ≡ self.old) (λ units. (piece : List ℕ)
             × (token_in self.old ≡ Ok (String piece, self.new))

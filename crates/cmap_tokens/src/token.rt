@@ -298,6 +298,7 @@ impl<'a> Scanner<'a> {
     /// How many bytes the next string stands for, and the number that they write, the high one first,
     /// where one white byte and then `<`, one to four pairs of digits and `>` come next. The scanner is
     /// moved past the string. `None` of any other text, leaving the scanner in place.
+    #[inline(always)]
     pub fn next_pairs(&mut self) -> Option<(u8, u32)>
         ensures token { IfSome result (λ first. (piece : List ℕ)
             × ReadsToken self.old (tokens.String piece) self.new × WritesBytes piece first.0 first.1
@@ -314,6 +315,7 @@ impl<'a> Scanner<'a> {
 
     /// The same of a string of six or eight bytes: how many, the number that the first four write, and the
     /// number that the others write.
+    #[inline(always)]
     pub fn next_parts(&mut self) -> Option<(u8, u32, u32)>
         ensures token { IfSome result (λ first. (piece : List ℕ)
             × ReadsToken self.old (tokens.String piece) self.new × WritesParts piece first.0 first.1 first.2

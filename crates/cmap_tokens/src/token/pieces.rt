@@ -181,6 +181,7 @@ pub(super) fn two_strings_and_decimal(text: &[u8]) -> Option<(u16, u16, u64, usi
 
 /// How many bytes a string writes in pairs of digits, one to four, and their number, where a text
 /// begins with such a string after one white byte.
+#[inline(always)]
 pub(super) fn spaced_pairs(text: &[u8]) -> Option<(u8, u32)>
     ensures front { result ≡ spaced_pairs text.now }
     ensures few { IfSome result (λ first. (1 ≤ first.0) × (first.0 ≤ 4)) }
@@ -193,6 +194,7 @@ pub(super) fn spaced_pairs(text: &[u8]) -> Option<(u8, u32)>
 }
 
 /// The same, by the bytes after `<`.
+#[inline(always)]
 fn short_pairs(text: &[u8]) -> Option<(u8, u32)>
     ensures exact { result ≡ short_pairs text.now }
     ensures few { IfSome result (λ first. (1 ≤ first.0) × (first.0 ≤ 4)) }
@@ -211,6 +213,7 @@ fn short_pairs(text: &[u8]) -> Option<(u8, u32)>
 
 /// How many bytes a string writes in pairs of digits, six or eight, and the numbers of the first four
 /// and of the others, where a text begins with such a string after one white byte.
+#[inline(always)]
 pub(super) fn spaced_parts(text: &[u8]) -> Option<(u8, u32, u32)>
     ensures front { result ≡ spaced_parts text.now }
     ensures few { IfSome result (λ first. (6 ≤ first.0) × (first.0 ≤ 8) × (first.0 % 2 ≡ 0)) }
