@@ -1,4 +1,4 @@
-use Rattle.std.proofs.Common.{◌≡◌, ◌+◌, ◌*◌, ◌≤◌, ◌^◌, ℕ, get_or, take, drop, map, sym, ◌∙◌, arith}
+use Rattle.std.proofs.Common.{◌≡◌, ◌+◌, ◌*◌, ◌≤◌, ◌^◌, ℕ, get_or, take, drop, map, sym, arith}
 use Rattle.std.specs.Int.Digits.{number_from_digits}
 use Rattle.cmap_tokens.specs.TokenReading.{weight}
 use Rattle.cmap_tokens.proofs.Digits.{five_counted, four_counted, most_weight, spaced_counted}
