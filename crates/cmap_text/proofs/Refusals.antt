@@ -1,5 +1,5 @@
 -- What calls that read tokens answer.
-use Rattle.std.proofs.Common.{◌≡◌, refl, ◌∙◌, true, false}
+use Rattle.std.proofs.Common.{◌≡◌, refl, ◌∙◌, true}
 use Rattle.std.specs.Prelude.{Option, Some, None, Result, Ok, Err, IfErr, IfOk, IsErrAnd, IsOkAnd, MatchResult, OnOk, option_map}
 use Rattle.std.specs.Option.{ok_or}
 use Rattle.std.proofs.lemmas.Iterator.Adapters.{option_map_id}

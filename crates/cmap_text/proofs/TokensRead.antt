@@ -6,7 +6,7 @@ use Rattle.std.proofs.lemmas.Slice.Eq.{bytes_eq-Decides}
 use Rattle.std.specs.Prelude.{pos, nat_le, nat_lt, Option, Some, None, option_map, option_and_then, if◌then◌else◌}
 use Rattle.cmap_values.specs.BigEndian.{big_endian}
 use Rattle.cmap_tokens.specs.Numbers.{Number}
-use Rattle.cmap_tokens.specs.Strings.{IsValue}
+use Rattle.cmap_tokens.specs.Strings.{IsValue, WritesTwoBytes}
 use Rattle.cmap_tokens.proofs.StringValues.{IsValue-read, IsValue-from}
 use Rattle.cmap_tokens.specs.Texts.{units_of}
 use Rattle.cmap_tokens.specs.Tokens.{Token}
@@ -66,6 +66,11 @@ found_value read _ x is = absurd (none-some x is)
 
 pub code_is : (t : Token) (bytes : List ℕ) → IsCode t bytes → code_in t ≡ Some (written bytes)
 code_is t bytes (piece, is, value, least, most) = read_value code_of t piece bytes is value ∙ code_of-is bytes least most
+
+-- by the number that its two bytes write
+pub two_bytes_code : (piece : List ℕ) (n : ℕ) (code : Code) → WritesTwoBytes piece n → code ≡ record { len = 2; number = n } → code_in (Token.String piece) ≡ Some code
+two_bytes_code piece n code (value, only, bytes, two, number) is =
+    read_value code_of (Token.String piece) piece value refl only.holds ∙ code_of-is value (omega (arith, two)) (omega (arith, two)) ∙ rw (two, ← number, is) refl
 
 pub code_found : (t : Token) (code : Code) → code_in t ≡ Some code → (bytes : List ℕ) × IsCode t bytes × (code ≡ written bytes)
 code_found t code is =

@@ -8,7 +8,9 @@ use Rattle.cmap_values.specs.Outcomes.{Outcome}
 use Rattle.cmap_values.specs.declared.declarations.Lists.{Lists}
 use Rattle.cmap_values.specs.declared.fault.Fault.{Fault}
 use Rattle.cmap_values.specs.declared.fault.Fault.TheVariants.{Refused}
-use Rattle.cmap_text.specs.TokenParsers.{Parser, run}
+use Rattle.cmap_text.specs.TextFiles.{Section}
+use Rattle.cmap_text.specs.TextReading.{Code, code_fault, code_or_closer, entry_after}
+use Rattle.cmap_text.specs.TokenParsers.{Parser, head_in, run}
 use Rattle.cmap_text.specs.TokenParsers as parsers
 use Rattle.cmap_text.specs.declared.wrong_token.WrongToken.{WrongToken}
 
@@ -41,10 +43,11 @@ AddsDeclarations read old before after here = ReadsAs (run (read (lists_seen bef
 abbrev pub ReadsOn : {A : Type 0} → (files.Lists → Parser files.Lists) → Left → Lists → Lists → Left → Result A (Fault WrongToken) → Type 0
 ReadsOn read old before after here = Outcome (λ done. run (read (lists_seen before)) old ≡ run (read (lists_seen after)) here) (RefusesAt here (run (read (lists_seen before)) old))
 
--- either this is read and gives the lists as they are now, or all is as it was
-abbrev pub AddsIf : (files.Lists → Parser files.Lists) → Left → Lists → Lists → Left → Bool → Type 0
-AddsIf read old before after here true = run (read (lists_seen before)) old ≡ Ok (lists_seen after, here)
-AddsIf read old before after here false = (here ≡ old) × (lists_seen after ≡ lists_seen before)
+-- either an entry is read from its first code on and gives the lists as they are now, or all is as it was
+abbrev pub AddsEntryIf : Section → Left → Lists → Lists → Left → Bool → Type 0
+AddsEntryIf section old before after here true =
+    (start : Code) × (next : Left) × (head_in code_fault (code_or_closer section) old ≡ Ok (Some start, next)) × (run (entry_after section start (lists_seen before)) next ≡ Ok (lists_seen after, here))
+AddsEntryIf section old before after here false = (here ≡ old) × (lists_seen after ≡ lists_seen before)
 
 -- this holds where it is refused
 abbrev pub WhereRefused : {A : Type 0} → Type 0 → Result A (Fault WrongToken) → Type 0

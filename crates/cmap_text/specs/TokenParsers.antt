@@ -1,5 +1,5 @@
 -- Parsers of tokens: what each finds in the tokens that are left of a text, or else which token is wrong and why.
-use Rattle.std.specs.Prelude.{ℕ, zero, suc, ◌+◌, Bool, true, false, List, [], ◌∷◌, length, Option, Some, None, Result, Ok, Err, option_map, ok_or, if◌then◌else◌}
+use Rattle.std.specs.Prelude.{ℕ, zero, suc, ◌+◌, List, [], ◌∷◌, length, Option, Some, None, Result, Ok, Err, option_map, ok_or, if◌then◌else◌}
 use Rattle.cmap_tokens.specs.Malformed.{Malformed, unclosed_text, unclosed_hexadecimal, wrong_digit, stray}
 use Rattle.cmap_tokens.specs.Tokens.{Token}
 use Rattle.cmap_tokens.specs.TokensLeft.{EndedToken, Left}

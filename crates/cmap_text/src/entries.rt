@@ -1,10 +1,10 @@
 //! The entries of sections. Each call here has the first code of an entry, reads what follows it, and
 //! adds what the entry declares.
 
-ghost use Rattle.std.specs.Prelude.{◌≡◌, ℕ, ◌+◌, ◌-◌, IfErr, IfOk, OnOk};
+ghost use Rattle.std.specs.Prelude.{◌≡◌, ℕ, ◌+◌, ◌-◌, List, Ok, Some, IfErr, IfOk, MatchOption, OnOk};
 ghost use Rattle.cmap_values.specs.CodeLengths.{length_of};
 ghost use Rattle.cmap_values.specs.DeclarationsSeen.{cid_entry_seen, lists_seen};
-ghost use Rattle.cmap_text.specs.EntriesSeen.{AddsDeclarations, AddsIf, AddsTexts, ReadsAs, WhereRefused};
+ghost use Rattle.cmap_text.specs.EntriesSeen.{AddsDeclarations, AddsEntryIf, AddsTexts, ReadsAs, WhereRefused};
 ghost use Rattle.cmap_values.specs.Files.{lists_of};
 ghost use Rattle.cmap_values.specs.Files as declared;
 ghost use Rattle.cmap_values.specs.ListsAppended.{append_lists};
@@ -14,8 +14,11 @@ ghost use Rattle.cmap_values.specs.declared.fault.Reason.TheVariants.{TextExpect
 ghost use Rattle.cmap_values.specs.UnitsSeen.{units_seen};
 ghost use Rattle.cmap_text.specs.TextFiles as files;
 ghost use Rattle.cmap_text.specs.TextSeen.{code_seen, extent_seen, kind_seen};
-ghost use Rattle.cmap_text.specs.TextReading.{cids_after, entry_after, list_in, list_or_destination, text_of, texts_from};
-ghost use Rattle.cmap_text.specs.TokenParsers.{followed_by, or_wrong, run};
+ghost use Rattle.cmap_text.specs.TextReading as reading;
+ghost use Rattle.cmap_text.specs.TextReading.{cids_after, code_in, entry_after, filed, list_in, list_or_destination, text_of, texts_from};
+ghost use Rattle.cmap_text.specs.TokenParsers.{followed_by, or_wrong, run, token_in};
+ghost use Rattle.cmap_tokens.specs.Tokens.{String};
+ghost use Rattle.cmap_tokens.specs.TokensLeft.{Left};
 
 use crate::tokens::{Code, TokenReader, is_executable};
 use crate::wrong_token::{WrongToken, wrong};
@@ -24,6 +27,7 @@ use cmap_tokens::token::Token;
 use cmap_values::code_length::CodeLength;
 use cmap_values::declarations::{BfRange, CidRange, Codespace, Lists};
 use cmap_values::fault::{Fault, Reason};
+use cmap_values::names::Cid;
 use cmap_values::units::Units;
 
 /// Which CIDs an entry declares: those of its codes, or the fallback CID of codes that have no other.
@@ -84,19 +88,36 @@ pub(crate) fn add_cids(
     Ok(())
 }
 
-/// A destination of two bytes after the code of an entry, where it stands as most do. `false` of any
-/// other token, leaving the reader in place.
+/// An entry of CIDs whose codes have two bytes, where all of it stands as most do. `false` of any other
+/// tokens, leaving the reader in place.
 #[inline(always)]
-pub(crate) fn add_plain_unit(
+pub(crate) fn add_plain_cids(
     reader: &mut TokenReader<'_>,
-    code: Code,
+    extent: Extent,
     lists: &mut Lists,
 ) -> Result<bool, Fault<WrongToken>>
-    ensures adds { IfOk result (AddsIf (entry_after files.bf_char (code_seen code))
+    ensures adds { IfOk result (AddsEntryIf (files.cids files.mapped (extent_seen extent))
         reader.old lists.old lists.new reader.new) }
     ensures fails { IfErr result (λ fault. fault ≡ Memory) }
 {
-    let Some(unit) = reader.plain_unit() else {
+    let Some(filed) = plain_cids(reader, extent) else {
+        return Ok(false);
+    };
+    lists.add_cid(filed.len, filed.range)?;
+    Ok(true)
+}
+
+/// The text of a single code, where both have two bytes and stand as most do. `false` of any other
+/// tokens, leaving the reader in place.
+#[inline(always)]
+pub(crate) fn add_plain_text(
+    reader: &mut TokenReader<'_>,
+    lists: &mut Lists,
+) -> Result<bool, Fault<WrongToken>>
+    ensures adds { IfOk result (AddsEntryIf files.bf_char reader.old lists.old lists.new reader.new) }
+    ensures fails { IfErr result (λ fault. fault ≡ Memory) }
+{
+    let Some((code, unit)) = reader.two_byte_code_and_unit() else {
         return Ok(false);
     };
     add_text(lists, code.number, code.number, Units::One([unit]))?;
@@ -231,6 +252,42 @@ struct Filed {
     range: CidRange,
 }
 
+/// What an entry of CIDs declares whose codes have two bytes, where all of it stands as most do.
+#[inline(always)]
+fn plain_cids(reader: &mut TokenReader<'_>, extent: Extent) -> Option<Filed>
+    ensures { MatchOption result (reader.new ≡ reader.old) (λ filed. (piece : List ℕ) × (start : reading.Code) × (next : Left)
+        × (token_in reader.old ≡ Ok (String piece, next))
+        × (code_in (String piece) ≡ Some start)
+        × (run (cids_after (extent_seen extent) start) next ≡ Ok ((length_of filed.len, cid_entry_seen filed.range), reader.new))) }
+{
+    match extent {
+        Extent::Range => {
+            let (start, end, cid) = reader.two_byte_range_and_cid()?;
+            Some(filed_range(start, end, cid))
+        }
+        Extent::Single => {
+            let (code, cid) = reader.two_byte_code_and_cid()?;
+            Some(filed_range(code, code, cid))
+        }
+    }
+}
+
+/// The codes from `start` to `end` have CIDs from this one on, and are filed by the length of the first.
+#[inline(always)]
+fn filed_range(start: Code, end: Code, cid: Cid) -> Filed
+    ensures { (length_of result.len, cid_entry_seen result.range)
+        ≡ filed (code_seen start) (code_seen end).number cid }
+{
+    let range = Range {
+        start: start.number,
+        end: end.number,
+    };
+    Filed {
+        len: start.len,
+        range: CidRange { range, cid },
+    }
+}
+
 /// What an entry of CIDs declares: code, code, CID for a range and code, CID for a single code,
 /// filed by the length of the first code.
 #[inline(always)]
@@ -247,12 +304,5 @@ fn read_cids(
         Extent::Single => start,
     };
     let cid = reader.next_cid()?;
-    let range = Range {
-        start: start.number,
-        end: end.number,
-    };
-    Ok(Filed {
-        len: start.len,
-        range: CidRange { range, cid },
-    })
+    Ok(filed_range(start, end, cid))
 }

@@ -1,18 +1,20 @@
 //! Sections: an opener, entries, a closer.
 
-ghost use Rattle.std.specs.Prelude.{◌≡◌, ◌≤◌, IfErr, IfOk, OnOk, length, option_map};
+ghost use Rattle.std.specs.Prelude.{◌≡◌, ◌≤◌, ℕ, List, Ok, Some, IfErr, IfOk, MatchOption, OnOk, length, option_map};
 ghost use Rattle.cmap_tokens.specs.TokenSeen.{token_seen};
 ghost use Rattle.cmap_values.specs.DeclarationsSeen.{lists_seen};
 ghost use Rattle.cmap_values.specs.Outcomes.{Finds};
 ghost use Rattle.cmap_values.specs.declared.fault.Fault.TheVariants.{Memory};
-ghost use Rattle.cmap_text.specs.EntriesSeen.{AddsDeclarations, AddsIf, ReadsAs, ReadsOn, WhereRefused};
+ghost use Rattle.cmap_text.specs.EntriesSeen.{AddsDeclarations, ReadsAs, ReadsOn, WhereRefused};
 ghost use Rattle.cmap_text.specs.TextFiles as files;
-ghost use Rattle.cmap_text.specs.TextReading.{body_in, code_fault, code_or_closer, entry_after, opened_by};
+ghost use Rattle.cmap_text.specs.TextReading.{body_in, code_fault, code_in, code_or_closer, entry_after, opened_by};
 ghost use Rattle.cmap_text.specs.TextSeen.{code_seen, extent_seen, kind_seen, section_seen};
-ghost use Rattle.cmap_text.specs.TokenParsers.{head_in, or_wrong};
+ghost use Rattle.cmap_text.specs.TokenParsers.{head_in, or_wrong, token_in};
+ghost use Rattle.cmap_tokens.specs.Tokens.{String};
 
 use crate::entries::{
-    CidKind, Extent, add_bf_char, add_bf_range, add_cids, add_codespace_range, add_plain_unit,
+    CidKind, Extent, add_bf_char, add_bf_range, add_cids, add_codespace_range, add_plain_cids,
+    add_plain_text,
 };
 use crate::tokens::{Code, TokenReader, is_executable};
 use crate::wrong_token::WrongToken;
@@ -142,7 +144,7 @@ fn read_entries(
         lists.old lists.new reader.new result }
 {
     loop {
-        read_two_byte_entries(reader, section, lists)?;
+        read_plain_entries(reader, section, lists)?;
         match next_start(reader, section) {
             Ok(Some(start)) => read_entry(reader, section, start, lists)?,
             Ok(None) => return Ok(()),
@@ -151,9 +153,9 @@ fn read_entries(
     }
 }
 
-/// Reads the entries of a section that begin with a code of two bytes, up to one that doesn't.
+/// Reads the entries of a section that stand as most do, up to one that doesn't.
 #[inline(always)]
-fn read_two_byte_entries(
+fn read_plain_entries(
     reader: &mut TokenReader<'_>,
     section: Section,
     lists: &mut Lists,
@@ -161,31 +163,66 @@ fn read_two_byte_entries(
     ensures reads { ReadsOn (body_in (section_seen section)) reader.old lists.old lists.new reader.new result }
     ensures fewer { OnOk result (length reader.new.tokens ≤ length reader.old.tokens) }
 {
-    while let Some(start) = reader.two_byte_code() {
-        if !add_plain(reader, section, start, lists)? {
-            read_entry(reader, section, start, lists)?;
-        }
+    if !reader.may_have_two_byte_code() {
+        return Ok(());
     }
+    match section {
+        Section::Cids(CidKind::Cid, Extent::Range) => read_plain_cid_ranges(reader, lists),
+        Section::Cids(CidKind::Cid, Extent::Single) => read_plain_single_cids(reader, lists),
+        Section::BfChar => read_plain_texts(reader, lists),
+        _ => Ok(()),
+    }
+}
+
+/// Reads the entries of a section of ranges of CIDs that stand as most do, up to one that doesn't.
+#[inline(never)]
+fn read_plain_cid_ranges(
+    reader: &mut TokenReader<'_>,
+    lists: &mut Lists,
+) -> Result<(), Fault<WrongToken>>
+    ensures reads { ReadsOn (body_in (files.cids files.mapped files.range)) reader.old lists.old lists.new reader.new result }
+    ensures fewer { OnOk result (length reader.new.tokens ≤ length reader.old.tokens) }
+{
+    read_plain_cids(reader, Extent::Range, lists)
+}
+
+/// Reads the entries of a section of single CIDs that stand as most do, up to one that doesn't.
+#[inline(never)]
+fn read_plain_single_cids(
+    reader: &mut TokenReader<'_>,
+    lists: &mut Lists,
+) -> Result<(), Fault<WrongToken>>
+    ensures reads { ReadsOn (body_in (files.cids files.mapped files.single)) reader.old lists.old lists.new reader.new result }
+    ensures fewer { OnOk result (length reader.new.tokens ≤ length reader.old.tokens) }
+{
+    read_plain_cids(reader, Extent::Single, lists)
+}
+
+/// Reads the entries of a section of CIDs that stand as most do, up to one that doesn't.
+#[inline(always)]
+fn read_plain_cids(
+    reader: &mut TokenReader<'_>,
+    extent: Extent,
+    lists: &mut Lists,
+) -> Result<(), Fault<WrongToken>>
+    ensures reads { ReadsOn (body_in (files.cids files.mapped (extent_seen extent))) reader.old lists.old lists.new reader.new result }
+    ensures fewer { OnOk result (length reader.new.tokens ≤ length reader.old.tokens) }
+{
+    while add_plain_cids(reader, extent, lists)? {}
     Ok(())
 }
 
-/// Reads what follows the first code of an entry and adds what it declares, where that is a destination
-/// that stands as most do. `false` of any other entry, leaving the reader in place.
-#[inline(always)]
-fn add_plain(
+/// Reads the entries of a section of texts of single codes that stand as most do, up to one that doesn't.
+#[inline(never)]
+fn read_plain_texts(
     reader: &mut TokenReader<'_>,
-    section: Section,
-    start: Code,
     lists: &mut Lists,
-) -> Result<bool, Fault<WrongToken>>
-    ensures adds { IfOk result (AddsIf (entry_after (section_seen section) (code_seen start))
-        reader.old lists.old lists.new reader.new) }
-    ensures fails { IfErr result (λ fault. fault ≡ Memory) }
+) -> Result<(), Fault<WrongToken>>
+    ensures reads { ReadsOn (body_in files.bf_char) reader.old lists.old lists.new reader.new result }
+    ensures fewer { OnOk result (length reader.new.tokens ≤ length reader.old.tokens) }
 {
-    match section {
-        Section::BfChar => add_plain_unit(reader, start, lists),
-        _ => Ok(false),
-    }
+    while add_plain_text(reader, lists)? {}
+    Ok(())
 }
 
 /// The code that the next entry of a section begins with; `None` at the closer.
@@ -197,13 +234,27 @@ pub(crate) fn next_start(
     ensures { ReadsAs (head_in code_fault (code_or_closer (section_seen section)) reader.old)
         (λ start. (option_map code_seen start, reader.new)) reader.new result }
 {
-    if let Some(code) = reader.short_code() {
+    if let Some(code) = plain_start(reader, section) {
         return Ok(Some(code));
     }
     match reader.required_token() {
         Ok(token) => code_or_closer(reader, &token, section),
         // By `?` a file takes up to 2 % more instructions.
         Err(fault) => Err(fault),
+    }
+}
+
+/// The code that the next entry begins with, where it stands as most do; `None` of any other token. Before
+/// an entry of CIDs most codes of two bytes are read already.
+#[inline(always)]
+fn plain_start(reader: &mut TokenReader<'_>, section: Section) -> Option<Code>
+    ensures { MatchOption result (reader.new ≡ reader.old) (λ code. (piece : List ℕ)
+        × (token_in reader.old ≡ Ok (String piece, reader.new))
+        × (code_in (String piece) ≡ Some (code_seen code))) }
+{
+    match section {
+        Section::Cids(CidKind::Cid, _) => reader.short_code(),
+        _ => reader.plain_code(),
     }
 }
 

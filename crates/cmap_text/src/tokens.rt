@@ -94,6 +94,12 @@ impl<'d> TokenReader<'d> {
         }
     }
 
+    /// Whether a code of two bytes may come next that stands as most do.
+    #[inline(always)]
+    pub(crate) fn may_have_two_byte_code(&self) -> bool {
+        self.scanner.may_have_two_bytes()
+    }
+
     /// The code of two bytes that comes next, where it stands as most do; `None` of any other token.
     #[inline(always)]
     pub(crate) fn two_byte_code(&mut self) -> Option<Code>
@@ -101,9 +107,52 @@ impl<'d> TokenReader<'d> {
             × (token_in self.old ≡ Ok (String piece, self.new))
             × (code_in (String piece) ≡ Some (code_seen code))) }
     {
-        let number = u32::from(self.scanner.next_two_bytes()?);
-        let len = CodeLength::Two;
-        Some(Code { len, number })
+        let number = self.scanner.next_two_bytes()?;
+        Some(two_byte_code(number))
+    }
+
+    /// The code of two bytes and the CID that come next, where both stand as most do; `None` of any other
+    /// tokens.
+    #[inline(always)]
+    pub(crate) fn two_byte_code_and_cid(&mut self) -> Option<(Code, Cid)>
+        ensures { MatchOption result (self.new ≡ self.old) (λ found. (piece : List ℕ) × (between : Left)
+            × (token_in self.old ≡ Ok (String piece, between))
+            × (code_in (String piece) ≡ Some (code_seen found.0))
+            × (run next_cid between ≡ Ok (found.1, self.new))) }
+    {
+        let (number, cid) = self.scanner.next_two_bytes_and_decimal()?;
+        Some((two_byte_code(number), cid as u32))
+    }
+
+    /// The two codes of two bytes and the CID that come next, where all stand as most do; `None` of any
+    /// other tokens.
+    #[inline(always)]
+    pub(crate) fn two_byte_range_and_cid(&mut self) -> Option<(Code, Code, Cid)>
+        ensures { MatchOption result (self.new ≡ self.old) (λ found. (low high : List ℕ) × (first second : Left)
+            × (token_in self.old ≡ Ok (String low, first))
+            × (code_in (String low) ≡ Some (code_seen found.0))
+            × (token_in first ≡ Ok (String high, second))
+            × (code_in (String high) ≡ Some (code_seen found.1))
+            × (run next_cid second ≡ Ok (found.2, self.new))) }
+    {
+        let (low, high, cid) = self.scanner.next_two_strings_and_decimal()?;
+        let start = two_byte_code(low);
+        let end = two_byte_code(high);
+        Some((start, end, cid as u32))
+    }
+
+    /// The code of two bytes and the destination of two bytes that come next, where both stand as most do;
+    /// `None` of any other tokens.
+    #[inline(always)]
+    pub(crate) fn two_byte_code_and_unit(&mut self) -> Option<(Code, u16)>
+        ensures { MatchOption result (self.new ≡ self.old) (λ found. (piece text : List ℕ) × (between : Left)
+            × (token_in self.old ≡ Ok (String piece, between))
+            × (code_in (String piece) ≡ Some (code_seen found.0))
+            × (token_in between ≡ Ok (String text, self.new))
+            × (destination_in (String text) ≡ Some (found.1 ∷ []))) }
+    {
+        let (number, unit) = self.scanner.next_two_strings()?;
+        Some((two_byte_code(number), unit))
     }
 
     /// The code that comes next, where it stands as most do; `None` of any other token.
@@ -121,7 +170,7 @@ impl<'d> TokenReader<'d> {
 
     /// The code of any length that comes next, where its digits stand as most do; `None` of any other
     /// token.
-    #[inline(always)]
+    #[inline(never)]
     pub(crate) fn short_code(&mut self) -> Option<Code>
         ensures { MatchOption result (self.new ≡ self.old) (λ code. (piece : List ℕ)
             × (token_in self.old ≡ Ok (String piece, self.new))
@@ -159,21 +208,9 @@ impl<'d> TokenReader<'d> {
         }
     }
 
-    /// The unit of the destination of two bytes that comes next, where it stands as most do; `None` of
-    /// any other token.
-    #[inline(always)]
-    pub(crate) fn plain_unit(&mut self) -> Option<u16>
-        ensures { MatchOption result (self.new ≡ self.old) (λ unit. (piece : List ℕ)
-            × (token_in self.old ≡ Ok (String piece, self.new))
-            × (destination_in (String piece) ≡ Some (unit ∷ []))) }
-    {
-        let unit = self.scanner.next_two_bytes()?;
-        Some(unit)
-    }
-
     /// The units of the destination that comes next, where it stands as most do; `None` of any other
     /// token.
-    #[inline(always)]
+    #[inline(never)]
     pub(crate) fn plain_destination(&mut self) -> Option<Units>
         ensures { MatchOption result (self.new ≡ self.old) (λ units. (piece : List ℕ)
             × (token_in self.old ≡ Ok (String piece, self.new))
@@ -211,6 +248,9 @@ impl<'d> TokenReader<'d> {
         ensures { ReadsAs (run next_cid self.old) (λ cid. (cid, self.new)) self.new result }
     {
         if let Some(number) = self.scanner.next_decimal() {
+            return cid_of_number(number);
+        }
+        if let Some(number) = self.scanner.next_padded_decimal() {
             return cid_of_number(number);
         }
         match self.required_token() {
@@ -318,6 +358,17 @@ pub(crate) fn malformed_reason(malformed: Malformed) -> Reason
         Malformed::UnclosedText | Malformed::UnclosedHexadecimal => Reason::UnclosedString,
         Malformed::WrongDigit => Reason::WrongDigit,
         Malformed::Stray => Reason::StrayDelimiter,
+    }
+}
+
+/// The code of two bytes that write this number.
+#[inline(always)]
+fn two_byte_code(number: u16) -> Code
+    ensures { code_seen result ≡ record { len = 2; number = number } }
+{
+    Code {
+        len: CodeLength::Two,
+        number: u32::from(number),
     }
 }
 

@@ -1,5 +1,5 @@
 -- A token that stands after one white byte.
-use Rattle.std.proofs.Common.{◌≡◌, ℕ, ◌+◌, ◌<◌, ◌≤◌, ◌^◌, ◌==◌, Bool, false, true, List, [], ◌∷◌, ◌++◌, length, get_or, take, drop, ◌*◌, length-append, Some, ◌⊎◌, ⊎_elim, inl, inr, refl, sym, ap, ◌∙◌, subst, arith, append_assoc, length-drop, length-take-le}
+use Rattle.std.proofs.Common.{suc, ◌≡◌, ℕ, ◌+◌, ◌<◌, ◌≤◌, ◌^◌, ◌==◌, Bool, false, true, List, [], ◌∷◌, ◌++◌, length, get_or, take, drop, ◌*◌, length-append, Some, ◌⊎◌, ⊎_elim, inl, inr, refl, sym, ap, ◌∙◌, subst, arith, append_assoc, length-drop, length-take-le}
 use Rattle.std.specs.Prelude.{option_and_then, option_map, IfSome, IsTrue, None, Option, ◌&&◌, nat_le, nat_lt, not, pos}
 use Rattle.std.specs.Char.{is_digit}
 use Rattle.std.specs.List.{list_all}
@@ -227,3 +227,16 @@ decimal_first (blank ∷ text) number len e =
           (λ _. ap begins_regular (drop-cons text len 0 is.within) ∙ is.special) (omega (arith, long)),
       omega (arith, small, is.number_is),
     )
+
+-- ---- a second white byte
+after_white : (blank len : ℕ) (text : List ℕ) (token : Token) → is_white blank ≡ true → FirstToken text token len → FirstToken (blank ∷ text) token (1 + len)
+after_white blank len text token white (gap, piece, only, long) =
+    let not_percent : (blank == 37) ≡ false = other_byte is_white 37 blank refl white in
+    let front : Front (blank ∷ text) (blank ∷ gap) piece token (drop len text)
+    = record { whole = ap (λ t. blank ∷ t) only.front.whole; gap_is = rw (not_percent, white) only.front.gap_is; piece_is = only.front.piece_is; longest = only.front.longest } in
+    let place : suc len ≡ 1 + len = omega arith in
+    (blank ∷ gap, piece, subst (OnlyFront (blank ∷ text) (blank ∷ gap) piece token) (ap (λ n. drop n (blank ∷ text)) place) (front_only front), omega (arith, long))
+
+pub padded_first : (text : List ℕ) (number len : ℕ) → is_white (get_or text 0 0) ≡ true → spaced_decimal (drop 1 text) ≡ Some (number, len) → FirstToken text (Numeral (Integer (pos number))) (1 + (1 + len)) × (number < 10 ^ 18)
+padded_first [] number len white e = absurd (none-some (number, len) e)
+padded_first (blank ∷ text) number len white e = let (first, small) = decimal_first text number len e in (after_white blank (1 + len) text _ white first, small)

@@ -1,12 +1,12 @@
 -- The numbers that digits write.
-use Rattle.std.proofs.Common.{◌++◌, suc, zero, Bool, None, inl, inr, length-take-le, ◌≡◌, ℕ, ◌+◌, ◌*◌, ◌-◌, ◌^◌, ◌<◌, ◌≤◌, min, List, length, get_or, take, drop, true, ap, sym, ◌∙◌, ⊎_elim, arith, [], ◌∷◌, map, refl, ◌%◌, ◌/◌, pos, false, ◌==◌, Some}
+use Rattle.std.proofs.Common.{◌++◌, suc, zero, Bool, None, inl, inr, length-drop, length-take-le, ◌≡◌, ℕ, ◌+◌, ◌*◌, ◌-◌, ◌^◌, ◌<◌, ◌≤◌, min, List, length, get_or, take, drop, true, ap, sym, ◌∙◌, ⊎_elim, arith, [], ◌∷◌, map, refl, ◌%◌, ◌/◌, pos, false, ◌==◌, Some}
 use Rattle.std.specs.Char.{digit_value, is_digit}
 use Rattle.std.specs.List.{list_all, prefix_len}
 use Rattle.std.proofs.lemmas.Bool.{and_cases, and_from, and_left, and_right, cond-false, lt-leb, not_from_true, leb-true, lt-ltb, ltb-false, cases_Bool, false≢true, cases_lt, and_parts, ltb-true, le-leb, not_from_false}
 use Rattle.std.proofs.lemmas.Int.Digits.{number_after_ge, number_push, digits_value_is, digits_value_more, number_lt}
 use Rattle.std.proofs.Math.Nat.{mul-le-mul_left, mul-le-mul_right, pow-le-pow_right, pow-suc}
 use Rattle.cmap_tokens.specs.Numbers.{decimal_front, digits_len, leading_decimal, digits_number, are_digits, digits_value, Integer, integer, numeral}
-use Rattle.std.specs.Prelude.{◌&&◌, ◌⊎◌, IfSome, Option, nat_lt, option_map, unwrap_or, nat_le, codes}
+use Rattle.std.specs.Prelude.{◌&&◌, ◌⊎◌, IfSome, MatchOption, Option, nat_lt, option_map, unwrap_or, nat_le, codes}
 use Rattle.std.specs.Int.Digits.{AllBelowBase, number_from_digits_after}
 use Rattle.std.proofs.lemmas.List.{drop_more, length-map, length-take, map-append, take-append-drop, take-take, take_more}
 use Rattle.cmap_tokens.specs.TokenReading.{weight, leading_digits, octal_len}
@@ -137,6 +137,21 @@ weight_more base n w i some light bound =
 pub weight_fits : (base n i : ℕ) → 0 < base → base ^ 8 ≤ 2 ^ 32 → i ≤ 8 → n + 2 ^ 32 ≤ 2 ^ 32 * base ^ i → n + 2 ^ 32 ≤ 2 ^ 64
 weight_fits base n i some fits few bound = omega (arith, fits, pow-le-pow_right {n = base} some {i = i} {j = 8} few)
 
+-- two bytes more
+pub pair_value : (digits : List ℕ) (i : ℕ) → 2 * i + 1 < length digits
+    → number_from_digits 16 (map (weight 16) (take (2 * (i + 1)) digits)) ≡ number_from_digits 16 (map (weight 16) (take (2 * i) digits)) * 256 + (16 * weight 16 (get_or digits (2 * i) 0) + weight 16 (get_or digits (2 * i + 1) 0))
+pair_value digits i within =
+    let place : 2 * (i + 1) ≡ 2 * i + 1 + 1 = omega arith in
+    omega (arith, ap (λ n. number_from_digits 16 (map (weight 16) (take n digits))) place, weight_value 16 digits (2 * i) (omega (arith, within)), weight_value 16 digits (2 * i + 1) within)
+
+pub pair_more : (n a b i : ℕ) → a ≤ 2 ^ 32 → b ≤ 2 ^ 32 → n + 2 ^ 32 ≤ 2 ^ 32 * 16 ^ (2 * i) → n * 256 + (16 * a + b) + 2 ^ 32 ≤ 2 ^ 32 * 16 ^ (2 * (i + 1))
+pair_more n a b i first second bound =
+    let place : 2 * (i + 1) ≡ 2 * i + 1 + 1 = omega arith in
+    omega (arith, ap (λ k. 16 ^ k) place, weight_more 16 (n * 16 + a) b (2 * i + 1) (omega arith) second (weight_more 16 n a (2 * i) (omega arith) first bound))
+
+pub pair_fits : (n a b i : ℕ) → a ≤ 2 ^ 32 → b ≤ 2 ^ 32 → i < 4 → n + 2 ^ 32 ≤ 2 ^ 32 * 16 ^ (2 * i) → n * 256 + (16 * a + b) + 2 ^ 32 ≤ 2 ^ 64
+pair_fits n a b i first second few bound = weight_fits 16 _ (2 * (i + 1)) (omega arith) (omega arith) (omega (arith, few)) (pair_more n a b i first second bound)
+
 pub is_decimal : (b : ℕ) → weight 10 b < 10 → is_digit b 10 ≡ true
 is_decimal b small = elim (cases_Bool (is_digit b 10)) [ inl digit ↦ digit | inr other ↦ absurd (omega (arith, rw other at small)) ]
 
@@ -174,6 +189,33 @@ spaced_front len (blank ∷ text) found some few within before after is =
     let white : is_white (get_or text len 0) ≡ true = ap (λ i. is_white (get_or (blank ∷ text) i 0)) (sym place) ∙ after in
     let count : len + 1 - 1 ≡ len = omega arith in
     rw before (closed_front len text found some few (omega (arith, within)) white (is ∙ ap (λ n. digits_value 10 (take n text)) count))
+
+-- what the bytes after the first one count, from one of them on
+counted_more : (text : List ℕ) (i : ℕ) → i + 1 < length text → number_from_digits 10 (map (weight 10) (take (i + 1) (drop 1 text))) ≡ number_from_digits 10 (map (weight 10) (take i (drop 1 text))) * 10 + weight 10 (get_or text (i + 1) 0)
+counted_more [] i within = absurd (omega (arith, within))
+counted_more (blank ∷ text) i within = let place : i + 1 ≡ suc i = omega arith in weight_value 10 text i (omega (arith, within)) ∙ ap (λ k. number_from_digits 10 (map (weight 10) (take i text)) * 10 + weight 10 (get_or (blank ∷ text) k 0)) (sym place)
+
+-- and what four and five of them count
+pub four_counted : (text : List ℕ) → 6 < length text
+    → number_from_digits 10 (map (weight 10) (take 4 (drop 1 text))) ≡ (10 * weight 10 (get_or text 1 0) + weight 10 (get_or text 2 0)) * 100 + (10 * weight 10 (get_or text 3 0) + weight 10 (get_or text 4 0))
+four_counted text long =
+    let none : number_from_digits 10 (map (weight 10) (take 0 (drop 1 text))) ≡ 0 = refl in
+    omega (arith, none, counted_more text 0 (omega (arith, long)), counted_more text 1 (omega (arith, long)), counted_more text 2 (omega (arith, long)), counted_more text 3 (omega (arith, long)))
+
+pub five_counted : (text : List ℕ) → 6 < length text
+    → number_from_digits 10 (map (weight 10) (take 5 (drop 1 text))) ≡ ((10 * weight 10 (get_or text 1 0) + weight 10 (get_or text 2 0)) * 100 + (10 * weight 10 (get_or text 3 0) + weight 10 (get_or text 4 0))) * 10 + weight 10 (get_or text 5 0)
+five_counted text long = omega (arith, four_counted text long, counted_more text 4 (omega (arith, long)))
+
+-- a short number between two white bytes, by what its bytes count
+pub spaced_counted : (len n : ℕ) (text : List ℕ) (found : Option (ℕ × ℕ)) → 1 ≤ len → len ≤ 5 → 7 ≤ length text → is_white (get_or text 0 0) ≡ true → is_white (get_or text (len + 1) 0) ≡ true
+    → n ≡ number_from_digits 10 (map (weight 10) (take len (drop 1 text))) → MatchOption found (2 ^ 32 ≤ n) (λ first. (first ≡ (n, len)) × (n < 2 ^ 32)) → IfSome found (λ first. spaced_decimal text ≡ Some first)
+spaced_counted len n text None some few long before after is found = tt
+spaced_counted len n text (Some first) some few long before after is (same, small) =
+    let digits = take len (drop 1 text) in
+    let count : len + 1 - 1 ≡ len = omega arith in
+    let size : length digits ≡ len = length-take-le len (drop 1 text) (omega (arith, length-drop 1 text, few, long)) in
+    let value = sym (light 10 digits n (omega arith) (omega (arith, size, some)) is small) ∙ ap (λ k. digits_value 10 (take k (drop 1 text))) (sym count) in
+    rw same (spaced_front len text (Some n) some (omega (arith, few)) (omega (arith, few, long)) before after value)
 
 -- the digits that a text begins with, and the byte after them
 pub decimal_from : (text : List ℕ) (number len : ℕ) → Some (number, len) ≡ leading_decimal text → (len ≡ 0 → ⊥) → is_regular (get_or text len 0) ≡ false → (Some (number, len) ≡ decimal_front text) × (len ≤ length text)

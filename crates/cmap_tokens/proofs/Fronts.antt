@@ -227,6 +227,27 @@ unfolding tokens_of
 left_after old new token (gap, piece, only, is) =
     left_front only.front old.passed ∙ ap (λ n. with_token token old.passed (left_from n (rest_of new))) (sym (ap (λ p. p.passed) is))
 
+-- one token after another
+pub two_read : (here old : Cursor) (text : List ℕ) (n len : ℕ) (token other : Token) → here ≡ old → text ≡ rest_of here → FirstToken text token n → FirstToken (drop n text) other len
+    → (between : Cursor) × ReadsToken old token between × LeavesAfter token old between × ReadsToken between other (past (n + len) here) × LeavesAfter other between (past (n + len) here)
+two_read here old text n len token other same is first second =
+    let read = read_token here old text n token same is first in
+    let next = read_token (past n here) (past n here) (drop n text) len other refl (ap (drop n) is ∙ drop-drop n here.passed here.source) second in
+    let place : past len (past n here) ≡ past (n + len) here = ap (λ k. record { source = here.source; passed = k }) (omega arith) in
+    let both = subst (ReadsToken (past n here) other) place next in
+    (past n here, read, left_after old (past n here) token read, both, left_after (past n here) (past (n + len) here) other both)
+
+-- and one more
+pub three_read : (here old : Cursor) (text : List ℕ) (n m len : ℕ) (token other last : Token) → here ≡ old → text ≡ rest_of here → FirstToken text token n → FirstToken (drop n text) other m → FirstToken (drop m (drop n text)) last len
+    → (first second : Cursor) × ReadsToken old token first × LeavesAfter token old first × ReadsToken first other second × LeavesAfter other first second × ReadsToken second last (past (n + m + len) here) × LeavesAfter last second (past (n + m + len) here)
+three_read here old text n m len token other last same is first second third =
+    let read = read_token here old text n token same is first in
+    let rest = ap (drop n) is ∙ drop-drop n here.passed here.source in
+    let (between, next, left, then, after) = two_read (past n here) (past n here) (drop n text) m len other last refl rest second third in
+    let place : past (m + len) (past n here) ≡ past (n + m + len) here = ap (λ k. record { source = here.source; passed = k }) (omega arith) in
+    let end = subst (λ new. ReadsToken between last new × LeavesAfter last between new) place (then, after) in
+    (past n here, between, read, left_after old (past n here) token read, next, left, end.0, end.1)
+
 pub passed_of : (cursor : Cursor) → (tokens_of cursor).passed ≡ cursor.passed
 unfolding tokens_of
 passed_of cursor = passed_is cursor.passed (rest_of cursor)

@@ -1,10 +1,13 @@
 -- How numbers are spelled: what the definitions give where the parts of a text are known.
-use Rattle.std.proofs.Common.{◌≡◌, ℕ, ◌+◌, ◌-◌, ◌<◌, ◌≤◌, ◌^◌, ◌==◌, ◌||◌, ◌&&◌, Bool, true, List, [], ◌∷◌, length, get_or, take, drop, Option, Some, None, option_map, refl, sym, ap, ◌∙◌, inl, inr, ◌⊎◌, arith}
+use Rattle.std.proofs.Common.{◌≡◌, ℕ, ◌+◌, ◌-◌, ◌<◌, ◌≤◌, ◌^◌, ◌==◌, ◌||◌, ◌&&◌, Bool, true, false, List, [], ◌∷◌, length, get_or, take, drop, Option, Some, None, option_map, refl, sym, ap, ◌∙◌, inl, inr, ◌⊎◌, arith}
 use Rattle.std.specs.Prelude.{min, nat_le, nat_lt, neg_ℤ, option_and_then, pos, if◌then◌else◌}
-use Rattle.std.proofs.lemmas.Bool.{eq-eqb, le-leb, lt-leb, ne_eqb}
+use Rattle.std.specs.Char.{is_digit}
+use Rattle.std.specs.List.{list_all}
+use Rattle.std.proofs.lemmas.Bool.{and_right, eq-eqb, false≢true, le-leb, lt-leb, ne_eqb}
 use Rattle.std.proofs.lemmas.List.{take_rest}
 use Rattle.std.proofs.lemmas.Option.{none-some, same_Some}
-use Rattle.cmap_tokens.specs.Numbers.{digits_len, digits_value, ends_real, integer, integer_in_base, is_exponent, is_real, number_of, without_sign, Number}
+use Rattle.cmap_tokens.specs.Numbers.{are_digits, digits_len, digits_value, ends_real, integer, integer_in_base, is_exponent, is_real, number_of, numeral, radix_integer, without_sign, Number}
+use Rattle.cmap_tokens.specs.TokenReading.{begins_number}
 
 abbrev pub positive : Option ℕ → Option Number
 positive magnitude = option_map (λ n. number_of (pos n)) magnitude
@@ -72,3 +75,42 @@ dot_real len n text fraction exponent some none ends dot fraction_is n_is expone
 pub real_is : (run unsigned : List ℕ) (n : ℕ) → unsigned ≡ without_sign run → n ≡ digits_len 10 unsigned → ends_real n (take (length unsigned - n) (drop n unsigned)) ≡ is_real run
 unfolding is_real
 real_is run unsigned n unsigned_is n_is = ap (ends_real n) (take_rest unsigned n) ∙ ap (λ k. ends_real k (drop k unsigned)) n_is ∙ ap (λ t. ends_real (digits_len 10 t) (drop (digits_len 10 t) t)) unsigned_is
+
+-- no number begins with another byte
+none_of_four : (a b c d : Bool) → (a || b || c || d) ≡ false → (a ≡ false) × (b ≡ false) × (c ≡ false) × (d ≡ false)
+none_of_four true b c d e = absurd (false≢true (sym e))
+none_of_four false true c d e = absurd (false≢true (sym e))
+none_of_four false false true d e = absurd (false≢true (sym e))
+none_of_four false false false true e = absurd (false≢true (sym e))
+none_of_four false false false false e = (refl, refl, refl, refl)
+
+either_way : {A : Type 0} (test : Bool) (x : A) → (if test then x else x) ≡ x
+either_way true x = refl
+either_way false x = refl
+
+no_digits : (b : ℕ) (text : List ℕ) → is_digit b 10 ≡ false → digits_value 10 (b ∷ text) ≡ None
+no_digits b text other = let none : list_all (λ c. is_digit c 10) (b ∷ text) ≡ false = rw other refl in
+    let are : are_digits 10 (b ∷ text) ≡ false = and_right _ _ none in
+    rw are refl
+
+no_base : (b : ℕ) (text digits : List ℕ) → is_digit b 10 ≡ false → integer_in_base (b ∷ text) digits ≡ None
+unfolding integer_in_base
+no_base b text digits other = rw (no_digits b text other) refl
+
+no_radix_after : (b : ℕ) (text : List ℕ) → is_digit b 10 ≡ false → radix_integer (b ∷ text) ≡ None
+unfolding radix_integer
+no_radix_after b [] other = refl
+no_radix_after b (c ∷ []) other = rw (no_base b [] [] other) (either_way (c == 35) None)
+no_radix_after b (c ∷ d ∷ text) other = rw (no_base b [] (d ∷ text) other, no_base b (c ∷ []) text other, either_way {A = Option Number} (d == 35) None) (either_way (c == 35) None)
+
+begun_by : (b : ℕ) (text : List ℕ) → begins_number b ≡ false → None ≡ numeral (b ∷ text)
+unfolding numeral integer is_real
+begun_by b text other =
+    let (digit, plus, minus, dot) = none_of_four (is_digit b 10) (b == 43) (b == 45) (b == 46) other in
+    rw (minus, plus, no_digits b text digit, no_radix_after b text digit, digit, dot) refl
+
+pub not_begun : (run : List ℕ) → (length run ≡ 0) ⊎ (begins_number (get_or run 0 0) ≡ false) → None ≡ numeral run
+unfolding numeral integer radix_integer is_real
+not_begun [] fails = refl
+not_begun (b ∷ text) (inl none) = absurd (omega (arith, none))
+not_begun (b ∷ text) (inr other) = begun_by b text other

@@ -1,9 +1,9 @@
 -- Private aid: what the code reads, as functions on lists. TokensLeft is made of it, and so are the clauses on the tokens that are left.
-use Rattle.std.specs.Prelude.{zero, suc, ◌^◌, nat_lt, ◌%◌, ◌++◌, length, min, get_or, drop, ℕ, ◌+◌, ◌==◌, Bool, true, false, not, List, [], ◌∷◌, take, map, option_map, filter, Option, Some, None, codes, if◌then◌else◌}
+use Rattle.std.specs.Prelude.{zero, suc, ◌^◌, nat_lt, ◌%◌, ◌++◌, length, min, get_or, drop, ℕ, ◌+◌, ◌==◌, ◌||◌, Bool, true, false, not, List, [], ◌∷◌, take, map, option_map, filter, Option, Some, None, codes, if◌then◌else◌}
 use Rattle.std.specs.List.{prefix_len}
 use Rattle.std.specs.Option.{option_map_or, option_to_list}
 use Rattle.std.specs.Char.{digit_value, is_digit}
-use Rattle.cmap_tokens.specs.Ascii.{line_feed, carriage_return, backslash, percent, open_parenthesis, slash, less, greater}
+use Rattle.cmap_tokens.specs.Ascii.{dot, minus, plus, line_feed, carriage_return, backslash, percent, open_parenthesis, slash, less, greater}
 use Rattle.cmap_tokens.specs.Bytes.{is_white, is_regular}
 use Rattle.cmap_tokens.specs.Gaps.{ends_comment}
 use Rattle.cmap_tokens.specs.Tokens.{Token, Name, String, Inside, after_byte, opened, is_bracket, is_hex_body, name_or_number}
@@ -132,6 +132,10 @@ unfoldable pub string_value : List ℕ → Option (List ℕ)
 string_value piece = if is_string piece then Some (value_by_bracket piece) else None
 
 -- ---- digits that are tested at the end
+-- a byte that a number may begin with
+abbrev pub begins_number : ℕ → Bool
+begins_number b = is_digit b 10 || b == plus || b == minus || b == dot
+
 -- the value of a digit of a base, and for any other byte more than eight digits write
 abbrev pub weight : ℕ → ℕ → ℕ
 weight base b = if is_digit b base then digit_value b else 2 ^ 32

@@ -16,9 +16,12 @@ mod values;
 pub use self::byte_class::is_regular;
 use self::gaps::gap_len;
 use self::lengths::malformed_len;
-use self::numerals::{blank_decimal, short_decimal};
+use self::numerals::{blank_decimal, padded_decimal, short_decimal};
 pub use self::piece_reader::{MalformedPiece, Piece, PieceReader};
-use self::pieces::{TWO_BYTES_LEN, first_token, spaced_pairs, spaced_parts, two_bytes};
+use self::pieces::{
+    TWO_BYTES_LEN, first_token, spaced_pairs, spaced_parts, two_bytes, two_bytes_and_decimal,
+    two_strings, two_strings_and_decimal,
+};
 use self::values::{decode_hex, decode_text, pairs_number};
 use std::alloc::AllocError;
 use std::fmt;
@@ -207,14 +210,15 @@ impl<'a> Model for Scanner<'a> {
 }
 
 impl<'a> Scanner<'a> {
-    ghost use Rattle.std.specs.Prelude.{◌≡◌, ℕ, ◌↔◌, ◌+◌, ◌*◌, ◌%◌, ◌<◌, ◌≤◌, ◌^◌, List, [], false, true, length, None, Some, Ok, pos, IfOk, IfSome, IsErr, MatchOption, MatchResult, OnErr};
+    ghost use Rattle.cmap_tokens.specs.Ascii.{greater};
+    ghost use Rattle.std.specs.Prelude.{◌≡◌, ◌==◌, get_or, ℕ, ◌↔◌, ◌+◌, ◌*◌, ◌%◌, ◌<◌, ◌≤◌, ◌^◌, List, [], false, true, length, None, Some, Ok, pos, IfOk, IfSome, IsErr, MatchOption, MatchResult, OnErr};
     ghost use Rattle.cmap_tokens.specs.Gaps.{IsBlank};
     ghost use Rattle.cmap_tokens.specs.Tokens.{HasNoFront, IsMalformed};
     ghost use Rattle.cmap_tokens.specs.Stops.{StopsAt};
     ghost use Rattle.cmap_tokens.specs.TokenReading.{gap_len};
     ghost use Rattle.cmap_tokens.specs.TokensLeft.{HasTokens, IsDecidedByFronts, EndInOrder, LeavesAfter, LeavesMalformed, LeavesNone, start_of, tokens_of};
     ghost use Rattle.cmap_tokens.specs.Numbers.{Integer};
-    ghost use Rattle.cmap_tokens.specs.Scanner.{ReadsToken, past, rest_of, spaced_decimal, spaced_pairs, spaced_parts, spaced_two_bytes};
+    ghost use Rattle.cmap_tokens.specs.Scanner.{Cursor, ReadsToken, past, rest_of, spaced_decimal, spaced_pairs, spaced_parts, spaced_two_bytes};
     ghost use Rattle.cmap_tokens.specs.Strings.{WritesBytes, WritesParts, WritesTwoBytes};
     ghost use Rattle.cmap_tokens.specs.Tokens as tokens;
     ghost use Rattle.cmap_tokens.specs.TokenSeen.{malformed_seen, token_seen};
@@ -266,9 +270,18 @@ impl<'a> Scanner<'a> {
         self.offset + gap + malformed_len(&rest[gap..])
     }
 
+    /// Whether a `>` stands where the string ends that `next_two_bytes` reads, as it does in most files.
+    #[inline(always)]
+    pub fn may_have_two_bytes(&self) -> bool
+        ensures { result ≡ (get_or (rest_of self.now) 6 0 == greater) }
+    {
+        matches!(&self.source[self.offset..], [_, _, _, _, _, _, b'>', ..])
+    }
+
     /// The number that the two bytes of the next string write, the high one first, where one white
     /// byte and then `<`, four digits and `>` come next, as in most codes. The scanner is moved past
     /// the string. `None` of any other text, leaving the scanner in place.
+    #[inline(always)]
     pub fn next_two_bytes(&mut self) -> Option<u16>
         ensures token { IfSome result (λ number. (piece : List ℕ)
             × ReadsToken self.old (tokens.String piece) self.new × WritesTwoBytes piece number
@@ -285,6 +298,7 @@ impl<'a> Scanner<'a> {
     /// How many bytes the next string stands for, and the number that they write, the high one first,
     /// where one white byte and then `<`, one to four pairs of digits and `>` come next. The scanner is
     /// moved past the string. `None` of any other text, leaving the scanner in place.
+    #[inline(always)]
     pub fn next_pairs(&mut self) -> Option<(u8, u32)>
         ensures token { IfSome result (λ first. (piece : List ℕ)
             × ReadsToken self.old (tokens.String piece) self.new × WritesBytes piece first.0 first.1
@@ -301,6 +315,7 @@ impl<'a> Scanner<'a> {
 
     /// The same of a string of six or eight bytes: how many, the number that the first four write, and the
     /// number that the others write.
+    #[inline(always)]
     pub fn next_parts(&mut self) -> Option<(u8, u32, u32)>
         ensures token { IfSome result (λ first. (piece : List ℕ)
             × ReadsToken self.old (tokens.String piece) self.new × WritesParts piece first.0 first.1 first.2
@@ -315,8 +330,65 @@ impl<'a> Scanner<'a> {
         Some((count, high, low))
     }
 
+    /// The numbers that the two bytes of each of the next two strings write, where both stand as
+    /// `next_two_bytes` says. The scanner is moved past both. `None` of any other text, leaving the scanner
+    /// in place.
+    #[inline(always)]
+    pub fn next_two_strings(&mut self) -> Option<(u16, u16)>
+        ensures tokens { IfSome result (λ found. (between : Cursor) × (first second : List ℕ)
+            × ReadsToken self.old (tokens.String first) between × WritesTwoBytes first found.0
+            × LeavesAfter (tokens.String first) self.old between
+            × ReadsToken between (tokens.String second) self.new × WritesTwoBytes second found.1
+            × LeavesAfter (tokens.String second) between self.new) }
+        ensures stays { result ≡ None → self.new ≡ self.old }
+    {
+        let (first, second) = two_strings(&self.source[self.offset..])?;
+        self.offset += 2 * TWO_BYTES_LEN;
+        Some((first, second))
+    }
+
+    /// The number that the two bytes of the next string write, and the number after it, where one white
+    /// byte stands before each, four digits write the bytes, and four or five decimal digits before a
+    /// white byte the number. The scanner is moved past both. `None` of any other text and near the end
+    /// of the text, leaving the scanner in place.
+    #[inline(always)]
+    pub fn next_two_bytes_and_decimal(&mut self) -> Option<(u16, u64)>
+        ensures tokens { IfSome result (λ found. (between : Cursor) × (piece : List ℕ)
+            × ReadsToken self.old (tokens.String piece) between × WritesTwoBytes piece found.0
+            × LeavesAfter (tokens.String piece) self.old between
+            × ReadsToken between (tokens.Numeral (Integer (pos found.1))) self.new
+            × LeavesAfter (tokens.Numeral (Integer (pos found.1))) between self.new) }
+        ensures few { IfSome result (λ found. found.1 < 2 ^ 32) }
+        ensures stays { result ≡ None → self.new ≡ self.old }
+    {
+        let (bytes, number, len) = two_bytes_and_decimal(&self.source[self.offset..])?;
+        self.offset += TWO_BYTES_LEN + (1 + len);
+        Some((bytes, number))
+    }
+
+    /// The numbers that the two bytes of each of the next two strings write, and the number after them,
+    /// where these stand as `next_two_bytes_and_decimal` says. The scanner is moved past all three. `None`
+    /// of any other text and near the end of the text, leaving the scanner in place.
+    #[inline(always)]
+    pub fn next_two_strings_and_decimal(&mut self) -> Option<(u16, u16, u64)>
+        ensures tokens { IfSome result (λ found. (first second : Cursor) × (low high : List ℕ)
+            × ReadsToken self.old (tokens.String low) first × WritesTwoBytes low found.0
+            × LeavesAfter (tokens.String low) self.old first
+            × ReadsToken first (tokens.String high) second × WritesTwoBytes high found.1
+            × LeavesAfter (tokens.String high) first second
+            × ReadsToken second (tokens.Numeral (Integer (pos found.2))) self.new
+            × LeavesAfter (tokens.Numeral (Integer (pos found.2))) second self.new) }
+        ensures few { IfSome result (λ found. found.2 < 2 ^ 32) }
+        ensures stays { result ≡ None → self.new ≡ self.old }
+    {
+        let (low, high, number, len) = two_strings_and_decimal(&self.source[self.offset..])?;
+        self.offset += 2 * TWO_BYTES_LEN + (1 + len);
+        Some((low, high, number))
+    }
+
     /// The next number, where one white byte, one to 18 decimal digits and then a byte that ends them
     /// come next. The scanner is moved past the digits. `None` of any other text, leaving it in place.
+    #[inline(always)]
     pub fn next_decimal(&mut self) -> Option<u64>
         ensures token { IfSome result (λ number.
             ReadsToken self.old (tokens.Numeral (Integer (pos number))) self.new
@@ -327,12 +399,8 @@ impl<'a> Scanner<'a> {
         ensures stays { result ≡ None → self.new ≡ self.old }
     {
         let rest = &self.source[self.offset..];
-        if let Some(number) = short_decimal(rest, 4) {
-            self.offset += 5;
-            return Some(number);
-        }
-        if let Some(number) = short_decimal(rest, 5) {
-            self.offset += 6;
+        if let Some((number, len)) = short_decimal(rest) {
+            self.offset += 1 + len;
             return Some(number);
         }
         self.next_other_decimal()
@@ -351,6 +419,22 @@ impl<'a> Scanner<'a> {
     {
         let (number, len) = blank_decimal(&self.source[self.offset..])?;
         self.offset += 1 + len;
+        Some(number)
+    }
+
+    /// The next number, where two white bytes, one to 18 decimal digits and then a byte that ends them
+    /// come next, as in columns of numbers. The scanner is moved past the digits. `None` of any other
+    /// text, leaving it in place.
+    #[inline(never)]
+    pub fn next_padded_decimal(&mut self) -> Option<u64>
+        ensures token { IfSome result (λ number.
+            ReadsToken self.old (tokens.Numeral (Integer (pos number))) self.new
+            × LeavesAfter (tokens.Numeral (Integer (pos number))) self.old self.new) }
+        ensures few { IfSome result (λ number. number < 10 ^ 18) }
+        ensures stays { result ≡ None → self.new ≡ self.old }
+    {
+        let (number, len) = padded_decimal(&self.source[self.offset..])?;
+        self.offset += 1 + (1 + len);
         Some(number)
     }
 

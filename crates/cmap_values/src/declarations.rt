@@ -166,7 +166,7 @@ impl Lists {
         ensures same { OnErr result (lists_seen self.new ≡ lists_seen self.old) }
     {
         if self.bfs.len() == self.bfs.capacity() {
-            grow_by_quarter(&mut self.bfs)?;
+            grow_by_half(&mut self.bfs)?;
         }
         self.bfs.push_reserved(range);
         Ok(())
@@ -210,6 +210,9 @@ fn push_filed(
     }
 }
 
+/// How many values a list has room for from the first one on.
+const FIRST_ROOM: usize = 32;
+
 /// Adds a value to a list.
 #[inline(always)]
 fn push<T: Drop>(list: &mut Vec<T>, value: T) -> Result<(), AllocError>
@@ -217,20 +220,20 @@ fn push<T: Drop>(list: &mut Vec<T>, value: T) -> Result<(), AllocError>
     ensures same { OnErr result (list.new.items ≡ list.old.items) }
 {
     if list.len() == list.capacity() {
-        list.reserve(1)?;
+        list.reserve(FIRST_ROOM)?;
     }
     list.push_reserved(value);
     Ok(())
 }
 
-/// Makes room for more values, a quarter of those that a list has. Texts take the most memory of a file
-/// while it is read, so their list isn't doubled.
+/// Makes room for more values, half of those that a list has. Texts take the most memory of a file while
+/// it is read, so their list isn't doubled.
 #[inline(never)]
-fn grow_by_quarter<T>(list: &mut Vec<T>) -> Result<(), AllocError>
+fn grow_by_half<T>(list: &mut Vec<T>) -> Result<(), AllocError>
     ensures same { list.new.items ≡ list.old.items }
     ensures room { OnOk result (vec_len list.new < vec_capacity list.new) }
 {
-    list.reserve_exact(list.len() / 4 + 16)
+    list.reserve_exact(list.len() / 2 + 16)
 }
 
 fn empty_lists(alloc: Global) -> ByLength<Vec<CidRange>>

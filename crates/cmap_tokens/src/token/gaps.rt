@@ -60,12 +60,11 @@ fn plain_len(text: &[u8]) -> usize
 fn are_plain(bytes: &[u8]) -> bool
     ensures { result ≡ list_all reading.is_plain bytes.now }
 {
+    let mut ends = false;
     for byte in bytes {
-        if *byte <= b'\r' {
-            return false;
-        }
+        ends = ends | (*byte <= b'\r');
     }
-    true
+    !ends
 }
 
 /// How many bytes are left of a comment, with the byte that ends it, by one byte after another.

@@ -1,14 +1,18 @@
 //! The numbers that runs of regular bytes are spelled as.
 
-ghost use Rattle.std.specs.Prelude.{◌≡◌, ℕ, ◌+◌, ◌-◌, ◌<◌, ◌≤◌, ◌^◌, false, List, ◌∷◌, ◌++◌, min, length, take, IfSome, IsSome, IsTrue, Some, option_map, pos, neg_ℤ, if◌then◌else◌};
+ghost use Rattle.std.specs.Prelude.{◌≡◌, ℕ, ◌+◌, ◌-◌, ◌<◌, ◌≤◌, ◌^◌, ◌%◌, false, List, ◌∷◌, ◌++◌, min, length, get_or, drop, take, true, IfSome, IsSome, IsTrue, MatchOption, Some, option_map, pos, neg_ℤ, if◌then◌else◌};
 ghost use Rattle.std.specs.List.{prefix_len};
+ghost use Rattle.cmap_tokens.specs.Bytes as bytes;
 ghost use Rattle.cmap_tokens.specs.Numbers as numbers;
 ghost use Rattle.cmap_tokens.specs.Scanner.{spaced_decimal};
 ghost use Rattle.cmap_tokens.specs.NumberSeen.{number_seen};
 ghost use Rattle.cmap_tokens.specs.TokenReading as reading;
 
 use super::Number;
-use super::byte_class::{NO_DIGIT, decimal_weight, digit_value, hex_weight, is_regular, is_white};
+use super::byte_class::{
+    NO_DIGIT, begins_number, decimal_pair, decimal_weight, digit_value, hex_pair, is_regular,
+    is_white,
+};
 
 /// The decimal number that a text begins with after one white byte, and how many digits it has.
 #[tactic(auto, using(std::proofs::lemmas::List::take_rest))]
@@ -22,20 +26,49 @@ pub(super) fn blank_decimal(text: &[u8]) -> Option<(u64, usize)>
     }
 }
 
+/// The decimal number that a text begins with after two white bytes, and how many digits it has.
+pub(super) fn padded_decimal(text: &[u8]) -> Option<(u64, usize)>
+    ensures blank { IfSome result (λ _. bytes.is_white (get_or text.now 0 0) ≡ true) }
+    ensures front { IfSome result (λ first. spaced_decimal (drop 1 text.now) ≡ Some first) }
+    ensures within { IfSome result (λ first. 2 + first.1 ≤ length text.now) }
+{
+    match text {
+        [blank, ..] if is_white(*blank) => blank_decimal(&text[1..]),
+        _ => None,
+    }
+}
+
 /// Where fewer bytes are left, a short decimal number isn't looked for.
 const SHORT_LEN: usize = 7;
 
-/// The decimal number of `len` digits, up to five, that stands between two white bytes at the head of a
-/// text.
+/// The decimal number of four or five digits that stands between two white bytes at the head of a text,
+/// and how many digits it has. `None` of any other text, and where fewer bytes are left.
 #[inline(always)]
-pub(super) fn short_decimal(text: &[u8], len: usize) -> Option<u64>
-    requires some { 1 ≤ len }
-    requires few { len ≤ 5 }
-    ensures front { IfSome result (λ number. spaced_decimal text.now ≡ Some (number, len)) }
-    ensures within { IfSome result (λ _. 7 ≤ length text.now) }
+pub(super) fn short_decimal(text: &[u8]) -> Option<(u64, usize)>
+    ensures front { IfSome result (λ first. spaced_decimal text.now ≡ Some first) }
+    ensures few { IfSome result (λ first. first.0 < 2 ^ 32) }
+    ensures within { IfSome result (λ first. 2 + first.1 ≤ length text.now) }
 {
-    if text.len() >= SHORT_LEN && is_white(text[0]) && is_white(text[len + 1]) {
-        decimal_number(&text[1..len + 1])
+    if text.len() < SHORT_LEN || !is_white(text[0]) {
+        return None;
+    }
+    let four = decimal_pair(text[1], text[2]) * 100 + decimal_pair(text[3], text[4]);
+    if is_white(text[5]) {
+        return if_digits(four, 4);
+    }
+    if is_white(text[6]) {
+        return if_digits(four * 10 + decimal_weight(text[5]), 5);
+    }
+    None
+}
+
+/// What so many bytes count as decimal digits, and how many they are, where all are digits.
+#[inline(always)]
+fn if_digits(number: u64, len: usize) -> Option<(u64, usize)>
+    ensures { MatchOption result (2 ^ 32 ≤ number) (λ first. (first ≡ (number, len)) × (number < 2 ^ 32)) }
+{
+    if number < NO_DIGIT {
+        Some((number, len))
     } else {
         None
     }
@@ -93,9 +126,19 @@ fn ended_digits(text: &[u8]) -> Option<(u64, usize)>
     None
 }
 
-/// The number that a run of regular bytes is spelled as.
-#[tactic(auto, unfolding(crate::specs::Numbers::numeral))]
+/// The number that a run of regular bytes is spelled as. Most runs are names, which their first byte shows.
 pub(super) fn number_of(run: &[u8]) -> Option<Number>
+    ensures { option_map number_seen result ≡ numbers.numeral run.now }
+{
+    match run {
+        [first, ..] if begins_number(*first) => spelled_number(run),
+        _ => None,
+    }
+}
+
+/// The same, by all bytes of the run.
+#[tactic(auto, unfolding(crate::specs::Numbers::numeral))]
+fn spelled_number(run: &[u8]) -> Option<Number>
     ensures { option_map number_seen result ≡ numbers.numeral run.now }
 {
     if let Some(number) = integer_of(run) {
@@ -223,37 +266,20 @@ pub(super) fn digits_number(base: u64, text: &[u8]) -> Option<u64>
     Some(number)
 }
 
-/// The number that one to eight hexadecimal digits write.
+/// The number that one to four pairs of hexadecimal digits write.
 #[inline(always)]
 pub(super) fn hex_number(digits: &[u8]) -> Option<u32>
     requires some { 1 ≤ length digits.now }
     requires few { length digits.now ≤ 8 }
+    requires pairs { length digits.now % 2 ≡ 0 }
     ensures { result ≡ numbers.digits_value 16 digits.now }
 {
     let mut number: u64 = 0;
-    for byte in digits {
-        number = number * 16 + hex_weight(*byte);
+    for i in 0..digits.len() / 2 {
+        number = number * 256 + hex_pair(digits[2 * i], digits[2 * i + 1]);
     }
     if number < NO_DIGIT {
         Some(number as u32)
-    } else {
-        None
-    }
-}
-
-/// The number that one to eight decimal digits write.
-#[inline(always)]
-fn decimal_number(digits: &[u8]) -> Option<u64>
-    requires some { 1 ≤ length digits.now }
-    requires few { length digits.now ≤ 8 }
-    ensures { result ≡ numbers.digits_value 10 digits.now }
-{
-    let mut number: u64 = 0;
-    for byte in digits {
-        number = number * 10 + decimal_weight(*byte);
-    }
-    if number < NO_DIGIT {
-        Some(number)
     } else {
         None
     }

@@ -1,12 +1,12 @@
 //! The token that a text begins with.
 
-ghost use Rattle.std.specs.Prelude.{◌≡◌, ℕ, ◌+◌, ◌*◌, ◌%◌, ◌<◌, ◌≤◌, false, true, List, ◌∷◌, ◌++◌, length, take, option_map, IfOk, IfSome, IsSome, IsTrue, MatchOption, MatchResult};
+ghost use Rattle.std.specs.Prelude.{◌≡◌, ℕ, ◌+◌, ◌*◌, ◌%◌, ◌<◌, ◌≤◌, ◌^◌, drop, false, true, List, ◌∷◌, ◌++◌, length, take, option_map, Some, IfOk, IfSome, IsSome, IsTrue, MatchOption, MatchResult};
 ghost use Rattle.std.specs.List.{prefix_len};
 ghost use Rattle.cmap_tokens.specs.Bytes.{is_regular};
 ghost use Rattle.cmap_tokens.specs.Gaps.{IsBlank};
 ghost use Rattle.cmap_tokens.specs.Tokens as tokens;
 ghost use Rattle.cmap_tokens.specs.Tokens.{IsMalformed, name_or_number};
-ghost use Rattle.cmap_tokens.specs.Scanner.{FirstToken, closed_number, closed_parts, short_pairs, spaced_pairs, spaced_parts, spaced_two_bytes};
+ghost use Rattle.cmap_tokens.specs.Scanner.{FirstToken, closed_number, closed_parts, short_pairs, spaced_decimal, spaced_pairs, spaced_parts, spaced_two_bytes};
 ghost use Rattle.cmap_tokens.specs.TokenReading as reading;
 ghost use Rattle.cmap_tokens.specs.TokenSeen.{malformed_seen, token_seen};
 ghost use Rattle.cmap_tokens.specs.Malformed.{malformed_kind};
@@ -16,7 +16,7 @@ use super::byte_class::{is_regular, is_white};
 use super::gaps::gap_len;
 use super::lengths::{run_len, string_len};
 use super::malformed_pieces::malformed_kind;
-use super::numerals::{hex_number, number_of};
+use super::numerals::{hex_number, number_of, short_decimal};
 use super::{Malformed, Name, StringToken, Token};
 
 /// The token that a text begins with, and how many bytes it takes with the gap before it.
@@ -107,6 +107,7 @@ pub(super) const TWO_BYTES_LEN: usize = 7;
 
 /// The number that two bytes write, whose string, such as `<8140>`, a text begins with after one white
 /// byte.
+#[inline(always)]
 pub(super) fn two_bytes(text: &[u8]) -> Option<u16>
     ensures front { result ≡ spaced_two_bytes text.now }
     ensures within { IfSome result (λ _. 7 ≤ length text.now) }
@@ -119,8 +120,68 @@ pub(super) fn two_bytes(text: &[u8]) -> Option<u16>
     }
 }
 
+/// The numbers that the two bytes of each of two strings write, which a text begins with after one white
+/// byte each.
+#[inline(always)]
+pub(super) fn two_strings(text: &[u8]) -> Option<(u16, u16)>
+    ensures first { IfSome result (λ found. spaced_two_bytes text.now ≡ Some found.0) }
+    ensures second { IfSome result (λ found. spaced_two_bytes (drop 7 text.now) ≡ Some found.1) }
+    ensures within { IfSome result (λ _. 14 ≤ length text.now) }
+{
+    if text.len() < 2 * TWO_BYTES_LEN {
+        return None;
+    }
+    let first = two_bytes(text)?;
+    let second = two_bytes(&text[TWO_BYTES_LEN..])?;
+    Some((first, second))
+}
+
+/// Where fewer bytes are left, no string of two bytes and a short decimal number after it are looked for.
+const TWO_BYTES_AND_DECIMAL_LEN: usize = 14;
+
+/// The number that two bytes write, the decimal number of four or five digits after it, and how many
+/// digits that has, where a text begins with such a string after one white byte.
+#[inline(always)]
+pub(super) fn two_bytes_and_decimal(text: &[u8]) -> Option<(u16, u64, usize)>
+    ensures string { IfSome result (λ first. spaced_two_bytes text.now ≡ Some first.0) }
+    ensures decimal { IfSome result (λ first. spaced_decimal (drop 7 text.now) ≡ Some (first.1, first.2)) }
+    ensures few { IfSome result (λ first. first.1 < 2 ^ 32) }
+    ensures within { IfSome result (λ first. 8 + first.2 ≤ length text.now) }
+{
+    if text.len() < TWO_BYTES_AND_DECIMAL_LEN {
+        return None;
+    }
+    let number = two_bytes(text)?;
+    let (decimal, len) = short_decimal(&text[TWO_BYTES_LEN..])?;
+    Some((number, decimal, len))
+}
+
+/// Where fewer bytes are left, no two strings of two bytes and a short decimal number are looked for.
+const TWO_STRINGS_AND_DECIMAL_LEN: usize = TWO_BYTES_LEN + TWO_BYTES_AND_DECIMAL_LEN;
+
+/// The numbers that the two bytes of each of two strings write, the decimal number of four or five
+/// digits after them, and how many digits that has, where a text begins with such strings after one white
+/// byte each.
+#[inline(always)]
+pub(super) fn two_strings_and_decimal(text: &[u8]) -> Option<(u16, u16, u64, usize)>
+    ensures first { IfSome result (λ found. spaced_two_bytes text.now ≡ Some found.0) }
+    ensures second { IfSome result (λ found. spaced_two_bytes (drop 7 text.now) ≡ Some found.1) }
+    ensures decimal { IfSome result (λ found.
+        spaced_decimal (drop 7 (drop 7 text.now)) ≡ Some (found.2, found.3)) }
+    ensures few { IfSome result (λ found. found.2 < 2 ^ 32) }
+    ensures within { IfSome result (λ found. 15 + found.3 ≤ length text.now) }
+{
+    if text.len() < TWO_STRINGS_AND_DECIMAL_LEN {
+        return None;
+    }
+    let first = two_bytes(text)?;
+    let (second, decimal, len) = two_bytes_and_decimal(&text[TWO_BYTES_LEN..])?;
+    Some((first, second, decimal, len))
+}
+
 /// How many bytes a string writes in pairs of digits, one to four, and their number, where a text
 /// begins with such a string after one white byte.
+#[inline(always)]
 pub(super) fn spaced_pairs(text: &[u8]) -> Option<(u8, u32)>
     ensures front { result ≡ spaced_pairs text.now }
     ensures few { IfSome result (λ first. (1 ≤ first.0) × (first.0 ≤ 4)) }
@@ -133,6 +194,7 @@ pub(super) fn spaced_pairs(text: &[u8]) -> Option<(u8, u32)>
 }
 
 /// The same, by the bytes after `<`.
+#[inline(always)]
 fn short_pairs(text: &[u8]) -> Option<(u8, u32)>
     ensures exact { result ≡ short_pairs text.now }
     ensures few { IfSome result (λ first. (1 ≤ first.0) × (first.0 ≤ 4)) }
@@ -151,6 +213,7 @@ fn short_pairs(text: &[u8]) -> Option<(u8, u32)>
 
 /// How many bytes a string writes in pairs of digits, six or eight, and the numbers of the first four
 /// and of the others, where a text begins with such a string after one white byte.
+#[inline(always)]
 pub(super) fn spaced_parts(text: &[u8]) -> Option<(u8, u32, u32)>
     ensures front { result ≡ spaced_parts text.now }
     ensures few { IfSome result (λ first. (6 ≤ first.0) × (first.0 ≤ 8) × (first.0 % 2 ≡ 0)) }
@@ -189,6 +252,7 @@ fn closed_parts(text: &[u8], count: u8) -> Option<(u8, u32, u32)>
 fn closed_number(text: &[u8], len: usize) -> Option<u32>
     requires some { 1 ≤ len }
     requires few { len ≤ 8 }
+    requires pairs { len % 2 ≡ 0 }
     ensures exact { result ≡ closed_number len text.now }
     ensures within { IfSome result (λ _. len < length text.now) }
 {

@@ -8,7 +8,7 @@ use Rattle.cmap_text.proofs.sections.next_start.Goals as goal
 pub returns-in-Some : goal.returns-in-Some
 returns-in-Some c =
     let (piece, reads, is) = c.in-Some.ensures in
-    (code_starts (section_seen c.args.section) c.args.reader.now c.short_code.new.self piece (code_seen c.in-Some.code) reads is, tt)
+    (code_starts (section_seen c.args.section) c.args.reader.now c.plain_start.new.reader piece (code_seen c.in-Some.code) reads is, tt)
 
 pub returns-in-Ok : goal.returns-in-Ok
 returns-in-Ok c =

@@ -1,4 +1,4 @@
-use Rattle.std.proofs.Common.{sym, ap, ◌∙◌}
+use Rattle.std.proofs.Common.{◌+◌, sym, ap, ◌∙◌}
 use Rattle.std.proofs.lemmas.List.{take_rest}
 use Rattle.std.proofs.lemmas.Option.{none-some}
 use Rattle.cmap_tokens.specs.Scanner.{past, rest_of, spaced_decimal}
@@ -16,22 +16,11 @@ returns c = record {
 
 pub returns-in-Some : goal.returns-in-Some
 returns-in-Some c =
-    let (first, small) = decimal_first _ c.in-Some.number 4 c.in-Some.ensures.front in
-    let read = read_token _ _ _ 5 _ c.self.view_is (take_rest _ c.self.inside.offset) first in
+    let (first, small) = decimal_first _ c.in-Some.number c.in-Some.len c.in-Some.ensures.front in
+    let read = read_token _ _ _ (1 + c.in-Some.len) _ c.self.view_is (take_rest _ c.self.inside.offset) first in
     record {
       token = (read, left_after _ _ _ read);
-      front = (4, ap spaced_decimal (sym (take_rest _ c.self.inside.offset ∙ ap rest_of c.self.view_is)) ∙ c.in-Some.ensures.front, ap (past 5) c.self.view_is);
-      few = small;
-      stays = λ e. absurd (none-some _ (sym e));
-    }
-
-pub returns-in-Some-short_decimal : goal.returns-in-Some-short_decimal
-returns-in-Some-short_decimal c =
-    let (first, small) = decimal_first _ c.in-Some-short_decimal.number 5 c.in-Some-short_decimal.ensures.front in
-    let read = read_token _ _ _ 6 _ c.self.view_is (take_rest _ c.self.inside.offset) first in
-    record {
-      token = (read, left_after _ _ _ read);
-      front = (5, ap spaced_decimal (sym (take_rest _ c.self.inside.offset ∙ ap rest_of c.self.view_is)) ∙ c.in-Some-short_decimal.ensures.front, ap (past 6) c.self.view_is);
+      front = (c.in-Some.len, ap spaced_decimal (sym (take_rest _ c.self.inside.offset ∙ ap rest_of c.self.view_is)) ∙ c.in-Some.ensures.front, ap (past (1 + c.in-Some.len)) c.self.view_is);
       few = small;
       stays = λ e. absurd (none-some _ (sym e));
     }

@@ -8,7 +8,7 @@ use Rattle.cmap_tokens.proofs.token.pieces.closed_number.Goals.{else-text-len-vi
 pub hex_number-requires : goal.hex_number-requires
 hex_number-requires c =
     let size = length-take-le c.args.len c.args.text.now (omega (arith, c.if-text-len.true)) in
-    record { some = omega (arith, size, c.requires.some); few = omega (arith, size, c.requires.few) }
+    record { some = omega (arith, size, c.requires.some); few = omega (arith, size, c.requires.few); pairs = omega (arith, size, c.requires.pairs) }
 
 pub returns-then-text-len-eq62 : goal.returns-then-text-len-eq62
 returns-then-text-len-eq62 c = record {

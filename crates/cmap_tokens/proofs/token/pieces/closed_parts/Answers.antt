@@ -27,7 +27,7 @@ returns c =
 pub hex_number-requires : goal.hex_number-requires
 hex_number-requires c =
     let size = length-take-le 8 c.args.text.now c.if-text-lt8.false in
-    record { some = omega (arith, size); few = omega (arith, size) }
+    record { some = omega (arith, size); few = omega (arith, size); pairs = omega (arith, size) }
 
 pub closed_number-requires : goal.closed_number-requires
-closed_number-requires c = record { some = omega (arith, c.from.ensures, c.requires.some); few = omega (arith, c.from.ensures, c.requires.few) }
+closed_number-requires c = record { some = omega (arith, c.from.ensures, c.requires.some); few = omega (arith, c.from.ensures, c.requires.few); pairs = omega (arith, c.from.ensures) }

@@ -1,10 +1,12 @@
 use Rattle.std.proofs.Common.{refl, ◌∷◌, []}
 use Rattle.std.proofs.lemmas.Result.{IfOk-from_err}
 use Rattle.cmap_values.specs.DeclarationsSeen.{lists_seen}
+use Rattle.cmap_text.specs.TextFiles.{bf_char}
 use Rattle.cmap_text.specs.TextSeen.{code_seen}
+use Rattle.cmap_text.proofs.EntriesRead.{code_starts}
 use Rattle.cmap_text.proofs.EntrySteps.{char_text}
 use Rattle.cmap_text.proofs.Refusals.{only_memory}
-use Rattle.cmap_text.proofs.entries.add_plain_unit.Goals as goal
+use Rattle.cmap_text.proofs.entries.add_plain_text.Goals as goal
 
 pub returns-in_default : goal.returns-in_default
 returns-in_default c = record { adds = (c.in_default.ensures, refl); fails = tt }
@@ -17,8 +19,14 @@ returns-in_err-add_text c = record {
 
 pub returns : goal.returns
 returns c =
-    let (piece, reads, is) = c.in-Some.ensures in
+    let code = code_seen c.in-Some.code in
+    let (piece, text, between, reads, is, next, destination) = c.in-Some.ensures in
     record {
-      adds = char_text (code_seen c.args.code) (lists_seen c.args.lists.now) c.args.reader.now (c.in-Some.unit ∷ []) c.plain_unit.new.self (rw (reads, is) refl) (lists_seen c.add_text.new.lists) c.in_ok-add_text.ensures.adds;
+      adds = (
+        code,
+        between,
+        code_starts bf_char c.args.reader.now between piece code reads is,
+        char_text code (lists_seen c.args.lists.now) between (c.in-Some.unit ∷ []) c.two_byte_code_and_unit.new.self (rw (next, destination) refl) (lists_seen c.add_text.new.lists) c.in_ok-add_text.ensures.adds,
+      );
       fails = tt;
     }
