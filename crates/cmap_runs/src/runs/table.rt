@@ -1,6 +1,6 @@
 //! Declarations with their runs.
 
-ghost use Rattle.std.specs.Prelude.{◌≡◌, ◌+◌, ◌-◌, ◌*◌, ◌<◌, ◌≤◌, Some, IfOk, IfNone, IfSome, IsTrue, is_some, length, map, slice_get};
+ghost use Rattle.std.specs.Prelude.{◌≡◌, ◌+◌, ◌-◌, ◌*◌, ◌<◌, ◌≤◌, true, None, Some, IfOk, IfNone, IfSome, IsTrue, is_some, length, map, slice_get};
 ghost use Rattle.std.specs.Option.{option_copied};
 ghost use Rattle.cmap_runs.specs.Ranges.{AreTheRuns, HasDigits, contains, digits, last_of, runs_of};
 ghost use Rattle.cmap_runs.specs.SearchLooks.{LooksAtMost};
@@ -82,10 +82,10 @@ impl<T: HasRange> Table<T> {
         ensures no_declaration { IfNone result
             (looks.new.declarations ≡ looks.old.declarations) }
     {
-        if u64::from(code) >= self.blocks.end {
-            return None;
-        }
         let Some(block) = self.blocks.block(code) else {
+            if self.ends_before(code) {
+                return None;
+            }
             let index = find_among_last(&self.held, &self.blocks, code, looks)?;
             return Some(self.held.declaration(index, looks));
         };
@@ -93,11 +93,15 @@ impl<T: HasRange> Table<T> {
         if begun == 0 {
             return None;
         }
-        let last = self.held.run(begun - 1, looks);
-        if last.high < code {
-            return None;
-        }
-        Some(self.held.declaration(last.index, looks))
+        self.held.reaching(begun - 1, code, looks)
+    }
+
+    /// Whether the codes of all declarations are seen to come before `code`.
+    #[inline(always)]
+    pub fn ends_before(&self, code: u32) -> bool
+        ensures { result ≡ true → last_of T.span self.now code ≡ None }
+    {
+        u64::from(code) >= self.blocks.end
     }
 
     /// The stretches of the codes from `first` on. The first of them is searched for, and the rest of
