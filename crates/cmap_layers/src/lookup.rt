@@ -11,8 +11,8 @@ ghost use Rattle.cmap_values.specs.Files.{of_length};
 ghost use Rattle.cmap_values.specs.UnitsSeen.{units_seen};
 ghost use Rattle.cmap_layers.specs.LayersSeen.{by_length_seen, layer_seen, layers_seen};
 ghost use Rattle.cmap_layers.specs.Lookups.{bf_at, bf_span, cid_span, last_bf, last_cid};
-ghost use Rattle.cmap_layers.specs.LayersDecide.{deciding_bf, layer_cid};
-ghost use Rattle.cmap_layers.specs.Searches.{FindsCid, FindsText, IsStrictCid, bf_looks, cid_looks, layer_looks, search_looks};
+ghost use Rattle.cmap_layers.specs.LayersDecide.{character_at, deciding_bf, layer_cid};
+ghost use Rattle.cmap_layers.specs.Searches.{FindsCid, FindsOtherCid, FindsText, IsStrictCid, bf_looks, cid_looks, layer_looks, search_looks};
 
 use crate::layer::Layer;
 use crate::layers::Layers;
@@ -165,23 +165,59 @@ fn decided_by(layer: &Layer, code: u32, len: CodeLength, looks: &mut Looks) -> O
     if let Some(found) = find_cid(cids, code, looks) {
         return Some(found.cid.checked_add(code - found.range.start));
     }
-    if let Some(found) = find_cid(notdefs, code, looks) {
-        return Some(Some(found.cid));
-    }
-    let character = character_of(&layer.bfs, code, looks)?;
-    Some(Some(u32::from(character)))
+    let cid = other_cid(notdefs, &layer.bfs, code, looks)?;
+    Some(Some(cid))
 }
 
-/// The text of a code, where it is one character.
+/// The CID of a code without a declaration of its CID. The notdefs and the texts end before most such
+/// codes.
 #[inline(always)]
-fn character_of(table: &Table<BfRange>, code: u32, looks: &mut Looks) -> Option<char>
-    ensures value { result ≡ only_character (option_and_then
-        (λ entry. bf_at entry code) (last_bf (map bf_entry_seen table.now) code)) }
+fn other_cid(
+    notdefs: &Table<CidRange>,
+    bfs: &Table<BfRange>,
+    code: u32,
+    looks: &mut Looks,
+) -> Option<Cid>
+    ensures { FindsOtherCid (map cid_entry_seen notdefs.now) (map bf_entry_seen bfs.now) code
+        looks.old looks.new result }
+{
+    if !notdefs.ends_before(code) {
+        return notdef_or_character(notdefs, bfs, code, looks);
+    }
+    if bfs.ends_before(code) {
+        return None;
+    }
+    character_of(bfs, code, looks)
+}
+
+/// The CID of a notdef, or else the character of a text. It is called rather than inlined, so that
+/// the search of the CIDs has all registers.
+#[inline(never)]
+fn notdef_or_character(
+    notdefs: &Table<CidRange>,
+    bfs: &Table<BfRange>,
+    code: u32,
+    looks: &mut Looks,
+) -> Option<Cid>
+    ensures { FindsOtherCid (map cid_entry_seen notdefs.now) (map bf_entry_seen bfs.now) code
+        looks.old looks.new result }
+{
+    match find_cid(notdefs, code, looks) {
+        Some(found) => Some(found.cid),
+        None => character_of(bfs, code, looks),
+    }
+}
+
+/// The text of a code, where it is one character. It is called rather than inlined, too.
+#[inline(never)]
+fn character_of(table: &Table<BfRange>, code: u32, looks: &mut Looks) -> Option<Cid>
+    ensures value { result ≡ character_at (map bf_entry_seen table.now) code }
     ensures looks { LooksAtMost looks.old looks.new
         (search_looks (map bf_span (map bf_entry_seen table.now))) 1 (is_some result) }
 {
     let found = last_bf(table, code, looks)?;
-    one_char(found.units.as_slice(), code - found.range.start)
+    let character = one_char(found.units.as_slice(), code - found.range.start)?;
+    Some(u32::from(character))
 }
 
 /// The table of the codes of this length.
