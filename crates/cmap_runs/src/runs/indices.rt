@@ -33,16 +33,19 @@ impl Apart {
         ensures apart { LieApartBefore (map T.span declarations.now) self.old.indices.items self.old.next
             → LieApartBefore (map T.span declarations.now) self.new.indices.items self.new.next }
     {
-        for index in first..end {
+        let (mut index, mut next) = (first, self.next);
+        while index < end {
             let range = range_at(declarations, index);
             let (from, last) = (u64::from(range.low), u64::from(range.high));
-            if from < self.next || range.high < range.low || limit <= last {
-                return index;
+            if from < next || range.high < range.low || limit <= last {
+                break;
             }
             self.indices.push_reserved(index);
-            self.next = last + 1;
+            next = last + 1;
+            index += 1;
         }
-        end
+        self.next = next;
+        index
     }
 }
 
