@@ -10,7 +10,7 @@ ghost use Rattle.cmap_values.specs.DeclarationsSeen.{bf_entry_seen, cid_entry_se
 ghost use Rattle.cmap_values.specs.Files.{of_length};
 ghost use Rattle.cmap_values.specs.UnitsSeen.{units_seen};
 ghost use Rattle.cmap_layers.specs.LayersSeen.{by_length_seen, layer_seen, layers_seen};
-ghost use Rattle.cmap_layers.specs.Lookups.{bf_at, bf_span, cid_span, last_bf, last_cid};
+ghost use Rattle.cmap_layers.specs.Lookups.{bf_at, bf_span, cid_at, cid_span, last_bf, last_cid};
 ghost use Rattle.cmap_layers.specs.LayersDecide.{character_at, deciding_bf, layer_cid};
 ghost use Rattle.cmap_layers.specs.Searches.{FindsCid, FindsOtherCid, FindsText, IsStrictCid, bf_looks, cid_looks, layer_looks, search_looks};
 
@@ -163,10 +163,20 @@ fn decided_by(layer: &Layer, code: u32, len: CodeLength, looks: &mut Looks) -> O
 {
     let (cids, notdefs) = (table_of(&layer.cids, len), table_of(&layer.notdefs, len));
     if let Some(found) = find_cid(cids, code, looks) {
-        return Some(found.cid.checked_add(code - found.range.start));
+        return Some(counted_cid(found, code));
     }
     let cid = other_cid(notdefs, &layer.bfs, code, looks)?;
     Some(Some(cid))
+}
+
+/// The CID of a code that a declaration contains; `None` where it passes 32 bits.
+#[inline(always)]
+fn counted_cid(declaration: &CidRange, code: u32) -> Option<Cid>
+    requires { declaration.now.range.start ≤ code }
+    ensures { result ≡ cid_at (cid_entry_seen declaration.now) code }
+{
+    let (first, offset) = (declaration.cid, code - declaration.range.start);
+    u32::try_from(u64::from(first) + u64::from(offset)).ok()
 }
 
 /// The CID of a code without a declaration of its CID. The notdefs and the texts end before most such

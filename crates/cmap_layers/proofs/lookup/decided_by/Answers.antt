@@ -1,7 +1,6 @@
-use Rattle.std.proofs.Common.{◌≡◌, true, false, None, Some, map, ap, ◌∙◌, arith}
-use Rattle.std.proofs.lemmas.Bool.Decides.{nat_tests}
-use Rattle.cmap_values.specs.DeclarationsSeen.{bf_entry_seen, cid_entry_seen}
-use Rattle.cmap_layers.specs.Lookups.{cid_at, last_cid}
+use Rattle.std.proofs.Common.{true, false, None, Some, map, ap, ◌∙◌}
+use Rattle.cmap_values.specs.DeclarationsSeen.{bf_entry_seen}
+use Rattle.cmap_layers.specs.Lookups.{last_cid}
 use Rattle.cmap_layers.specs.LayersDecide.{character_at, other_cid}
 use Rattle.cmap_layers.proofs.LastFound.{decided_other}
 use Rattle.cmap_layers.proofs.LayersSearched.{looks_first, looks_others}
@@ -9,9 +8,8 @@ use Rattle.cmap_layers.proofs.lookup.decided_by.Goals as goal
 
 pub returns-in-Some-clause-value : goal.returns-in-Some-clause-value
 returns-in-Some-clause-value c =
-    let is : c.checked_add.result ≡ cid_at (cid_entry_seen c.in-Some.found.now) c.args.code = grind (arith, nat_tests) in
     let found = c.in-Some.ensures.found ∙ ap (λ entries. last_cid entries c.args.code) c.table_of-cids.ensures in
-    rw (← found) (ap Some is)
+    rw (← found) (ap Some c.counted_cid.ensures)
 
 pub returns-in-Some-clause-looks : goal.returns-in-Some-clause-looks
 returns-in-Some-clause-looks c = looks_first c.args.looks.now c.find_cid.new.looks _ _ _ true (rw c.table_of-cids.ensures at c.in-Some.ensures.looks)
