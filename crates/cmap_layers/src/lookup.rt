@@ -121,7 +121,7 @@ fn find_bf<'l>(layers: &'l [Layer], code: u32, looks: &mut Looks) -> Option<&'l 
 {
     match layers {
         // Most maps have one layer, which is asked without a loop.
-        [only] => last_bf(&only.bfs, code, looks),
+        [only] => last_bf(only.others.bfs(), code, looks),
         _ => find_bf_in_turn(layers, code, looks),
     }
 }
@@ -135,7 +135,7 @@ fn find_bf_in_turn<'l>(layers: &'l [Layer], code: u32, looks: &mut Looks) -> Opt
         (length (layers_seen layers.now)) (is_some result) }
 {
     for layer in layers {
-        if let Some(found) = last_bf(&layer.bfs, code, looks) {
+        if let Some(found) = last_bf(layer.others.bfs(), code, looks) {
             return Some(found);
         }
     }
@@ -161,11 +161,15 @@ fn decided_by(layer: &Layer, code: u32, len: CodeLength, looks: &mut Looks) -> O
     ensures looks { LooksAtMost looks.old looks.new
         (layer_looks (layer_seen layer.now) (length_of len)) 3 (is_some result) }
 {
-    let (cids, notdefs) = (table_of(&layer.cids, len), table_of(&layer.notdefs, len));
+    let cids = table_of(&layer.cids, len);
     if let Some(found) = find_cid(cids, code, looks) {
         return Some(counted_cid(found, code));
     }
-    let cid = other_cid(notdefs, &layer.bfs, code, looks)?;
+    if layer.others.end_before(code) {
+        return None;
+    }
+    let notdefs = table_of(layer.others.notdefs(), len);
+    let cid = other_cid(notdefs, layer.others.bfs(), code, looks)?;
     Some(Some(cid))
 }
 
@@ -179,31 +183,10 @@ fn counted_cid(declaration: &CidRange, code: u32) -> Option<Cid>
     u32::try_from(u64::from(first) + u64::from(offset)).ok()
 }
 
-/// The CID of a code without a declaration of its CID. The notdefs and the texts end before most such
-/// codes.
-#[inline(always)]
-fn other_cid(
-    notdefs: &Table<CidRange>,
-    bfs: &Table<BfRange>,
-    code: u32,
-    looks: &mut Looks,
-) -> Option<Cid>
-    ensures { FindsOtherCid (map cid_entry_seen notdefs.now) (map bf_entry_seen bfs.now) code
-        looks.old looks.new result }
-{
-    if !notdefs.ends_before(code) {
-        return notdef_or_character(notdefs, bfs, code, looks);
-    }
-    if bfs.ends_before(code) {
-        return None;
-    }
-    character_of(bfs, code, looks)
-}
-
-/// The CID of a notdef, or else the character of a text. It is called rather than inlined, so that
-/// the search of the CIDs has all registers.
+/// The CID of a code without a declaration of its CID: that of a notdef, or else the character of its
+/// text. It is called rather than inlined, so that the search of the CIDs has all registers.
 #[inline(never)]
-fn notdef_or_character(
+fn other_cid(
     notdefs: &Table<CidRange>,
     bfs: &Table<BfRange>,
     code: u32,
@@ -218,8 +201,8 @@ fn notdef_or_character(
     }
 }
 
-/// The text of a code, where it is one character. It is called rather than inlined, too.
-#[inline(never)]
+/// The text of a code, where it is one character.
+#[inline(always)]
 fn character_of(table: &Table<BfRange>, code: u32, looks: &mut Looks) -> Option<Cid>
     ensures value { result ≡ character_at (map bf_entry_seen table.now) code }
     ensures looks { LooksAtMost looks.old looks.new

@@ -1,6 +1,6 @@
 //! Declarations with their runs.
 
-ghost use Rattle.std.specs.Prelude.{◌≡◌, ◌+◌, ◌-◌, ◌*◌, ◌<◌, ◌≤◌, true, None, Some, IfOk, IfNone, IfSome, IsTrue, is_some, length, map, slice_get};
+ghost use Rattle.std.specs.Prelude.{◌≡◌, ℕ, ◌+◌, ◌-◌, ◌*◌, ◌^◌, ◌<◌, ◌≤◌, None, Some, IfOk, IfNone, IfSome, IsTrue, is_some, length, map, slice_get};
 ghost use Rattle.std.specs.Option.{option_copied};
 ghost use Rattle.cmap_runs.specs.Ranges.{AreTheRuns, HasDigits, contains, digits, last_of, runs_of};
 ghost use Rattle.cmap_runs.specs.SearchLooks.{LooksAtMost};
@@ -83,7 +83,7 @@ impl<T: HasRange> Table<T> {
             (looks.new.declarations ≡ looks.old.declarations) }
     {
         let Some(block) = self.blocks.block(code) else {
-            if self.ends_before(code) {
+            if u64::from(code) >= self.end() {
                 return None;
             }
             let index = find_among_last(&self.held, &self.blocks, code, looks)?;
@@ -96,12 +96,13 @@ impl<T: HasRange> Table<T> {
         self.held.reaching(begun - 1, code, looks)
     }
 
-    /// Whether the codes of all declarations are seen to come before `code`.
+    /// A code after those of all declarations: none of them contains it, or a later one.
     #[inline(always)]
-    pub fn ends_before(&self, code: u32) -> bool
-        ensures { result ≡ true → last_of T.span self.now code ≡ None }
+    pub fn end(&self) -> u64
+        ensures { (code : ℕ) → code < 2 ^ 32 → result ≤ code
+            → last_of T.span self.now code ≡ None }
     {
-        u64::from(code) >= self.blocks.end
+        self.blocks.end
     }
 
     /// The stretches of the codes from `first` on. The first of them is searched for, and the rest of

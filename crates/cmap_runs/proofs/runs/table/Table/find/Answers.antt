@@ -4,9 +4,9 @@ use Rattle.cmap_runs.proofs.FoundIndex.{at_last, each_index, found_contains, fou
 use Rattle.cmap_runs.proofs.runs.table.Table.find.Goals as goal
 
 -- ---- no run holds the code
-pub returns-then-ends_before : goal.returns-then-ends_before
-returns-then-ends_before g c = record {
-  found = sym (c.ends_before.ensures c.if-ends_before.true);
+pub returns-then-from-end : goal.returns-then-from-end
+returns-then-from-end g c = record {
+  found = sym (c.end.ensures c.args.code (omega (arith, c.ranges.code.fits)) (omega (arith, c.if-from-end.true, c.from.ensures)));
   contains = tt;
   looks = none_looked c.args.looks.now _;
   no_declaration = refl;
