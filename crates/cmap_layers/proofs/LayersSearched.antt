@@ -211,18 +211,19 @@ looks_first before after cids notdefs texts found first = record {
   some_declaration = first.some_declaration;
 }
 
-pub looks_second : (before now after : Looks) (cids notdefs texts : ℕ) (found : Bool) → LooksAtMost before now cids 1 false → LooksAtMost now after notdefs 1 found → LooksAtMost before after (cids + notdefs + texts) 3 found
-looks_second before now after cids notdefs texts found first second = record {
-  most_runs = omega (arith, first.most_runs, second.most_runs);
-  some_run = omega (arith, first.some_run, second.some_run);
-  most_declarations = omega (arith, first.most_declarations, second.most_declarations);
-  some_declaration = omega (arith, first.some_declaration, second.some_declaration);
+-- the two lists that are searched for a code without a CID
+pub looks_texts : (before after : Looks) (notdefs texts : ℕ) (found : Bool) → LooksAtMost before after texts 1 found → LooksAtMost before after (notdefs + texts) 2 found
+looks_texts before after notdefs texts found text = record {
+  most_runs = omega (arith, text.most_runs);
+  some_run = text.some_run;
+  most_declarations = omega (arith, text.most_declarations);
+  some_declaration = text.some_declaration;
 }
 
-pub looks_third : (before one two after : Looks) (cids notdefs texts : ℕ) (found : Bool) → LooksAtMost before one cids 1 false → LooksAtMost one two notdefs 1 false → LooksAtMost two after texts 1 found → LooksAtMost before after (cids + notdefs + texts) 3 found
-looks_third before one two after cids notdefs texts found first second third = record {
-  most_runs = omega (arith, first.most_runs, second.most_runs, third.most_runs);
-  some_run = omega (arith, first.some_run, second.some_run, third.some_run);
-  most_declarations = omega (arith, first.most_declarations, second.most_declarations, third.most_declarations);
-  some_declaration = omega (arith, first.some_declaration, second.some_declaration, third.some_declaration);
+pub looks_others : (before now after : Looks) (cids notdefs texts : ℕ) (found : Bool) → LooksAtMost before now cids 1 false → LooksAtMost now after (notdefs + texts) 2 found → LooksAtMost before after (cids + notdefs + texts) 3 found
+looks_others before now after cids notdefs texts found first others = record {
+  most_runs = omega (arith, first.most_runs, others.most_runs);
+  some_run = omega (arith, first.some_run, others.some_run);
+  most_declarations = omega (arith, first.most_declarations, others.most_declarations);
+  some_declaration = omega (arith, first.some_declaration, others.some_declaration);
 }

@@ -22,8 +22,8 @@ layer_seen layer = record {
   metadata = metadata_seen layer.metadata;
   lists = record {
     cids = by_length_seen layer.cids;
-    notdefs = by_length_seen layer.notdefs;
-    bfs = map bf_entry_seen layer.bfs;
+    notdefs = by_length_seen layer.others.notdefs;
+    bfs = map bf_entry_seen layer.others.bfs;
     spaces = map codespace_seen layer.spaces;
   };
 }

@@ -1,4 +1,5 @@
 pub mod Layers
+pub mod Others
 pub mod LayersSeen
 pub mod Lookups
 pub mod LayersDecide

@@ -8,9 +8,10 @@ use Rattle.cmap_tokens.specs.Texts.{text_of_characters}
 use Rattle.cmap_tokens.specs.TextSeen.{text_seen}
 use Rattle.cmap_tokens.specs.declared.utf16.BfString.{BfString}
 use Rattle.cmap_values.specs.CodeLengths.{IsCodeLength}
-use Rattle.cmap_values.specs.Files.{of_length}
+use Rattle.cmap_values.specs.Files.{BfEntry, CidEntry, of_length}
 use Rattle.cmap_layers.specs.Layers.{Layer}
-use Rattle.cmap_layers.specs.Lookups.{InCodespace, bf_of, bf_span, cid_of, cid_span}
+use Rattle.cmap_layers.specs.Lookups.{InCodespace, bf_of, bf_span, cid_of, cid_span, last_cid}
+use Rattle.cmap_layers.specs.LayersDecide.{character_at, other_cid}
 
 -- the binary digits of the number of its maximal runs
 abbrev pub search_looks : List Span → ℕ
@@ -57,3 +58,8 @@ pub record GivesText (layers : List Layer) (code : ℕ) (result : Result (Option
 pub record FindsText (layers : List Layer) (code : ℕ) (before after : Looks) (result : Result (Option BfString) AllocError) : Type 0 where
   pub text : GivesText layers code result
   pub looks : LooksAtMost before after (bf_looks layers) (length layers) (finds_text result)
+
+-- the CID of a code without a CID declaration is looked up, in the notdefs and the texts of a layer
+pub record FindsOtherCid (notdefs : List CidEntry) (bfs : List BfEntry) (code : ℕ) (before after : Looks) (cid : Option ℕ) : Type 0 where
+  pub value : cid ≡ other_cid (last_cid notdefs code) (character_at bfs code)
+  pub looks : LooksAtMost before after (search_looks (map cid_span notdefs) + search_looks (map bf_span bfs)) 2 (is_some cid)

@@ -7,6 +7,7 @@ ghost use Rattle.cmap_values.specs.Files.{of_length};
 ghost use Rattle.cmap_layers.specs.Counts.{counts_of, lengths_of};
 ghost use Rattle.cmap_layers.specs.LayersSeen.{by_length_seen, layer_seen, lists_held, metadata_seen};
 
+use crate::others::Others;
 use cmap_codespaces::Spaces;
 use cmap_runs::runs::{Looks, Table};
 use cmap_values::code_length::CodeLength;
@@ -14,16 +15,28 @@ use cmap_values::declarations::{BfRange, ByLength, CidRange, Codespace, Lists};
 use cmap_values::memory::both;
 use cmap_values::metadata::Metadata;
 use std::alloc::{AllocError, Global};
+use std::fmt;
 
 /// A layer of a map: what one file states about itself and its codes, without the files that it uses.
 /// ISO 32000-1, 9.7.5.
-#[derive(Debug, Drop)]
+#[derive(Drop)]
 pub struct Layer {
     metadata: Metadata,
     pub(crate) cids: ByLength<Table<CidRange>>,
-    pub(crate) notdefs: ByLength<Table<CidRange>>,
-    pub(crate) bfs: Table<BfRange>,
+    pub(crate) others: Others,
     pub(crate) spaces: Spaces,
+}
+
+impl fmt::Debug for Layer {
+    fn fmt<W: fmt::Write>(&self, f: &mut fmt::Formatter<W>) -> fmt::Result {
+        f.debug_struct("Layer")
+            .field("metadata", &self.metadata)
+            .field("cids", &self.cids)
+            .field("notdefs", self.others.notdefs())
+            .field("bfs", self.others.bfs())
+            .field("spaces", &self.spaces)
+            .finish()
+    }
 }
 
 /// How many declarations a layer has of each kind.
@@ -49,8 +62,7 @@ impl Layer {
         Ok(Layer {
             metadata,
             cids,
-            notdefs,
-            bfs,
+            others: Others::new(notdefs, bfs),
             spaces,
         })
     }
@@ -84,14 +96,14 @@ impl Layer {
         ensures { entries_seen result.now
             ≡ of_length (layer_seen self.now).lists.notdefs (length_of len) }
     {
-        self.notdefs.get(len)
+        self.others.notdefs().get(len)
     }
 
     /// The declarations of texts, in the order of the file, with their runs.
     pub fn texts(&self) -> &Table<BfRange>
         ensures { map bf_entry_seen result.now ≡ (layer_seen self.now).lists.bfs }
     {
-        &self.bfs
+        self.others.bfs()
     }
 
     /// How many declarations there are of each kind. Codespace ranges don't count.
@@ -100,8 +112,8 @@ impl Layer {
     {
         DeclarationCounts {
             cids: lengths_of(&self.cids),
-            notdefs: lengths_of(&self.notdefs),
-            bfs: self.bfs.decl_count(),
+            notdefs: lengths_of(self.others.notdefs()),
+            bfs: self.others.bfs().decl_count(),
         }
     }
 
@@ -118,8 +130,8 @@ impl Layer {
         ensures { IfOk result (λ lists. lists_seen lists ≡ (layer_seen self.now).lists) }
     {
         let cids = copied_lists(alloc, &self.cids);
-        let notdefs = copied_lists(alloc, &self.notdefs);
-        let bfs = copied_bfs(alloc, &self.bfs);
+        let notdefs = copied_lists(alloc, self.others.notdefs());
+        let bfs = copied_bfs(alloc, self.others.bfs());
         let spaces = Vec::from_slice(alloc, self.spaces.as_slice());
         let ((cids, notdefs), (bfs, spaces)) = both(both(cids, notdefs), both(bfs, spaces))?;
         Ok(Lists {

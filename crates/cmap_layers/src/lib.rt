@@ -8,6 +8,7 @@ pub mod layer;
 pub mod layers;
 pub mod lists;
 mod lookup;
+mod others;
 mod row;
 pub mod stretches;
 pub mod string_codes;

@@ -10,9 +10,9 @@ ghost use Rattle.cmap_values.specs.DeclarationsSeen.{bf_entry_seen, cid_entry_se
 ghost use Rattle.cmap_values.specs.Files.{of_length};
 ghost use Rattle.cmap_values.specs.UnitsSeen.{units_seen};
 ghost use Rattle.cmap_layers.specs.LayersSeen.{by_length_seen, layer_seen, layers_seen};
-ghost use Rattle.cmap_layers.specs.Lookups.{bf_at, bf_span, cid_span, last_bf, last_cid};
-ghost use Rattle.cmap_layers.specs.LayersDecide.{deciding_bf, layer_cid};
-ghost use Rattle.cmap_layers.specs.Searches.{FindsCid, FindsText, IsStrictCid, bf_looks, cid_looks, layer_looks, search_looks};
+ghost use Rattle.cmap_layers.specs.Lookups.{bf_at, bf_span, cid_at, cid_span, last_bf, last_cid};
+ghost use Rattle.cmap_layers.specs.LayersDecide.{character_at, deciding_bf, layer_cid};
+ghost use Rattle.cmap_layers.specs.Searches.{FindsCid, FindsOtherCid, FindsText, IsStrictCid, bf_looks, cid_looks, layer_looks, search_looks};
 
 use crate::layer::Layer;
 use crate::layers::Layers;
@@ -121,7 +121,7 @@ fn find_bf<'l>(layers: &'l [Layer], code: u32, looks: &mut Looks) -> Option<&'l 
 {
     match layers {
         // Most maps have one layer, which is asked without a loop.
-        [only] => last_bf(&only.bfs, code, looks),
+        [only] => last_bf(only.others.bfs(), code, looks),
         _ => find_bf_in_turn(layers, code, looks),
     }
 }
@@ -135,7 +135,7 @@ fn find_bf_in_turn<'l>(layers: &'l [Layer], code: u32, looks: &mut Looks) -> Opt
         (length (layers_seen layers.now)) (is_some result) }
 {
     for layer in layers {
-        if let Some(found) = last_bf(&layer.bfs, code, looks) {
+        if let Some(found) = last_bf(layer.others.bfs(), code, looks) {
             return Some(found);
         }
     }
@@ -161,27 +161,56 @@ fn decided_by(layer: &Layer, code: u32, len: CodeLength, looks: &mut Looks) -> O
     ensures looks { LooksAtMost looks.old looks.new
         (layer_looks (layer_seen layer.now) (length_of len)) 3 (is_some result) }
 {
-    let (cids, notdefs) = (table_of(&layer.cids, len), table_of(&layer.notdefs, len));
+    let cids = table_of(&layer.cids, len);
     if let Some(found) = find_cid(cids, code, looks) {
-        return Some(found.cid.checked_add(code - found.range.start));
+        return Some(counted_cid(found, code));
     }
-    if let Some(found) = find_cid(notdefs, code, looks) {
-        return Some(Some(found.cid));
+    if layer.others.end_before(code) {
+        return None;
     }
-    let character = character_of(&layer.bfs, code, looks)?;
-    Some(Some(u32::from(character)))
+    let notdefs = table_of(layer.others.notdefs(), len);
+    let cid = other_cid(notdefs, layer.others.bfs(), code, looks)?;
+    Some(Some(cid))
+}
+
+/// The CID of a code that a declaration contains; `None` where it passes 32 bits.
+#[inline(always)]
+fn counted_cid(declaration: &CidRange, code: u32) -> Option<Cid>
+    requires { declaration.now.range.start ≤ code }
+    ensures { result ≡ cid_at (cid_entry_seen declaration.now) code }
+{
+    let (first, offset) = (declaration.cid, code - declaration.range.start);
+    u32::try_from(u64::from(first) + u64::from(offset)).ok()
+}
+
+/// The CID of a code without a declaration of its CID: that of a notdef, or else the character of its
+/// text. It is called rather than inlined, so that the search of the CIDs has all registers.
+#[inline(never)]
+fn other_cid(
+    notdefs: &Table<CidRange>,
+    bfs: &Table<BfRange>,
+    code: u32,
+    looks: &mut Looks,
+) -> Option<Cid>
+    ensures { FindsOtherCid (map cid_entry_seen notdefs.now) (map bf_entry_seen bfs.now) code
+        looks.old looks.new result }
+{
+    match find_cid(notdefs, code, looks) {
+        Some(found) => Some(found.cid),
+        None => character_of(bfs, code, looks),
+    }
 }
 
 /// The text of a code, where it is one character.
 #[inline(always)]
-fn character_of(table: &Table<BfRange>, code: u32, looks: &mut Looks) -> Option<char>
-    ensures value { result ≡ only_character (option_and_then
-        (λ entry. bf_at entry code) (last_bf (map bf_entry_seen table.now) code)) }
+fn character_of(table: &Table<BfRange>, code: u32, looks: &mut Looks) -> Option<Cid>
+    ensures value { result ≡ character_at (map bf_entry_seen table.now) code }
     ensures looks { LooksAtMost looks.old looks.new
         (search_looks (map bf_span (map bf_entry_seen table.now))) 1 (is_some result) }
 {
     let found = last_bf(table, code, looks)?;
-    one_char(found.units.as_slice(), code - found.range.start)
+    let character = one_char(found.units.as_slice(), code - found.range.start)?;
+    Some(u32::from(character))
 }
 
 /// The table of the codes of this length.

@@ -43,10 +43,10 @@ impl Layers {
         let mut looks = Looks::new();
         for index in (0..layers.len()).rev() {
             let layer = &layers[index];
-            write_characters(&layer.bfs, first, cids, &mut looks);
-            let notdefs = layer.notdefs.get(len);
+            write_characters(layer.others.bfs(), first, cids, &mut looks);
+            let notdefs = layer.notdefs(len);
             write_cids(notdefs, Kind::Notdefs, first, cids, &mut looks);
-            let declared = layer.cids.get(len);
+            let declared = layer.cids(len);
             write_cids(declared, Kind::Cids { absent }, first, cids, &mut looks);
         }
     }

@@ -124,12 +124,11 @@ may_hold runs code begun have = record {
 }
 
 -- the block of the runs that begin before it, and of those that begin in it
-pub block_made : (runs : List Run) (code begun starts place : ℕ) → HaveBegun runs (length runs) code (begun + count_ones (starts / 2 ^ (31 - place)))
-    → MayHold runs code (begun_by (record { begun = begun + 1; starts = starts }) place)
-block_made runs code begun starts place have =
-    let some : (begun + 1 == 0) ≡ false = ne_eqb (begun + 1) 0 (λ none. omega (arith, none)) in
-    let parts : begun + count_ones (starts / 2 ^ (31 - place)) ≡ begun + 1 - 1 + count_ones (starts / 2 ^ (31 - place)) = omega arith in
-    rw some (subst (MayHold runs code) parts (may_hold runs code _ have))
+pub block_made : (runs : List Run) (code begun starts place : ℕ) → begun < 65536 → HaveBegun runs (length runs) code (begun + count_ones (starts / 2 ^ (31 - place)))
+    → MayHold runs code (begun_by (record { begun = begun; starts = starts }) place)
+block_made runs code begun starts place few have =
+    let some : (begun == 65536) ≡ false = ne_eqb begun 65536 (λ all. omega (arith, all, few)) in
+    rw some (may_hold runs code _ have)
 
 -- one more block, whose codes come after those of the others
 pub more_blocks : (runs : List Run) (list new : List Block) (block : Block) (code : ℕ) → new ≡ list ++ block ∷ [] → code ≡ 32 * length list

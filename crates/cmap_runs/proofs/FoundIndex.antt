@@ -1,10 +1,14 @@
 -- What a search of the runs tells of the declarations.
 use Rattle.std.proofs.Common.{◌≡◌, ℕ, ◌+◌, ◌-◌, ◌*◌, ◌/◌, ◌%◌, ◌<◌, ◌≤◌, ◌^◌, List, length, get_or, Option, refl, sym, ap, ◌∙◌, subst, inl, inr, arith, true, false}
-use Rattle.std.specs.Prelude.{Some, None, IsSome, All, Any, map, option_map, slice_get}
+use Rattle.std.specs.Prelude.{Some, None, IfNone, IfSome, IsSome, All, Any, if◌then◌else◌, is_some, map, option_map, slice_get}
+use Rattle.std.specs.Borrow.{Bor}
+use Rattle.std.specs.Option.{option_copied}
 use Rattle.std.proofs.lemmas.Bool.{cases_lt}
 use Rattle.std.proofs.lemmas.List.{length-map}
 use Rattle.std.proofs.lemmas.Option.{get_or_from_slice_get, same_Some, slice_get-map, slice_get_within}
 use Rattle.cmap_runs.specs.Blocks.{AreBlocks, MayHold, begun_by}
+use Rattle.cmap_runs.specs.DeclaredRanges.{DecidedRuns}
+use Rattle.cmap_runs.specs.HeldRuns.{EndsBefore, Reaches}
 use Rattle.cmap_runs.specs.declared.runs.blocks.Block.{Block}
 use Rattle.cmap_runs.specs.declared.runs.blocks.Blocks.{Blocks}
 use Rattle.cmap_runs.specs.declared.runs.looks.Looks.{Looks}
@@ -48,6 +52,12 @@ found_contains span_of list code index x is at =
     let found = found_at span_of list code index is in
     subst (λ s. contains s code ≡ true) (same_Some _ _ (sym found.1 ∙ slice_get-map span_of list index ∙ ap (option_map span_of) at)) found.2
 
+-- a declaration is at the index of each run
+pub each_index : {T : Type 0} (span_of : T → Span) (list : List T) {runs : List Run} → runs ≡ runs_of (map span_of list) → All (λ run. run.index < length list) runs
+each_index span_of list {runs} is = λ k d lt.
+    let run = (are_runs (map span_of list) runs is).each k d lt in let low = (get_or runs k d).low in
+    found_within span_of list low (get_or runs k d).index (run.right low (omega arith) run.filled)
+
 pub found_last : {T : Type 0} (span_of : T → Span) (list now : List T) (code index : ℕ) (x : T)
     → last_index (map span_of list) code ≡ Some index → slice_get list index ≡ Some x → list ≡ now → Some x ≡ last_of span_of now code
 found_last span_of list now code index x is at view = rw (← view, is) (sym at)
@@ -87,13 +97,6 @@ found_at_last runs code begun run may some is within =
     let begins : run.low ≤ code = subst (λ (run : Run). run.low ≤ code) last (may.before (begun - 1) run (omega arith) (omega arith)) in
     (begun - 1, run, omega (arith, may.within), last, ((begins, within), refl))
 
-pub found_in_block : (runs : List Run) (blocks : Blocks) (code begun : ℕ) (block : Block) (run last : Run) → AreBlocks runs blocks
-    → (code / 32 < length blocks.list.items) × (block ≡ get_or blocks.list.items (code / 32) block) → begun ≡ begun_by block (code % 32) → 0 < begun
-    → slice_get runs (begun - 1) ≡ Some run → last ≡ run → code ≤ last.high → Any (λ found. Holds code found × (found.index ≡ last.index)) runs
-found_in_block runs blocks code begun block run last are lies begins some is same within =
-    subst (λ (last : Run). Any (λ found. Holds code found × (found.index ≡ last.index)) runs) (sym same)
-    (found_at_last runs code begun run (may_hold_in runs blocks code begun block are lies begins) some is (subst (λ (run : Run). code ≤ run.high) same within))
-
 -- one look is fewer than the number of runs has digits
 pub one_look : (runs most begun : ℕ) → runs ≡ most → 0 < begun → begun ≤ runs → 1 ≤ digits most
 one_look runs most begun same some within = omega (arith, digits_half runs 0 (omega arith) (omega arith), ap digits same)
@@ -121,3 +124,41 @@ one_found old now new most runs bound same grows declarations runs_now declarati
 -- nothing is looked at, and nothing is found
 pub none_looked : (looks : Looks) (runs : ℕ) → LooksAtMost looks looks runs 1 false
 none_looked looks runs = record { most_runs = omega arith; some_run = omega arith; most_declarations = omega arith; some_declaration = omega arith }
+
+-- what a search in a block finds
+pub record AtLast {T : Type 0} (span_of : T → Span) (now : List T) (code : ℕ) (old new : Looks) (result : Option (Bor T)) : Type 0 where
+  pub found : option_copied result ≡ last_of span_of now code
+  pub contains : IfSome result (λ declaration. contains (span_of declaration.now) code ≡ true)
+  pub looks : LooksAtMost old new (digits (length (runs_of (map span_of now)))) 1 (is_some result)
+  pub no_declaration : IfNone result (new.declarations ≡ old.declarations)
+
+-- the last run that begins up to and including the code holds it, or none does
+pub at_last : {T : Type 0} (span_of : T → Span) (held : DecidedRuns T) (now : List T) (code begun : ℕ) (old new : Looks) (result : Option (Bor T))
+    → held.runs ≡ runs_of (map span_of held.declarations) → held.declarations ≡ now → code < 2 ^ 32 → MayHold held.runs code begun → 0 < begun
+    → IfNone result (EndsBefore held.runs (begun - 1) code) → IfSome result (λ declaration. Reaches held (begun - 1) code declaration.now)
+    → new.runs ≡ old.runs + 1 → new.declarations ≡ old.declarations + (if is_some result then 1 else 0) → AtLast span_of now code old new result
+at_last span_of held now code begun old new None are view fits may some ends reaches looked looked_too =
+    let spans = map span_of held.declarations in
+    let none = none_at_last held.runs code begun ends.run (runs_in_order spans are) may some ends.at ends.ends in
+    let same = ap length are ∙ ap (λ list. length (runs_of (map span_of list))) view in
+    record {
+      found = none_last span_of held.declarations now code (no_index spans code are fits none) view;
+      contains = tt;
+      looks = none_looked_up old new _ _ (omega (arith, looked, one_look _ _ _ same some may.within)) refl (omega (arith, looked)) (omega (arith, looked_too));
+      no_declaration = omega (arith, looked_too);
+    }
+at_last span_of held now code begun old new (Some declaration) are view fits may some ends reaches looked looked_too =
+    let list = held.declarations in let index = reaches.run.index in
+    let last = found_index (map span_of list) code index are (found_at_last held.runs code begun reaches.run may some reaches.at reaches.reaches) in
+    let same = ap length are ∙ ap (λ list. length (runs_of (map span_of list))) view in
+    record {
+      found = found_last span_of list now code index declaration.now last reaches.decides view;
+      contains = found_contains span_of list code index declaration.now last reaches.decides;
+      looks = record {
+        most_runs = omega (arith, looked, one_look _ _ _ same some may.within);
+        some_run = omega (arith, looked);
+        most_declarations = omega (arith, looked_too);
+        some_declaration = omega (arith, looked_too);
+      };
+      no_declaration = tt;
+    }

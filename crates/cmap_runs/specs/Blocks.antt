@@ -7,7 +7,7 @@ use Rattle.cmap_runs.specs.declared.runs.blocks.Blocks.{Blocks}
 
 -- how many runs begin before a block, and up to and including its code at `place`; none where no run holds a code of it
 abbrev pub begun_by : Block → ℕ → ℕ
-begun_by block place = if block.begun == 0 then 0 else block.begun - 1 + count_ones (block.starts / 2 ^ (31 - place))
+begun_by block place = if block.begun == 65536 then 0 else block.begun + count_ones (block.starts / 2 ^ (31 - place))
 
 -- of the first `count` runs, just these begin up to and including the code
 pub record HaveBegun (runs : List Run) (count code begun : ℕ) : Type 0 where

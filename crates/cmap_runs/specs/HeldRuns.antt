@@ -1,6 +1,6 @@
 -- Private aid: the runs that a table holds.
-use Rattle.std.specs.Prelude.{◌≡◌, ℕ, ◌-◌, ◌*◌, ◌<◌, ◌≤◌, List, All, length, map}
-use Rattle.cmap_runs.specs.DeclaredRanges.{range_at}
+use Rattle.std.specs.Prelude.{◌≡◌, ℕ, ◌-◌, ◌*◌, ◌<◌, ◌≤◌, List, All, Some, length, map, slice_get}
+use Rattle.cmap_runs.specs.DeclaredRanges.{DecidedRuns, range_at}
 use Rattle.cmap_runs.specs.Ranges.{Run, Span, runs_of}
 use Rattle.cmap_runs.specs.declared.runs.held.RunList.{RunList}
 use Rattle.cmap_runs.specs.declared.runs.held.RunList.TheVariants.{Ranges, Swept}
@@ -20,3 +20,16 @@ pub record AreHeld (spans : List Span) (held : RunList) : Type 0 where
   pub runs : runs_held spans held ≡ runs_of spans
   pub within : indices_within (length spans) held
   pub few : length (runs_held spans held) ≤ 2 * length spans - 1
+
+-- the run at a place ends before the code
+pub record EndsBefore (runs : List Run) (i code : ℕ) : Type 0 where
+  pub run : Run
+  pub at : slice_get runs i ≡ Some run
+  pub ends : run.high < code
+
+-- the run at a place ends no earlier, and this declaration decides it
+pub record Reaches {T : Type 0} (held : DecidedRuns T) (i code : ℕ) (declaration : T) : Type 0 where
+  pub run : Run
+  pub at : slice_get held.runs i ≡ Some run
+  pub reaches : code ≤ run.high
+  pub decides : slice_get held.declarations run.index ≡ Some declaration

@@ -12,10 +12,13 @@ pub(super) const MOST_BLOCKS: usize = 2048;
 /// A shorter list of runs has hardly any blocks.
 pub(super) const FEWEST_RUNS: usize = 512;
 
+/// What stands in place of a number of runs where no run holds a code of a block.
+pub(super) const NO_RUN: u32 = 0x1_0000;
+
 /// Where runs begin among the codes of a block.
 #[derive(Clone, Copy)]
 pub(super) struct Block {
-    /// One more than how many runs begin before the block, and 0 where no run holds a code of it.
+    /// How many runs begin before the block, or `NO_RUN`.
     pub(super) begun: u32,
     /// A bit for each code at which a run begins, that of the first code high.
     pub(super) starts: u32,
@@ -28,11 +31,11 @@ impl Block {
     pub(super) fn begun_by(&self, code: u32) -> usize
         ensures { result ≡ begun_by self.now (code % 32) }
     {
-        if self.begun == 0 {
+        if self.begun == NO_RUN {
             return 0;
         }
         let starts = self.starts >> (BLOCK_LEN - 1 - code % BLOCK_LEN);
-        self.begun as usize - 1 + starts.count_ones() as usize
+        self.begun as usize + starts.count_ones() as usize
     }
 }
 

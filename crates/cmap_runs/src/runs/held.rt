@@ -1,14 +1,14 @@
 //! What a table holds: runs and declarations. Outside of this module each look at one is counted.
 
-ghost use Rattle.std.specs.Prelude.{◌≡◌, ℕ, ◌+◌, ◌-◌, ◌/◌, ◌%◌, ◌^◌, ◌<◌, ◌≤◌, true, [], All, Some, IfOk, OnOk, OnErr, count_ones, length, map, slice_get};
+ghost use Rattle.std.specs.Prelude.{◌≡◌, ℕ, ◌+◌, ◌-◌, ◌/◌, ◌%◌, ◌^◌, ◌<◌, ◌≤◌, true, [], All, Some, IfNone, IfOk, IfSome, OnOk, OnErr, count_ones, if◌then◌else◌, is_some, length, map, slice_get};
 ghost use Rattle.std.specs.List.{AllWithin};
 ghost use Rattle.cmap_runs.specs.Blocks.{AreBlocks, HaveBegun, MayHold, begun_by};
-ghost use Rattle.cmap_runs.specs.HeldRuns.{indices_within, runs_held};
+ghost use Rattle.cmap_runs.specs.HeldRuns.{EndsBefore, Reaches, indices_within, runs_held};
 ghost use Rattle.cmap_runs.specs.Order.{IsInOrder};
 ghost use Rattle.cmap_runs.specs.Ranges.{goes_on, joined};
 
 use super::HasRange;
-use super::blocks::{BLOCK_LEN, Block, Blocks, FEWEST_RUNS, MOST_BLOCKS};
+use super::blocks::{BLOCK_LEN, Block, Blocks, FEWEST_RUNS, MOST_BLOCKS, NO_RUN};
 use super::looks::Looks;
 use super::ranges::range_at;
 use std::alloc::{AllocError, Global};
@@ -178,6 +178,38 @@ impl<T: HasRange> Held<T> {
         }
     }
 
+    /// The declaration of the run at `i`, unless the run ends before `code`.
+    #[inline(always)]
+    pub(super) fn reaching(&self, i: usize, code: u32, looks: &mut Looks) -> Option<&T>
+        requires run { i < length self.now.runs }
+        requires within { All (λ run. run.index < length self.now.declarations) self.now.runs }
+        ensures none { IfNone result (EndsBefore self.now.runs i code) }
+        ensures some { IfSome result (λ declaration. Reaches self.now i code declaration.now) }
+        ensures runs { looks.new.runs ≡ looks.old.runs + 1 }
+        ensures declarations { looks.new.declarations
+            ≡ looks.old.declarations + (if is_some result then 1 else 0) }
+    {
+        looks.look_at_run();
+        let declaration = match &self.runs {
+            RunList::Ranges(indices) => {
+                let declaration = &self.declarations[indices[i] as usize];
+                if declaration.range().end < code {
+                    return None;
+                }
+                declaration
+            }
+            RunList::Swept(runs) => {
+                let run = &runs.list[i];
+                if run.high < code {
+                    return None;
+                }
+                &self.declarations[run.index]
+            }
+        };
+        looks.look_at_declaration();
+        Some(declaration)
+    }
+
     /// The blocks of the first codes, up to the end of the last run. It counts no look, and takes
     /// `&mut self` so that no search, which has `&self`, can call it.
     pub(super) fn blocks(&mut self, alloc: Global) -> Result<Blocks, AllocError>
@@ -217,6 +249,7 @@ impl<T: HasRange> Held<T> {
     fn next_block(&self, ended: usize, begun: usize, code: u32) -> (Block, usize)
         requires order { IsInOrder self.now.runs }
         requires code { (32 ≤ code) × (code % 32 ≡ 0) }
+        requires few { code ≤ 2 ^ 16 }
         requires within { (ended ≤ begun) × (begun ≤ length self.now.runs) }
         requires begun { AllWithin (λ run. run.low < code - 32) self.now.runs 0 begun }
         requires later { AllWithin (λ run. code - 32 ≤ run.low) self.now.runs begun
@@ -232,12 +265,12 @@ impl<T: HasRange> Held<T> {
         let (starts, count) = self.starts_before(begun, code);
         let block = if count == ended {
             Block {
-                begun: 0,
+                begun: NO_RUN,
                 starts: 0,
             }
         } else {
             Block {
-                begun: begun as u32 + 1,
+                begun: begun as u32,
                 starts,
             }
         };

@@ -33,21 +33,27 @@ impl Apart {
         ensures apart { LieApartBefore (map T.span declarations.now) self.old.indices.items self.old.next
             → LieApartBefore (map T.span declarations.now) self.new.indices.items self.new.next }
     {
-        for index in first..end {
+        let (mut index, mut next) = (first, self.next);
+        while index < end {
             let range = range_at(declarations, index);
             let (from, last) = (u64::from(range.low), u64::from(range.high));
-            if from < self.next || range.high < range.low || limit <= last {
-                return index;
+            if from < next || range.high < range.low || limit <= last {
+                break;
             }
             self.indices.push_reserved(index);
-            self.next = last + 1;
+            next = last + 1;
+            index += 1;
         }
-        end
+        self.next = next;
+        index
     }
 }
 
 /// The most parts that are merged without a sort.
 const MOST_PARTS: usize = 8;
+
+/// How many declarations are passed over at once in search of the end of a part.
+const LONG_STEP: u32 = 16;
 
 /// What is left of a part of a list of declarations, in which the first codes ascend.
 #[derive(Drop)]
@@ -71,9 +77,45 @@ pub(super) fn indices_of_parts<T: HasRange>(
     ensures { IfOk result (λ indices. IfSome indices
         (λ indices. ArePlacesApart (map T.span declarations.now) indices.items)) }
 {
-    let Some(mut parts) = ascending_parts(alloc, declarations, count)? else {
-        return Ok(None);
-    };
+    match indices_by_steps(alloc, declarations, count, LONG_STEP)? {
+        Some(indices) => Ok(Some(indices)),
+        None => indices_by_steps(alloc, declarations, count, 1),
+    }
+}
+
+/// The same, where a part is seen to end only at each `step`th declaration. Where ends stay unseen
+/// there may be no answer.
+fn indices_by_steps<T: HasRange>(
+    alloc: Global,
+    declarations: &[T],
+    count: u32,
+    step: u32,
+) -> Result<Option<Vec<u32>>, AllocError>
+    requires count { count ≡ length declarations.now }
+    requires step { 0 < step }
+    ensures { IfOk result (λ indices. IfSome indices
+        (λ indices. ArePlacesApart (map T.span declarations.now) indices.items)) }
+{
+    match ascending_parts(alloc, declarations, count, step)? {
+        Some(parts) => merged(alloc, declarations, count, parts),
+        None => Ok(None),
+    }
+}
+
+/// The indices of the declarations of parts, in the order of their codes; `None` where not all ranges
+/// lie apart.
+fn merged<T: HasRange>(
+    alloc: Global,
+    declarations: &[T],
+    count: u32,
+    parts: Vec<Part>,
+) -> Result<Option<Vec<u32>>, AllocError>
+    requires count { count ≡ length declarations.now }
+    requires parts { AreLeft parts.items count }
+    ensures { IfOk result (λ indices. IfSome indices
+        (λ indices. ArePlacesApart (map T.span declarations.now) indices.items)) }
+{
+    let mut parts = parts;
     let indices = Vec::with_capacity(alloc, count as usize)?;
     let mut apart = Apart { indices, next: 0 };
     while let Some((first, end, limit)) = first_part(parts.as_slice()) {
@@ -97,8 +139,10 @@ fn ascending_parts<T: HasRange>(
     alloc: Global,
     declarations: &[T],
     count: u32,
+    step: u32,
 ) -> Result<Option<Vec<Part>>, AllocError>
-    requires { count ≡ length declarations.now }
+    requires count { count ≡ length declarations.now }
+    requires step { 0 < step }
     ensures { IfOk result (λ parts. IfSome parts (λ parts. AreLeft parts.items count)) }
 {
     let mut parts = Vec::new(alloc);
@@ -107,7 +151,7 @@ fn ascending_parts<T: HasRange>(
         if parts.len() == MOST_PARTS {
             return Ok(None);
         }
-        let (next, end) = (first, part_end(declarations, first, count));
+        let (next, end) = (first, part_end(declarations, first, count, step));
         let start = start_before(declarations, next, end);
         parts.insert(0, Part { next, end, start })?;
         move_first(&mut parts);
@@ -154,60 +198,40 @@ fn move_first_of(parts: &mut [Part])
     }
 }
 
-/// Where the part that begins at `first` ends, in which the first codes ascend.
-fn part_end<T: HasRange>(declarations: &[T], first: u32, count: u32) -> u32
+/// Where the part that begins at `first` ends, in which the first codes are seen to ascend.
+fn part_end<T: HasRange>(declarations: &[T], first: u32, count: u32, step: u32) -> u32
+    requires step { 0 < step }
     requires first { first < count }
     requires count { count ≡ length declarations.now }
     ensures { (first < result) × (result ≤ count) }
 {
-    let mut end = end_by_fours(declarations, first + 1, count);
-    while end < count && ascends(declarations, end) {
+    let mut end = end_by_steps(declarations, first + 1, count, step);
+    while end < count && ascends(declarations, end - 1, end) {
         end += 1;
     }
     end
 }
 
-/// How far first codes are seen to ascend, where four are looked at together.
-fn end_by_fours<T: HasRange>(declarations: &[T], from: u32, count: u32) -> u32
+/// How far first codes are seen to ascend, where only each `step`th one is looked at.
+fn end_by_steps<T: HasRange>(declarations: &[T], from: u32, count: u32, step: u32) -> u32
+    requires step { 0 < step }
     requires from { (0 < from) × (from ≤ count) }
     requires count { count ≡ length declarations.now }
     ensures { (from ≤ result) × (result ≤ count) }
 {
     let mut end = from;
-    while four_ascend(declarations, end as usize - 1) {
-        end += 4;
+    while step <= count - end && ascends(declarations, end - 1, end - 1 + step) {
+        end += step;
     }
     end
 }
 
-/// Whether four ranges come after the one at `index`, and each begins no earlier than the one before it.
-#[inline(always)]
-fn four_ascend<T: HasRange>(declarations: &[T], index: usize) -> bool
-    requires { index ≤ length declarations.now }
-    ensures { result ≡ true → index + 5 ≤ length declarations.now }
+/// Whether the range at `index` begins no later than the one at `later`.
+fn ascends<T: HasRange>(declarations: &[T], index: u32, later: u32) -> bool
+    requires index { index < length declarations.now }
+    requires later { later < length declarations.now }
 {
-    match &declarations[index..] {
-        [a, b, c, d, e, ..] => {
-            begins_by(a, b) && begins_by(b, c) && begins_by(c, d) && begins_by(d, e)
-        }
-        _ => false,
-    }
-}
-
-/// Whether the range of `declaration` begins no later than that of `next`.
-#[inline(always)]
-fn begins_by<T: HasRange>(declaration: &T, next: &T) -> bool
-    ensures { result ≡ nat_le (T.span declaration.now).start (T.span next.now).start }
-{
-    declaration.range().start <= next.range().start
-}
-
-/// Whether the range at `index` begins no earlier than the one before.
-fn ascends<T: HasRange>(declarations: &[T], index: u32) -> bool
-    requires before { 0 < index }
-    requires within { index < length declarations.now }
-{
-    range_at(declarations, index - 1).low <= range_at(declarations, index).low
+    range_at(declarations, index).low <= range_at(declarations, later).low
 }
 
 /// The first code of the range at `index`, where this is before `end`, else one above all codes.

@@ -1,6 +1,6 @@
 //! Declarations with their runs.
 
-ghost use Rattle.std.specs.Prelude.{◌≡◌, ◌+◌, ◌-◌, ◌*◌, ◌<◌, ◌≤◌, Some, IfOk, IfNone, IfSome, IsTrue, is_some, length, map, slice_get};
+ghost use Rattle.std.specs.Prelude.{◌≡◌, ℕ, ◌+◌, ◌-◌, ◌*◌, ◌^◌, ◌<◌, ◌≤◌, None, Some, IfOk, IfNone, IfSome, IsTrue, is_some, length, map, slice_get};
 ghost use Rattle.std.specs.Option.{option_copied};
 ghost use Rattle.cmap_runs.specs.Ranges.{AreTheRuns, HasDigits, contains, digits, last_of, runs_of};
 ghost use Rattle.cmap_runs.specs.SearchLooks.{LooksAtMost};
@@ -83,10 +83,10 @@ impl<T: HasRange> Table<T> {
         ensures no_declaration { IfNone result
             (looks.new.declarations ≡ looks.old.declarations) }
     {
-        if u64::from(code) >= self.blocks.end {
-            return None;
-        }
         let Some(block) = self.blocks.block(code) else {
+            if u64::from(code) >= self.end() {
+                return None;
+            }
             let index = find_among_last(&self.held, &self.blocks, code, looks)?;
             return Some(self.held.declaration(index, looks));
         };
@@ -94,11 +94,16 @@ impl<T: HasRange> Table<T> {
         if begun == 0 {
             return None;
         }
-        let last = self.held.run(begun - 1, looks);
-        if last.high < code {
-            return None;
-        }
-        Some(self.held.declaration(last.index, looks))
+        self.held.reaching(begun - 1, code, looks)
+    }
+
+    /// A code after those of all declarations: none of them contains it, or a later one.
+    #[inline(always)]
+    pub fn end(&self) -> u64
+        ensures { (code : ℕ) → code < 2 ^ 32 → result ≤ code
+            → last_of T.span self.now code ≡ None }
+    {
+        self.blocks.end
     }
 
     /// The stretches of the codes from `first` on. The first of them is searched for, and the rest of

@@ -17,19 +17,19 @@ pub loop-layer-preserved : goal.loop-layer-preserved
 loop-layer-preserved c =
     let next = ap layers_seen (drop_next c.args.layers.now c.loop-layer.layer-index c.layer-item.result c.loop-layer-test.true c.layer-item.is) in
     let searched = subst (λ rest. IsBfSearched (layers_seen c.args.layers.now) rest c.args.code c.args.looks.now c.loop-layer.looks) next c.loop-layer.invariant in
-    IsBfSearched-more _ _ _ _ _ _ _ _ searched c.in_default.ensures.found c.in_default.ensures.looks
+    IsBfSearched-more _ _ _ _ _ _ _ _ searched (rw c.bfs.ensures at c.in_default.ensures.found) (rw c.bfs.ensures at c.in_default.ensures.looks)
 
 pub returns-in-Some-clause-found : goal.returns-in-Some-clause-found
 returns-in-Some-clause-found c =
     let next = ap layers_seen (drop_next c.args.layers.now c.loop-layer.layer-index c.layer-item.result c.loop-layer-test.true c.layer-item.is) in
     let searched = subst (λ rest. IsBfSearched (layers_seen c.args.layers.now) rest c.args.code c.args.looks.now c.loop-layer.looks) next c.loop-layer.invariant in
-    bf_decided _ _ _ _ _ _ _ searched c.in-Some.ensures.found
+    bf_decided _ _ _ _ _ _ _ searched (rw c.bfs.ensures at c.in-Some.ensures.found)
 
 pub returns-in-Some-clause-looks : goal.returns-in-Some-clause-looks
 returns-in-Some-clause-looks c =
     let next = ap layers_seen (drop_next c.args.layers.now c.loop-layer.layer-index c.layer-item.result c.loop-layer-test.true c.layer-item.is) in
     let searched = subst (λ rest. IsBfSearched (layers_seen c.args.layers.now) rest c.args.code c.args.looks.now c.loop-layer.looks) next c.loop-layer.invariant in
-    bf_looked _ _ _ _ _ _ _ searched c.in-Some.ensures.looks
+    bf_looked _ _ _ _ _ _ _ searched (rw c.bfs.ensures at c.in-Some.ensures.looks)
 
 pub returns-in-Some-clause-start : goal.returns-in-Some-clause-start
 returns-in-Some-clause-start c = c.in-Some.ensures.start

@@ -2,11 +2,9 @@ use Rattle.std.proofs.Common.{◌≡◌, ℕ, ◌+◌, ◌-◌, ◌<◌, ◌∷�
 use Rattle.std.specs.Prelude.{slice_index}
 use Rattle.std.proofs.lemmas.Grind.{common_steps}
 use Rattle.cmap_values.specs.CodeLengths.{length_of}
-use Rattle.cmap_values.specs.DeclarationsSeen.{entries_seen}
 use Rattle.cmap_layers.specs.LayersSeen.{layer_seen, layers_seen}
 use Rattle.cmap_layers.specs.RowsWritten.{IsWritten, cid_said}
 use Rattle.cmap_layers.specs.declared.row.Kind.TheVariants.{Cids, Notdefs}
-use Rattle.cmap_layers.proofs.LastFound.{searched}
 use Rattle.cmap_layers.proofs.LayersSearched.{drop_next}
 use Rattle.cmap_layers.proofs.RowWritten.{AreCidsIn, all_layers_written, layer_written, no_length_written}
 use Rattle.cmap_layers.proofs.layers.Layers.fill_cids.Goals as goal
@@ -22,13 +20,11 @@ loop-index-preserved c =
     let texts = c.write_characters.new.cids in let notdefs = c.write_cids.new.cids in let new = c.write_cids-in-loop-index.new.cids in
     let at : index - 1 + 1 ≡ index = omega arith in
     let next = drop_next layers (index - 1) layer (omega arith) c.index-layers-index.is ∙ ap (λ i. layer ∷ drop i layers) at in
-    let notdefs_of = ap entries_seen c.get-notdefs.ensures ∙ sym (searched layer.notdefs len) in
-    let cids_of = ap entries_seen c.get-declared.ensures ∙ sym (searched layer.cids len) in
     subst (λ left. AreCidsIn (layers_seen left) (length_of len) absent first new) (sym next)
     (layer_written (layer_seen layer) (layers_seen (drop index layers)) (length_of len) absent first c.loop-index.cids texts notdefs new c.loop-index.invariant (omega arith) (omega arith) (omega arith)
-    c.write_characters.ensures
-    (subst (λ entries. IsWritten (cid_said Notdefs entries) first texts notdefs) notdefs_of c.write_cids.ensures)
-    (subst (λ entries. IsWritten (cid_said (Cids absent) entries) first notdefs new) cids_of c.write_cids-in-loop-index.ensures))
+    (rw c.bfs.ensures at c.write_characters.ensures)
+    (subst (λ entries. IsWritten (cid_said Notdefs entries) first texts notdefs) c.notdefs-notdefs.ensures c.write_cids.ensures)
+    (subst (λ entries. IsWritten (cid_said (Cids absent) entries) first notdefs new) c.cids-declared.ensures c.write_cids-in-loop-index.ensures))
 
 pub returns : goal.returns
 returns c =

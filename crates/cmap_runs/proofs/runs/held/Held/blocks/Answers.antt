@@ -45,6 +45,7 @@ next_block-count-requires g c =
     record {
       order = c.requires;
       code = (omega arith, omega (arith, at.code));
+      few = omega (arith, at.code, at.number, c.if-len-most.true, c.len.ensures, c.most_blocks-most.ensures);
       within = (at.fewer, at.within);
       begun = λ k d from below. omega (arith, at.before k d from below);
       later = λ k d from below. omega (arith, at.later k d from below);

@@ -1,13 +1,10 @@
-use Rattle.std.proofs.Common.{◌+◌, ◌-◌, inl, inr, arith}
+use Rattle.std.proofs.Common.{◌+◌, ◌-◌, ◌<◌, inl, inr, arith}
 use Rattle.std.proofs.lemmas.Bool.{cases_lt}
 use Rattle.cmap_runs.proofs.BlocksMade.{block_made, few_begun}
 use Rattle.cmap_runs.proofs.runs.held.Held.next_block.Goals as goal
 
 pub overflow_cast-block : goal.overflow_cast-block
 overflow_cast-block g c = omega (arith, few_begun c.args.self.now.runs (c.args.code - 32) c.args.begun c.requires.order c.requires.within.1 c.requires.begun, c.ranges.code.fits)
-
-pub overflow_add-block : goal.overflow_add-block
-overflow_add-block g c = omega (arith, few_begun c.args.self.now.runs (c.args.code - 32) c.args.begun c.requires.order c.requires.within.1 c.requires.begun, c.ranges.code.fits)
 
 pub starts_before-starts-requires : goal.starts_before-starts-requires
 starts_before-starts-requires g c = record { order = c.requires.order; code = c.requires.code; within = c.requires.within.1; begun = c.requires.begun; later = c.requires.later }
@@ -30,9 +27,10 @@ returns-then-count-ended g c =
 
 pub returns-else-count-ended : goal.returns-else-count-ended
 returns-else-count-ended g c =
-    let made = c.starts_before-starts.ensures in
+    let made = c.starts_before-starts.ensures in let runs = c.args.self.now.runs in
+    let few : c.args.begun < 65536 = omega (arith, few_begun runs (c.args.code - 32) c.args.begun c.requires.order c.requires.within.1 c.requires.begun, c.requires.few, c.requires.code) in
     record {
-      block = λ place few. block_made c.args.self.now.runs (c.args.code - 32 + place) c.args.begun c.starts_before-starts.result.0 place (made.starts place few);
+      block = λ place within. block_made runs (c.args.code - 32 + place) c.args.begun c.starts_before-starts.result.0 place few (made.starts place within);
       within = made.within;
       before = made.before;
       after = made.after;

@@ -12,26 +12,27 @@ loop-index-preserved g c =
     let low = ap (λ (r : Run). r.low) is in let high = ap (λ (r : Run). r.high) is in
     let pushed = c.push_reserved.ensures in
     record {
+      begin = omega (arith, old.begin);
+      within = omega arith;
       len = omega (arith, pushed.len, old.len);
       capacity = omega (arith, pushed.capacity, old.capacity);
       apart = λ are.
           subst (λ items. LieApartBefore spans items (c.from-last.result + 1)) (sym pushed.items)
-          (LieApartBefore-push spans c.loop-index.self.indices.items index c.loop-index.self.next c.from-last.result (old.apart are)
+          (LieApartBefore-push spans c.loop-index.self.indices.items index c.loop-index.next c.from-last.result (old.apart are)
           (omega (arith, low)) (omega (arith, low, high)) (omega (arith, high)) (omega (arith, high)));
     }
 
 pub loop-index-init : goal.loop-index-init
 loop-index-init g c =
-    record { len = omega arith; capacity = omega arith; apart = λ are. are }
+    record { begin = omega arith; within = c.requires.first; len = omega arith; capacity = omega arith; apart = λ are. are }
 
 pub range_at-range-requires : goal.range_at-range-requires
 range_at-range-requires g c = omega (arith, c.requires.end)
 
-pub returns-then-from-self : goal.returns-then-from-self
-returns-then-from-self g c = record { begin = omega arith; within = omega arith; len = c.loop-index.invariant.len; capacity = c.loop-index.invariant.capacity; apart = c.loop-index.invariant.apart }
-
 pub returns : goal.returns
-returns g c = record { begin = c.requires.first; within = omega arith; len = omega (arith, c.loop-index.invariant.len, c.requires.first); capacity = c.loop-index.invariant.capacity; apart = c.loop-index.invariant.apart }
+returns g c =
+    let at = c.loop-index.invariant in
+    record { begin = at.begin; within = at.within; len = at.len; capacity = at.capacity; apart = at.apart }
 
 pub push_reserved-requires : goal.push_reserved-requires
 push_reserved-requires g c = omega (arith, c.loop-index.invariant.len, c.loop-index.invariant.capacity, c.requires.room)

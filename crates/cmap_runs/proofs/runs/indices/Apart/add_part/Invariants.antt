@@ -5,7 +5,12 @@ use Rattle.cmap_runs.proofs.runs.indices.Apart.add_part.Given as goal
 
 abbrev pub invariant-loop-index : goal.invariant-loop-index
 invariant-loop-index g l = record {
+  begin : l.first ≤ l.index;
+  within : l.index ≤ l.end;
   len : vec_len l.self.indices ≡ vec_len l.fn.self.indices + (l.index - l.first);
   capacity : vec_capacity l.fn.self.indices ≤ vec_capacity l.self.indices;
-  apart : LieApartBefore (map g.T.HasRange.span l.declarations) l.fn.self.indices.items l.fn.self.next → LieApartBefore (map g.T.HasRange.span l.declarations) l.self.indices.items l.self.next;
+  apart : LieApartBefore (map g.T.HasRange.span l.declarations) l.fn.self.indices.items l.fn.self.next → LieApartBefore (map g.T.HasRange.span l.declarations) l.self.indices.items l.next;
 }
+
+abbrev pub decreases-loop-index : goal.decreases-loop-index
+decreases-loop-index g l = l.end - l.index

@@ -7,14 +7,14 @@ use Rattle.cmap_runs.specs.declared.runs.indices.Part.{Part}
 use Rattle.cmap_runs.proofs.EachPlace.{ArePlacesApart-from_count}
 use Rattle.cmap_runs.proofs.LieApart.{LieApartBefore-none}
 use Rattle.cmap_runs.proofs.PartsLeft.{GoesOn, first_left, goes_on}
-use Rattle.cmap_runs.proofs.runs.indices.indices_of_parts.Goals as goal
-use Rattle.cmap_runs.proofs.runs.indices.indices_of_parts.Given.{Over}
+use Rattle.cmap_runs.proofs.runs.indices.merged.Goals as goal
+use Rattle.cmap_runs.proofs.runs.indices.merged.Given.{Over}
 
-taken : (g : Over) (c : goal.After-move_first g) → GoesOn c.loop-first.parts.items c.move_first.new.parts.items c.args.count c.in-Some-first_part.first c.add_part-next.result
+taken : (g : Over) (c : goal.After-move_first g) → GoesOn c.loop-first.parts.items c.move_first.new.parts.items c.args.count c.in-Some.first c.add_part-next.result
 taken g c =
-    let found = rw c.as_slice.ensures.value at c.in-Some-first_part.ensures in
-    let part : Part = record { next = c.add_part-next.result; end = c.in-Some-first_part.end; start = c.start_before-start.result } in
-    goes_on c.loop-first.parts.items c.move_first.new.parts.items c.args.count c.in-Some-first_part.first c.in-Some-first_part.end c.add_part-next.result part
+    let found = rw c.as_slice.ensures.value at c.in-Some.ensures in
+    let part : Part = record { next = c.add_part-next.result; end = c.in-Some.end; start = c.start_before-start.result } in
+    goes_on c.loop-first.parts.items c.move_first.new.parts.items c.args.count c.in-Some.first c.in-Some.end c.add_part-next.result part
     c.loop-first.invariant.left found.0 found.1 found.2 refl refl c.add_part-next.ensures.begin c.add_part-next.ensures.within c.move_first.ensures
 
 pub loop-first-smaller : goal.loop-first-smaller
@@ -37,18 +37,15 @@ returns g c =
 
 pub add_part-next-requires-clause-room : goal.add_part-next-requires-clause-room
 add_part-next-requires-clause-room g c =
-    let found = rw c.as_slice.ensures.value at c.in-Some-first_part.ensures in
+    let found = rw c.as_slice.ensures.value at c.in-Some.ensures in
     omega (arith, c.loop-first.invariant.room, first_left c.loop-first.parts.items found.0, found.1, found.2)
 
-pub returns-in_err-parts : goal.returns-in_err-parts
-returns-in_err-parts g c = IfOk-from_err _ _ c.from_residual.ensures.0
-
 pub returns-in_err-indices : goal.returns-in_err-indices
-returns-in_err-indices g c = IfOk-from_err _ _ c.from_residual-in_err-indices.ensures.0
+returns-in_err-indices g c = IfOk-from_err _ _ c.from_residual.ensures.0
 
 pub loop-first-init : goal.loop-first-init
 loop-first-init g c =
-    let left = rw c.in-Some.is at c.in_ok-parts.ensures in let spans = map g.T.HasRange.span c.args.declarations.now in
+    let left = c.requires.parts in let spans = map g.T.HasRange.span c.args.declarations.now in
     record {
       left = left;
       apart = subst (λ items. LieApartBefore spans items 0) (sym c.in_ok-indices.ensures.items) (LieApartBefore-none spans);
@@ -57,20 +54,20 @@ loop-first-init g c =
 
 pub add_part-next-requires-clause-first : goal.add_part-next-requires-clause-first
 add_part-next-requires-clause-first g c =
-    let found = rw c.as_slice.ensures.value at c.in-Some-first_part.ensures in
+    let found = rw c.as_slice.ensures.value at c.in-Some.ensures in
     omega (arith, found.1, found.2, (c.loop-first.invariant.left.each 0 nothing_left found.0).0)
 
 pub add_part-next-requires-clause-end : goal.add_part-next-requires-clause-end
 add_part-next-requires-clause-end g c =
-    let found = rw c.as_slice.ensures.value at c.in-Some-first_part.ensures in
-    omega (arith, found.2, (c.loop-first.invariant.left.each 0 nothing_left found.0).1, c.requires)
+    let found = rw c.as_slice.ensures.value at c.in-Some.ensures in
+    omega (arith, found.2, (c.loop-first.invariant.left.each 0 nothing_left found.0).1, c.requires.count)
 
 pub start_before-start-requires : goal.start_before-start-requires
 start_before-start-requires g c =
-    let found = rw c.as_slice.ensures.value at c.in-Some-first_part.ensures in
-    omega (arith, found.2, (c.loop-first.invariant.left.each 0 nothing_left found.0).1, c.requires)
+    let found = rw c.as_slice.ensures.value at c.in-Some.ensures in
+    omega (arith, found.2, (c.loop-first.invariant.left.each 0 nothing_left found.0).1, c.requires.count)
 
 pub index_mut-requires : goal.index_mut-requires
 index_mut-requires g c =
-    let found = rw c.as_slice.ensures.value at c.in-Some-first_part.ensures in
+    let found = rw c.as_slice.ensures.value at c.in-Some.ensures in
     omega (arith, found.0, c.loop-first.parts.ok.0)

@@ -2,7 +2,7 @@ use Rattle.std.proofs.Common.{◌+◌, ◌≤◌, map}
 use Rattle.std.specs.Vec.{vec_capacity, vec_len}
 use Rattle.cmap_runs.specs.DeclaredRanges.{LieApartBefore}
 use Rattle.cmap_runs.specs.Parts.{AreLeft, left_of}
-use Rattle.cmap_runs.proofs.runs.indices.indices_of_parts.Given as goal
+use Rattle.cmap_runs.proofs.runs.indices.merged.Given as goal
 
 -- there is room for what is left of the parts
 abbrev pub invariant-loop-first : goal.invariant-loop-first

@@ -1,5 +1,5 @@
 use Rattle.std.proofs.Common.{◌-◌, ◌≤◌}
-use Rattle.cmap_runs.proofs.runs.indices.end_by_fours.Given as goal
+use Rattle.cmap_runs.proofs.runs.indices.end_by_steps.Given as goal
 
 abbrev pub invariant-loop-end : goal.invariant-loop-end
 invariant-loop-end g l = (l.from ≤ l.end) × (l.end ≤ l.count)
