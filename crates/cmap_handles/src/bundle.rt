@@ -86,6 +86,7 @@ impl BundleHandle {
             Err(_) => Status::NoMemory.number(),
         }
     }
+
     /// Frees the bundle, if there is one.
     pub fn clear(&mut self, alloc: Global)
         ensures { self.new.slot.bundle ≡ None }
