@@ -81,7 +81,7 @@ impl Layers {
 }
 
 /// The CID of a code of `byte_len` bytes, by asking each layer in turn.
-#[inline(always)]
+#[inline(never)]
 fn cid_in_turn(layers: &[Layer], code: u32, byte_len: u8, looks: &mut Looks) -> Option<Cid>
     ensures { FindsCid (layers_seen layers.now) code byte_len looks.old looks.new result }
 {

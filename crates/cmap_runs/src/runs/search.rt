@@ -1,20 +1,46 @@
 //! The search for the run that holds a code after all blocks.
 
-ghost use Rattle.std.specs.Prelude.{◌≡◌, ◌+◌, ◌-◌, ◌<◌, ◌≤◌, All, Any, IfNone, IfSome, OnSome, length};
+ghost use Rattle.std.specs.Prelude.{◌≡◌, ◌+◌, ◌-◌, ◌*◌, ◌<◌, ◌≤◌, All, Any, IfNone, IfSome, IsTrue, OnSome, is_some, length, map};
 ghost use Rattle.std.specs.List.{AllWithin};
+ghost use Rattle.std.specs.Option.{option_copied};
 ghost use Rattle.cmap_runs.specs.Order.{IsInOrder};
-ghost use Rattle.cmap_runs.specs.Ranges.{Holds, digits};
+ghost use Rattle.cmap_runs.specs.Blocks.{AreBlocks};
+ghost use Rattle.cmap_runs.specs.Ranges.{Holds, contains, digits, last_of, runs_of};
+ghost use Rattle.cmap_runs.specs.SearchLooks.{LooksAtMost};
 
 use super::HasRange;
 use super::blocks::Blocks;
 use super::held::Held;
 use super::looks::Looks;
 
-/// The index of the declaration of the run that holds `code`, by halving. Only the runs that are left
-/// after the blocks may.
+/// The last declaration that contains `code`, which comes after all blocks. It is called last, so that who
+/// calls it needs no registers afterwards.
 #[cold]
 #[inline(never)]
-pub(super) fn find_among_last<T: HasRange>(
+pub(super) fn find_after_blocks<'h, T: HasRange>(
+    held: &'h Held<T>,
+    blocks: &Blocks,
+    code: u32,
+    looks: &mut Looks,
+) -> Option<&'h T>
+    requires runs { held.now.runs ≡ runs_of (map T.span held.now.declarations) }
+    requires blocks { AreBlocks held.now.runs blocks.now }
+    requires after { 32 * length blocks.now.list.items ≤ code }
+    ensures found { option_copied result ≡ last_of T.span held.now.declarations code }
+    ensures contains { IfSome result
+        (λ declaration. IsTrue (contains (T.span declaration.now) code)) }
+    ensures looks { LooksAtMost looks.old looks.new
+        (digits (length (runs_of (map T.span held.now.declarations)))) 1 (is_some result) }
+    ensures no_declaration { IfNone result
+        (looks.new.declarations ≡ looks.old.declarations) }
+{
+    let index = find_among_last(held, blocks, code, looks)?;
+    Some(held.declaration(index, looks))
+}
+
+/// The index of the declaration of the run that holds `code`, by halving. Only the runs that are left
+/// after the blocks may.
+fn find_among_last<T: HasRange>(
     held: &Held<T>,
     blocks: &Blocks,
     code: u32,

@@ -10,7 +10,7 @@ use super::HasRange;
 use super::blocks::Blocks;
 use super::held::Held;
 use super::looks::Looks;
-use super::search::find_among_last;
+use super::search::find_after_blocks;
 use super::stretch::{Stretch, Stretches};
 use super::sweep::runs_of;
 use std::alloc::{AllocError, Global};
@@ -87,8 +87,7 @@ impl<T: HasRange> Table<T> {
             if u64::from(code) >= self.end() {
                 return None;
             }
-            let index = find_among_last(&self.held, &self.blocks, code, looks)?;
-            return Some(self.held.declaration(index, looks));
+            return find_after_blocks(&self.held, &self.blocks, code, looks);
         };
         let begun = block.begun_by(code);
         if begun == 0 {
