@@ -3,7 +3,7 @@
 use crate::choice::Chosen;
 use crate::difference::{Difference, push_difference};
 use cmap_escape::escape::push_text;
-use cmap_queries::code_lengths::{LENGTHS, last_code};
+use cmap_queries::code_lengths::LENGTHS;
 use cmap_unicode::declared_cid;
 use hayro_cmap::runs::{HasRange, Looks, Range, Table};
 use hayro_cmap::{
@@ -134,7 +134,7 @@ impl Pair<'_> {
                     len,
                     Range {
                         start: 0,
-                        end: last_code(len),
+                        end: len.last_code(),
                     },
                 )
             }
