@@ -187,7 +187,7 @@ fn last_in(spaces: &[Codespace], code: Code, after: u8) -> u32
     code.number
 }
 
-/// Whether a codespace range has all values of so many last bytes.
+/// Whether each of the last `count` bytes of a codespace range goes from 00 to FF.
 fn is_full(space: &Codespace, count: u8) -> bool
     requires { count ≤ 3 }
     ensures { result ≡ true → IsFull (codespace_seen space.now) count }

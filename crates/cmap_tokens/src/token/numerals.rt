@@ -62,7 +62,7 @@ pub(super) fn short_decimal(text: &[u8]) -> Option<(u64, usize)>
     None
 }
 
-/// What so many bytes count as decimal digits, and how many they are, where all are digits.
+/// The number of decimal digits, and how many they are; `None` where a byte among them is no digit.
 #[inline(always)]
 fn if_digits(number: u64, len: usize) -> Option<(u64, usize)>
     ensures { MatchOption result (2 ^ 32 ≤ number) (λ first. (first ≡ (number, len)) × (number < 2 ^ 32)) }
