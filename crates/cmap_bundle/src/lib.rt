@@ -8,6 +8,5 @@ pub mod command;
 pub mod contents;
 pub mod difference;
 pub mod making;
-pub mod obstacle;
 pub mod summary;
 pub mod verify;

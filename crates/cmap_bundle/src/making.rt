@@ -1,9 +1,9 @@
 //! The bundle of the files that are chosen.
 
 use crate::choice::Chosen;
-use crate::obstacle::push_obstacle;
 use cmap_escape::escape::push_text;
 use cmap_maker::{Source, Unwritable, make_named_bundle};
+use cmap_report::obstacle::push_obstacle;
 use cmap_sources::failure::Failure;
 use cmap_values::fault::Fault;
 use std::alloc::{AllocError, Global};

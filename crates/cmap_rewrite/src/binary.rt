@@ -1,8 +1,8 @@
 //! A file in the binary form, by the tables of a bundle.
 
-use cmap_bundle::obstacle::push_obstacle;
 use cmap_escape::escape::push_text;
 use cmap_packed::Bundle;
+use cmap_report::obstacle::push_obstacle;
 use cmap_sources::failure::{Failure, fault};
 use cmap_values::fault::Fault;
 use cmap_values::file::File;

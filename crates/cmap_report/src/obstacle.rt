@@ -1,12 +1,12 @@
-//! What a bundle can't express, in words.
+//! What a binary file or a bundle can't say, in words.
 
 use cmap_escape::digits::push_code;
-use cmap_maker::Obstacle;
 use cmap_queries::code_lengths::fewest_bytes;
+use cmap_writer::Obstacle;
 use hayro_cmap::runs::Range;
 use std::alloc::AllocError;
 
-/// Adds what a bundle can't express, as `CID above 65535 for the codes <8140> to <8150>`.
+/// Adds what a binary file or a bundle can't say, as `CID above 65535 for the codes <8140> to <8150>`.
 pub fn push_obstacle(out: &mut String, obstacle: Obstacle) -> Result<(), AllocError> {
     match obstacle {
         Obstacle::LargeCid(range) => push_about(out, "CID above 65535", range),
