@@ -20,32 +20,42 @@ struct Apart {
 }
 
 impl Apart {
-    /// Adds the indices from `first` on and before `end`, up to one whose range doesn't lie between
-    /// the ranges before it and `limit`, and answers where it came to.
-    fn add_part<T: HasRange>(&mut self, declarations: &[T], first: u32, end: u32, limit: u64) -> u32
+    /// Adds the indices from `first` on and before `end`, up to one whose range begins at `limit` or
+    /// later, and answers where it came to; `None` where not all ranges lie apart.
+    fn add_part<T: HasRange>(
+        &mut self,
+        declarations: &[T],
+        first: u32,
+        end: u32,
+        limit: u64,
+    ) -> Option<u32>
         requires first { first ≤ end }
         requires end { end ≤ length declarations.now }
         requires room { vec_len self.old.indices + (end - first) ≤ vec_capacity self.old.indices }
-        ensures begin { first ≤ result }
-        ensures within { result ≤ end }
-        ensures len { vec_len self.new.indices ≡ vec_len self.old.indices + (result - first) }
+        ensures within { IfSome result (λ next. (first ≤ next) × (next ≤ end)) }
+        ensures len { IfSome result
+            (λ next. vec_len self.new.indices ≡ vec_len self.old.indices + (next - first)) }
         ensures capacity { vec_capacity self.old.indices ≤ vec_capacity self.new.indices }
-        ensures apart { LieApartBefore (map T.span declarations.now) self.old.indices.items self.old.next
-            → LieApartBefore (map T.span declarations.now) self.new.indices.items self.new.next }
+        ensures apart { IfSome result
+            (λ _. LieApartBefore (map T.span declarations.now) self.old.indices.items self.old.next
+            → LieApartBefore (map T.span declarations.now) self.new.indices.items self.new.next) }
     {
         let (mut index, mut next) = (first, self.next);
         while index < end {
             let range = range_at(declarations, index);
-            let (from, last) = (u64::from(range.low), u64::from(range.high));
-            if from < next || range.high < range.low || limit <= last {
+            let low = u64::from(range.low);
+            if limit <= low {
                 break;
             }
+            if low < next || range.high < range.low {
+                return None;
+            }
             self.indices.push_reserved(index);
-            next = last + 1;
+            next = u64::from(range.high) + 1;
             index += 1;
         }
         self.next = next;
-        index
+        Some(index)
     }
 }
 
@@ -119,7 +129,9 @@ fn merged<T: HasRange>(
     let indices = Vec::with_capacity(alloc, count as usize)?;
     let mut apart = Apart { indices, next: 0 };
     while let Some((first, end, limit)) = first_part(parts.as_slice()) {
-        let next = apart.add_part(declarations, first, end, limit);
+        let Some(next) = apart.add_part(declarations, first, end, limit) else {
+            return Ok(None);
+        };
         if next == first {
             return Ok(None);
         }

@@ -10,23 +10,23 @@ use Rattle.cmap_runs.proofs.PartsLeft.{GoesOn, first_left, goes_on}
 use Rattle.cmap_runs.proofs.runs.indices.merged.Goals as goal
 use Rattle.cmap_runs.proofs.runs.indices.merged.Given.{Over}
 
-taken : (g : Over) (c : goal.After-move_first g) → GoesOn c.loop-first.parts.items c.move_first.new.parts.items c.args.count c.in-Some.first c.add_part-next.result
+taken : (g : Over) (c : goal.After-move_first g) → GoesOn c.loop-first.parts.items c.move_first.new.parts.items c.args.count c.in-Some.first c.in-Some-add_part.next
 taken g c =
     let found = rw c.as_slice.ensures.value at c.in-Some.ensures in
-    let part : Part = record { next = c.add_part-next.result; end = c.in-Some.end; start = c.start_before-start.result } in
-    goes_on c.loop-first.parts.items c.move_first.new.parts.items c.args.count c.in-Some.first c.in-Some.end c.add_part-next.result part
-    c.loop-first.invariant.left found.0 found.1 found.2 refl refl c.add_part-next.ensures.begin c.add_part-next.ensures.within c.move_first.ensures
+    let part : Part = record { next = c.in-Some-add_part.next; end = c.in-Some.end; start = c.start_before-start.result } in
+    goes_on c.loop-first.parts.items c.move_first.new.parts.items c.args.count c.in-Some.first c.in-Some.end c.in-Some-add_part.next part
+    c.loop-first.invariant.left found.0 found.1 found.2 refl refl c.in-Some-add_part.ensures.within.0 c.in-Some-add_part.ensures.within.1 c.move_first.ensures
 
 pub loop-first-smaller : goal.loop-first-smaller
-loop-first-smaller g c = omega (arith, (taken g c).fewer, c.add_part-next.ensures.begin)
+loop-first-smaller g c = omega (arith, (taken g c).fewer, c.in-Some-add_part.ensures.within.0)
 
 pub loop-first-preserved : goal.loop-first-preserved
 loop-first-preserved g c =
     let old = c.loop-first.invariant in let now = taken g c in
     record {
       left = now.left;
-      apart = c.add_part-next.ensures.apart old.apart;
-      room = omega (arith, now.fewer, old.room, c.add_part-next.ensures.len, c.add_part-next.ensures.capacity, c.add_part-next.ensures.begin);
+      apart = c.in-Some-add_part.ensures.apart old.apart;
+      room = omega (arith, now.fewer, old.room, c.in-Some-add_part.ensures.len, c.add_part.ensures.capacity, c.in-Some-add_part.ensures.within.0);
     }
 
 pub returns : goal.returns
@@ -35,8 +35,8 @@ returns g c =
     ArePlacesApart-from_count spans indices.items c.loop-first.invariant.apart.apart
     (omega (arith, length-map c.args.declarations.now g.T.HasRange.span, indices.ok.0))
 
-pub add_part-next-requires-clause-room : goal.add_part-next-requires-clause-room
-add_part-next-requires-clause-room g c =
+pub add_part-requires-clause-room : goal.add_part-requires-clause-room
+add_part-requires-clause-room g c =
     let found = rw c.as_slice.ensures.value at c.in-Some.ensures in
     omega (arith, c.loop-first.invariant.room, first_left c.loop-first.parts.items found.0, found.1, found.2)
 
@@ -52,13 +52,13 @@ loop-first-init g c =
       room = omega (arith, left.few, c.in_ok-indices.ensures.len, c.in_ok-indices.ensures.capacity);
     }
 
-pub add_part-next-requires-clause-first : goal.add_part-next-requires-clause-first
-add_part-next-requires-clause-first g c =
+pub add_part-requires-clause-first : goal.add_part-requires-clause-first
+add_part-requires-clause-first g c =
     let found = rw c.as_slice.ensures.value at c.in-Some.ensures in
     omega (arith, found.1, found.2, (c.loop-first.invariant.left.each 0 nothing_left found.0).0)
 
-pub add_part-next-requires-clause-end : goal.add_part-next-requires-clause-end
-add_part-next-requires-clause-end g c =
+pub add_part-requires-clause-end : goal.add_part-requires-clause-end
+add_part-requires-clause-end g c =
     let found = rw c.as_slice.ensures.value at c.in-Some.ensures in
     omega (arith, found.2, (c.loop-first.invariant.left.each 0 nothing_left found.0).1, c.requires.count)
 

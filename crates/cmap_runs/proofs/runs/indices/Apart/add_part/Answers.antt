@@ -17,8 +17,8 @@ loop-index-preserved g c =
       len = omega (arith, pushed.len, old.len);
       capacity = omega (arith, pushed.capacity, old.capacity);
       apart = λ are.
-          subst (λ items. LieApartBefore spans items (c.from-last.result + 1)) (sym pushed.items)
-          (LieApartBefore-push spans c.loop-index.self.indices.items index c.loop-index.next c.from-last.result (old.apart are)
+          subst (λ items. LieApartBefore spans items (c.from-next.result + 1)) (sym pushed.items)
+          (LieApartBefore-push spans c.loop-index.self.indices.items index c.loop-index.next c.from-next.result (old.apart are)
           (omega (arith, low)) (omega (arith, low, high)) (omega (arith, high)) (omega (arith, high)));
     }
 
@@ -32,7 +32,7 @@ range_at-range-requires g c = omega (arith, c.requires.end)
 pub returns : goal.returns
 returns g c =
     let at = c.loop-index.invariant in
-    record { begin = at.begin; within = at.within; len = at.len; capacity = at.capacity; apart = at.apart }
+    record { within = (at.begin, at.within); len = at.len; capacity = at.capacity; apart = at.apart }
 
 pub push_reserved-requires : goal.push_reserved-requires
 push_reserved-requires g c = omega (arith, c.loop-index.invariant.len, c.loop-index.invariant.capacity, c.requires.room)
