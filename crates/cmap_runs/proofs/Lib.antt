@@ -5,6 +5,7 @@ pub mod FoundIndex
 pub mod LastIndex
 pub mod LieApart
 pub mod MaximalRuns
+pub mod Merged
 pub mod OpenDecide
 pub mod OpenEnds
 pub mod PartsLeft

@@ -8,6 +8,7 @@ use Rattle.std.proofs.lemmas.List.{get_or_append_left, get_or_push, length_push,
 use Rattle.std.proofs.lemmas.List.Elements.{All-push}
 use Rattle.std.proofs.lemmas.List.Sorted.{IsNonDecreasingBy-from_all_adjacent}
 use Rattle.cmap_runs.specs.DeclaredRanges.{LieApart, LieApartBefore, range_at}
+use Rattle.cmap_runs.specs.Order.{IsInOrder}
 use Rattle.cmap_runs.specs.Ranges.{Span, Run}
 
 LieApart-push : (ranges : List Run) (range : Run) → LieApart ranges → range.low ≤ range.high → range.high < 2 ^ 32
@@ -59,3 +60,13 @@ from_to_two first middle end le within =
 pub from_to_more : (first index : ℕ) → first ≤ index → from_to first (index + 1) ≡ from_to first index ++ index ∷ []
 from_to_more first index le =
     from_to_two first index (index + 1) le (omega arith) ∙ ap (λ n. from_to first index ++ range_with_len index n) (let e : index + 1 - index ≡ 1 = omega arith in e)
+
+-- ---- as runs
+pub in_order : (ranges : List Run) → LieApart ranges → IsInOrder ranges
+in_order ranges lie = record {
+  filled = λ k d lt. (lie.filled k d lt).0;
+  apart = λ i j d lt within. omega (arith, lie.apart i d (omega arith), LieApart-ascend ranges lie (i + 1) j d (omega arith) within);
+}
+
+pub LieApartBefore-later : (spans : List Span) (indices : List ℕ) (code later : ℕ) → code ≤ later → LieApartBefore spans indices code → LieApartBefore spans indices later
+LieApartBefore-later spans indices code later le are = record { apart = are.apart; before = λ k d lt. omega (arith, are.before k d lt, le) }

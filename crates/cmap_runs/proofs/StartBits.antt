@@ -3,16 +3,13 @@ use Rattle.std.proofs.Common.{◌≡◌, ℕ, suc, ◌+◌, ◌-◌, ◌*◌, �
 use Rattle.std.specs.Prelude.{count_ones}
 use lib.Count.{ones}
 use Rattle.std.proofs.Math.Nat.{add-mul, mul_assoc}
+use Rattle.cmap_runs.specs.Blocks.{AreBefore}
 use Rattle.std.proofs.lemmas.Nat.{ones-le, ones_cat, or_shifted, pow_below, pow_pos, pow-add, shl-shr, shr_high, shr-shr}
 
 none_shifted : (width : ℕ) → 0 / 2 ^ width ≡ 0
 none_shifted width =
     let none : 0 * 2 ^ width ≡ 0 = omega arith in
     ap (λ n. n / 2 ^ width) (sym none) ∙ shl-shr 0 width
-
--- no start stands at this place or later
-abbrev pub AreBefore : ℕ → ℕ → Type 0
-AreBefore starts place = starts ≡ starts / 2 ^ (32 - place) * 2 ^ (32 - place)
 
 shifted_past : (high low width more : ℕ) → low < 2 ^ width → (high * 2 ^ width + low) / 2 ^ (width + more) ≡ high / 2 ^ more
 shifted_past high low width more lt = sym (shr-shr (high * 2 ^ width + low) width more) ∙ ap (λ n. n / 2 ^ more) (shr_high high width low lt)

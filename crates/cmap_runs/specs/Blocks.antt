@@ -1,5 +1,5 @@
 -- Private aid: the runs of blocks of codes.
-use Rattle.std.specs.Prelude.{◌==◌, if◌then◌else◌, ℕ, ◌+◌, ◌-◌, ◌*◌, ◌/◌, ◌<◌, ◌≤◌, ◌^◌, List, All, length, get_or, count_ones}
+use Rattle.std.specs.Prelude.{◌==◌, if◌then◌else◌, ℕ, ◌+◌, ◌-◌, ◌*◌, ◌/◌, ◌<◌, ◌≤◌, ◌^◌, ◌≡◌, List, All, length, get_or, count_ones}
 use Rattle.std.specs.List.{AllWithin}
 use Rattle.cmap_runs.specs.Ranges.{Run, Holds}
 use Rattle.cmap_runs.specs.declared.runs.blocks.Block.{Block}
@@ -28,3 +28,25 @@ pub record AreBlocks (runs : List Run) (blocks : Blocks) : Type 0 where
   pub within : blocks.left ≤ length runs
   pub before : AllWithin (λ run. run.high < 32 * length blocks.list.items) runs 0 (length runs - blocks.left)
   pub end : All (λ run. run.high < blocks.end) runs
+
+-- no start stands at this place or later, in a word with a bit for each start, the first one high
+abbrev pub AreBefore : ℕ → ℕ → Type 0
+AreBefore starts place = starts ≡ starts / 2 ^ (32 - place) * 2 ^ (32 - place)
+
+-- the bits for the starts of the runs from one on and before another, in the block whose first code is `first`
+pub record AreStarts (runs : List Run) (first begun index starts : ℕ) : Type 0 where
+  pub counts : (place : ℕ) → place < 32 → HaveBegun runs index (first + place) (begun + count_ones (starts / 2 ^ (31 - place)))
+  pub clear : (place : ℕ) → place ≤ 32 → AllWithin (λ run. run.low < first + place) runs begun index → AreBefore starts place
+
+-- the block after those that are made, of the first `count` runs
+pub record IsOpen (runs : List Run) (count code begun starts : ℕ) : Type 0 where
+  pub starts_are : AreStarts runs code begun count starts
+  pub last : AllWithin (λ run. run.low < code + 32) runs 0 count
+
+-- the first blocks, of which there may be so many; the first `count` runs were seen, and the others begin after those blocks
+pub record AreMade (runs : List Run) (count : ℕ) (list : List Block) (most begun starts : ℕ) : Type 0 where
+  pub each : (i place : ℕ) (d : Block) → i < length list → place < 32 → MayHold runs (32 * i + place) (begun_by (get_or list i d) place)
+  pub within : (begun ≤ count) × (count ≤ length runs)
+  pub before : AllWithin (λ run. run.low < 32 * length list) runs 0 begun
+  pub later : AllWithin (λ run. 32 * length list ≤ run.low) runs count (length runs)
+  pub unfinished : length list < most → IsOpen runs count (32 * length list) begun starts

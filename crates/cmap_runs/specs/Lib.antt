@@ -7,3 +7,4 @@ pub mod SearchLooks
 pub mod Stretches
 pub mod HeldRuns
 pub mod Parts
+pub mod Made

@@ -3,6 +3,7 @@
 ghost use Rattle.std.specs.Prelude.{◌≡◌};
 ghost use Rattle.cmap_runs.specs.Ranges.{Span};
 
+mod block_maker;
 mod blocks;
 mod held;
 mod indices;

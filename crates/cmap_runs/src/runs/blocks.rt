@@ -1,6 +1,6 @@
 //! For blocks of codes, which runs begin in them.
 
-ghost use Rattle.std.specs.Prelude.{◌≡◌, ◌*◌, ◌/◌, ◌%◌, ◌<◌, ◌≤◌, MatchOption, get_or, length};
+ghost use Rattle.std.specs.Prelude.{◌≡◌, ◌*◌, ◌-◌, ◌/◌, ◌%◌, ◌^◌, ◌<◌, ◌≤◌, MatchOption, get_or, length};
 ghost use Rattle.cmap_runs.specs.Blocks.{begun_by};
 
 /// How many codes a block has.
@@ -36,6 +36,27 @@ impl Block {
         }
         let starts = self.starts >> (BLOCK_LEN - 1 - code % BLOCK_LEN);
         self.begun as usize + starts.count_ones() as usize
+    }
+}
+
+/// The bit of a code in its block, that of the first code high.
+#[inline(always)]
+pub(super) fn bit_of(code: u32) -> u32
+    ensures { result ≡ 1 * 2 ^ (31 - code % 32) % 2 ^ 32 }
+{
+    1 << (BLOCK_LEN - 1 - code % BLOCK_LEN)
+}
+
+/// How many blocks may be made of so many runs, the first of which begins at `first`. Few runs need
+/// none but that of the first codes, where the notdefs of most files lie.
+pub(super) fn most_blocks(run_count: usize, first: u64) -> usize
+    ensures { result ≤ 2048 }
+{
+    match run_count {
+        0 => 0,
+        _ if first >= u64::from(BLOCK_LEN) * MOST_BLOCKS as u64 => 0,
+        1..FEWEST_RUNS => 1,
+        _ => MOST_BLOCKS,
     }
 }
 

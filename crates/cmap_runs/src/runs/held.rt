@@ -1,14 +1,16 @@
 //! What a table holds: runs and declarations. Outside of this module each look at one is counted.
 
-ghost use Rattle.std.specs.Prelude.{◌≡◌, ℕ, ◌+◌, ◌-◌, ◌/◌, ◌%◌, ◌^◌, ◌<◌, ◌≤◌, true, [], All, Some, IfNone, IfOk, IfSome, OnOk, OnErr, count_ones, if◌then◌else◌, is_some, length, map, slice_get};
+ghost use Rattle.std.specs.Prelude.{◌≡◌, ℕ, ◌+◌, ◌-◌, ◌^◌, ◌<◌, ◌≤◌, true, [], All, Some, IfNone, IfOk, IfSome, OnOk, OnErr, if◌then◌else◌, is_some, length, map, slice_get};
 ghost use Rattle.std.specs.List.{AllWithin};
-ghost use Rattle.cmap_runs.specs.Blocks.{AreBlocks, HaveBegun, MayHold, begun_by};
+ghost use Rattle.cmap_runs.specs.Blocks.{AreBlocks};
 ghost use Rattle.cmap_runs.specs.HeldRuns.{EndsBefore, Reaches, indices_within, runs_held};
+ghost use Rattle.cmap_runs.specs.Made.{AreMadeBy};
 ghost use Rattle.cmap_runs.specs.Order.{IsInOrder};
 ghost use Rattle.cmap_runs.specs.Ranges.{goes_on, joined};
 
 use super::HasRange;
-use super::blocks::{BLOCK_LEN, Block, Blocks, FEWEST_RUNS, MOST_BLOCKS, NO_RUN};
+use super::block_maker::BlockMaker;
+use super::blocks::{BLOCK_LEN, Blocks, most_blocks};
 use super::looks::Looks;
 use super::ranges::range_at;
 use std::alloc::{AllocError, Global};
@@ -210,33 +212,48 @@ impl<T: HasRange> Held<T> {
         Some(declaration)
     }
 
-    /// The blocks of the first codes, up to the end of the last run. It counts no look, and takes
-    /// `&mut self` so that no search, which has `&self`, can call it.
-    pub(super) fn blocks(&mut self, alloc: Global) -> Result<Blocks, AllocError>
+    /// The blocks of the first codes, which are made of all runs. It counts no look, and takes `&mut self`
+    /// so that no search, which has `&self`, can call it.
+    pub(super) fn made(&mut self, alloc: Global) -> Result<BlockMaker, AllocError>
         requires { IsInOrder self.old.runs }
-        ensures blocks { IfOk result (λ blocks. AreBlocks self.old.runs blocks) }
+        ensures made { IfOk result (AreMadeBy self.old.runs (length self.old.runs)) }
         ensures same { self.new ≡ self.old }
     {
-        let run_count = self.run_count();
-        let most = self.most_blocks();
-        let mut list = Vec::with_capacity(alloc, most)?;
-        let (mut ended, mut begun, mut code) = (0, 0, 0);
-        while ended < run_count && list.len() < most {
-            code += BLOCK_LEN;
-            let (block, count) = self.next_block(ended, begun, code);
-            list.push_reserved(block);
-            begun = count;
-            ended = self.ended_before(ended, begun, code);
+        let mut maker = BlockMaker::with_room(alloc, self.most_blocks())?;
+        let mut next = 0;
+        for index in 0..self.run_count() {
+            if maker.is_full() {
+                break;
+            }
+            let run = self.run_at(index);
+            maker.end_before(u64::from(run.low), index, next);
+            maker.add_start(run.low);
+            next = u64::from(run.high) + 1;
         }
-        let left = run_count - ended;
-        let end = self.end();
-        Ok(Blocks { list, left, end })
+        Ok(maker)
+    }
+
+    /// The blocks that were made of all runs, up to the end of the last one. It counts no look, as `made`
+    /// doesn't.
+    pub(super) fn finished(&mut self, maker: BlockMaker) -> Blocks
+        requires order { IsInOrder self.old.runs }
+        requires made { AreMadeBy self.old.runs (length self.old.runs) maker }
+        ensures blocks { AreBlocks self.old.runs result }
+        ensures same { self.new ≡ self.old }
+    {
+        let mut maker = maker;
+        let (run_count, end) = (self.run_count(), self.end());
+        maker.end_before(end + u64::from(BLOCK_LEN) - 1, run_count, end);
+        let left = run_count - self.ended_before(maker.begun, maker.code());
+        let list = maker.list;
+        Blocks { list, left, end }
     }
 
     /// The code after those of all runs.
     fn end(&self) -> u64
         requires { IsInOrder self.now.runs }
-        ensures { All (λ run. run.high < result) self.now.runs }
+        ensures after { All (λ run. run.high < result) self.now.runs }
+        ensures fits { result ≤ 2 ^ 32 }
     {
         match self.run_count() {
             0 => 0,
@@ -244,94 +261,25 @@ impl<T: HasRange> Held<T> {
         }
     }
 
-    /// The block that ends before `code`, and how many runs begin before its end. The first `begun` begin
-    /// before it, and the first `ended` are known to end before it.
-    fn next_block(&self, ended: usize, begun: usize, code: u32) -> (Block, usize)
-        requires order { IsInOrder self.now.runs }
-        requires code { (32 ≤ code) × (code % 32 ≡ 0) }
-        requires few { code ≤ 2 ^ 16 }
-        requires within { (ended ≤ begun) × (begun ≤ length self.now.runs) }
-        requires begun { AllWithin (λ run. run.low < code - 32) self.now.runs 0 begun }
-        requires later { AllWithin (λ run. code - 32 ≤ run.low) self.now.runs begun
-            (length self.now.runs) }
-        requires ended { AllWithin (λ run. run.high < code - 32) self.now.runs 0 ended }
-        ensures block { (place : ℕ) → place < 32
-            → MayHold self.now.runs (code - 32 + place) (begun_by result.0 place) }
-        ensures within { (begun ≤ result.1) × (result.1 ≤ length self.now.runs) }
-        ensures before { AllWithin (λ run. run.low < code) self.now.runs 0 result.1 }
-        ensures after { AllWithin (λ run. code ≤ run.low) self.now.runs result.1
-            (length self.now.runs) }
-    {
-        let (starts, count) = self.starts_before(begun, code);
-        let block = if count == ended {
-            Block {
-                begun: NO_RUN,
-                starts: 0,
-            }
-        } else {
-            Block {
-                begun: begun as u32,
-                starts,
-            }
-        };
-        (block, count)
-    }
-
-    /// How many blocks may be made. Few runs need none but those of the first codes, where the notdefs
-    /// of most files lie.
+    /// How many blocks may be made.
     fn most_blocks(&self) -> usize
         ensures { result ≤ 2048 }
     {
         match self.run_count() {
             0 => 0,
-            _ if self.run_at(0).low >= BLOCK_LEN * MOST_BLOCKS as u32 => 0,
-            1..FEWEST_RUNS => 1,
-            _ => MOST_BLOCKS,
+            count => most_blocks(count, u64::from(self.run_at(0).low)),
         }
     }
 
-    /// Where runs begin in the block that ends before `code`, and how many begin before its end. The first
-    /// `begun` begin before it.
-    fn starts_before(&self, begun: usize, code: u32) -> (u32, usize)
-        requires order { IsInOrder self.now.runs }
-        requires code { (32 ≤ code) × (code % 32 ≡ 0) }
-        requires within { begun ≤ length self.now.runs }
-        requires begun { AllWithin (λ run. run.low < code - 32) self.now.runs 0 begun }
-        requires later { AllWithin (λ run. code - 32 ≤ run.low) self.now.runs begun
-            (length self.now.runs) }
-        ensures starts { (place : ℕ) → place < 32
-            → HaveBegun self.now.runs (length self.now.runs) (code - 32 + place)
-            (begun + count_ones (result.0 / 2 ^ (31 - place))) }
-        ensures within { (begun ≤ result.1) × (result.1 ≤ length self.now.runs) }
-        ensures before { AllWithin (λ run. run.low < code) self.now.runs 0 result.1 }
-        ensures after { AllWithin (λ run. code ≤ run.low) self.now.runs result.1
-            (length self.now.runs) }
-    {
-        let run_count = self.run_count();
-        let (mut starts, mut index) = (0, begun);
-        while index < run_count {
-            let low = self.run_at(index).low;
-            if low >= code {
-                break;
-            }
-            starts |= 1 << (BLOCK_LEN - 1 - low % BLOCK_LEN);
-            index += 1;
-        }
-        (starts, index)
-    }
-
-    /// How many runs end before the code, before which the first `begun` begin, and the first `ended`
-    /// are known to end.
-    fn ended_before(&self, ended: usize, begun: usize, code: u32) -> usize
+    /// How many runs end before the code, of which the first `begun` begin before it.
+    fn ended_before(&self, begun: usize, code: u64) -> usize
         requires order { IsInOrder self.now.runs }
         requires within { begun ≤ length self.now.runs }
-        requires ended { AllWithin (λ run. run.high < code) self.now.runs 0 ended }
-        requires fewer { ended ≤ begun }
         requires begun { AllWithin (λ run. run.low < code) self.now.runs 0 begun }
         ensures within { result ≤ begun }
         ensures before { AllWithin (λ run. run.high < code) self.now.runs 0 result }
     {
-        if ended < begun && self.run_at(begun - 1).high >= code {
+        if begun > 0 && u64::from(self.run_at(begun - 1).high) >= code {
             begun - 1
         } else {
             begun

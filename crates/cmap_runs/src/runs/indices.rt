@@ -1,28 +1,77 @@
 //! The indices of declarations, and whether their ranges lie apart.
 
-ghost use Rattle.std.specs.Prelude.{◌≡◌, ◌+◌, ◌-◌, ◌<◌, ◌≤◌, ◌^◌, true, ◌++◌, All, IfOk, IfSome, get_or, length, map, nat_le};
+ghost use Rattle.std.specs.Prelude.{◌≡◌, ◌+◌, ◌-◌, ◌*◌, ◌<◌, ◌≤◌, ◌^◌, true, List, All, IfOk, IfSome, get_or, length, map, nat_le};
 ghost use Rattle.std.specs.List.{range_with_len};
 ghost use Rattle.std.specs.List.Sorted.{IsNonDecreasingBy, IsPermutation};
 ghost use Rattle.std.specs.Vec.{vec_capacity, vec_len};
-ghost use Rattle.cmap_runs.specs.DeclaredRanges.{ArePlacesApart, LieApart, LieApartBefore, range_at};
+ghost use Rattle.cmap_runs.specs.DeclaredRanges.{LieApart, range_at};
+ghost use Rattle.cmap_runs.specs.Made.{AreAllMerged, IsMerged};
 ghost use Rattle.cmap_runs.specs.Parts.{AreLeft, nothing_left};
+ghost use Rattle.cmap_runs.specs.Ranges.{Span};
 
 use super::HasRange;
+use super::block_maker::BlockMaker;
+use super::blocks::{bit_of, most_blocks};
 use super::ranges::{range_at, start_at};
 use std::alloc::{AllocError, Global};
 
-/// Indices of declarations, in an order in which their ranges lie apart.
+/// Indices of declarations, in an order in which their ranges lie apart, with the blocks of these.
 #[derive(Drop)]
-struct Apart {
-    indices: Vec<u32>,
-    /// The code after the last one of their ranges.
+pub(super) struct Apart {
+    pub(super) indices: Vec<u32>,
+    /// A code after those of their ranges.
     next: u64,
+    pub(super) blocks: BlockMaker,
 }
 
 impl Apart {
+    /// Ends the blocks whose codes come before `low`, where the next range begins.
+    #[inline(always)]
+    fn end_blocks(&mut self, low: u64)
+        requires { (spans : List Span) × IsMerged spans self.old }
+        ensures merged { (spans : List Span) → IsMerged spans self.old → IsMerged spans self.new }
+        ensures begin { 32 * length self.new.blocks.list.items ≤ self.new.next }
+        ensures indices { self.new.indices ≡ self.old.indices }
+    {
+        self.blocks.end_before(low, self.indices.len(), self.next);
+        self.next = self.next.max(self.blocks.code());
+    }
+
+    /// Adds the indices of a part, up to one whose range begins at `limit` or later, and answers where it
+    /// came to; `None` where not all ranges lie apart.
+    #[inline(always)]
+    fn add_part<T: HasRange>(&mut self, declarations: &[T], part: &Part, limit: u64) -> Option<u32>
+        requires first { part.now.next ≤ part.now.end }
+        requires end { part.now.end ≤ length declarations.now }
+        requires room { vec_len self.old.indices + (part.now.end - part.now.next)
+            ≤ vec_capacity self.old.indices }
+        requires merged { IsMerged (map T.span declarations.now) self.old }
+        ensures within { IfSome result (λ next. (part.now.next ≤ next) × (next ≤ part.now.end)) }
+        ensures len { IfSome result
+            (λ next. vec_len self.new.indices ≡ vec_len self.old.indices + (next - part.now.next)) }
+        ensures capacity { vec_capacity self.old.indices ≤ vec_capacity self.new.indices }
+        ensures merged { IfSome result (λ _. IsMerged (map T.span declarations.now) self.new) }
+    {
+        let mut index = part.next;
+        while index < part.end {
+            let low = u64::from(range_at(declarations, index).low);
+            if limit <= low {
+                break;
+            }
+            self.end_blocks(low);
+            let bound = limit.min(self.blocks.end());
+            let next = self.add_to_block(declarations, index, part.end, bound)?;
+            if next == index {
+                return None;
+            }
+            index = next;
+        }
+        Some(index)
+    }
+
     /// Adds the indices from `first` on and before `end`, up to one whose range begins at `limit` or
     /// later, and answers where it came to; `None` where not all ranges lie apart.
-    fn add_part<T: HasRange>(
+    fn add_to_block<T: HasRange>(
         &mut self,
         declarations: &[T],
         first: u32,
@@ -32,15 +81,17 @@ impl Apart {
         requires first { first ≤ end }
         requires end { end ≤ length declarations.now }
         requires room { vec_len self.old.indices + (end - first) ≤ vec_capacity self.old.indices }
+        requires begin { 32 * length self.old.blocks.list.items ≤ self.old.next }
+        requires limit { length self.old.blocks.list.items < self.old.blocks.most
+            → limit ≤ 32 * length self.old.blocks.list.items + 32 }
         ensures within { IfSome result (λ next. (first ≤ next) × (next ≤ end)) }
         ensures len { IfSome result
             (λ next. vec_len self.new.indices ≡ vec_len self.old.indices + (next - first)) }
         ensures capacity { vec_capacity self.old.indices ≤ vec_capacity self.new.indices }
-        ensures apart { IfSome result
-            (λ _. LieApartBefore (map T.span declarations.now) self.old.indices.items self.old.next
-            → LieApartBefore (map T.span declarations.now) self.new.indices.items self.new.next) }
+        ensures merged { IfSome result (λ _. IsMerged (map T.span declarations.now) self.old
+            → IsMerged (map T.span declarations.now) self.new) }
     {
-        let (mut index, mut next) = (first, self.next);
+        let (mut index, mut next, mut starts) = (first, self.next, self.blocks.starts);
         while index < end {
             let range = range_at(declarations, index);
             let low = u64::from(range.low);
@@ -51,10 +102,12 @@ impl Apart {
                 return None;
             }
             self.indices.push_reserved(index);
+            starts |= bit_of(range.low);
             next = u64::from(range.high) + 1;
             index += 1;
         }
         self.next = next;
+        self.blocks.starts = starts;
         Some(index)
     }
 }
@@ -66,7 +119,7 @@ const MOST_PARTS: usize = 8;
 const LONG_STEP: u32 = 16;
 
 /// What is left of a part of a list of declarations, in which the first codes ascend.
-#[derive(Drop)]
+#[derive(Clone, Copy)]
 struct Part {
     /// The index of the next declaration.
     next: u32,
@@ -76,35 +129,33 @@ struct Part {
     start: u64,
 }
 
-/// The indices of the declarations, in the order of their codes, where they are a few parts that
-/// ascend, as single codes and then ranges do, and all ranges lie apart.
-pub(super) fn indices_of_parts<T: HasRange>(
+/// The indices of the declarations, in the order of their codes, with the blocks of their ranges, where
+/// they are a few parts that ascend, as single codes and then ranges do, and all ranges lie apart.
+pub(super) fn merged_parts<T: HasRange>(
     alloc: Global,
     declarations: &[T],
     count: u32,
-) -> Result<Option<Vec<u32>>, AllocError>
+) -> Result<Option<Apart>, AllocError>
     requires { count ≡ length declarations.now }
-    ensures { IfOk result (λ indices. IfSome indices
-        (λ indices. ArePlacesApart (map T.span declarations.now) indices.items)) }
+    ensures { IfOk result (λ found. IfSome found (AreAllMerged (map T.span declarations.now))) }
 {
-    match indices_by_steps(alloc, declarations, count, LONG_STEP)? {
-        Some(indices) => Ok(Some(indices)),
-        None => indices_by_steps(alloc, declarations, count, 1),
+    match merged_by_steps(alloc, declarations, count, LONG_STEP)? {
+        Some(apart) => Ok(Some(apart)),
+        None => merged_by_steps(alloc, declarations, count, 1),
     }
 }
 
 /// The same, where a part is seen to end only at each `step`th declaration. Where ends stay unseen
 /// there may be no answer.
-fn indices_by_steps<T: HasRange>(
+fn merged_by_steps<T: HasRange>(
     alloc: Global,
     declarations: &[T],
     count: u32,
     step: u32,
-) -> Result<Option<Vec<u32>>, AllocError>
+) -> Result<Option<Apart>, AllocError>
     requires count { count ≡ length declarations.now }
     requires step { 0 < step }
-    ensures { IfOk result (λ indices. IfSome indices
-        (λ indices. ArePlacesApart (map T.span declarations.now) indices.items)) }
+    ensures { IfOk result (λ found. IfSome found (AreAllMerged (map T.span declarations.now))) }
 {
     match ascending_parts(alloc, declarations, count, step)? {
         Some(parts) => merged(alloc, declarations, count, parts),
@@ -112,37 +163,48 @@ fn indices_by_steps<T: HasRange>(
     }
 }
 
-/// The indices of the declarations of parts, in the order of their codes; `None` where not all ranges
-/// lie apart.
+/// The declarations of parts, in the order of their codes; `None` where not all ranges lie apart.
 fn merged<T: HasRange>(
     alloc: Global,
     declarations: &[T],
     count: u32,
     parts: Vec<Part>,
-) -> Result<Option<Vec<u32>>, AllocError>
+) -> Result<Option<Apart>, AllocError>
     requires count { count ≡ length declarations.now }
     requires parts { AreLeft parts.items count }
-    ensures { IfOk result (λ indices. IfSome indices
-        (λ indices. ArePlacesApart (map T.span declarations.now) indices.items)) }
+    ensures { IfOk result (λ found. IfSome found (AreAllMerged (map T.span declarations.now))) }
 {
     let mut parts = parts;
+    let most = match parts.first() {
+        Some(part) => most_blocks(declarations.len(), part.start),
+        None => 0,
+    };
+    let blocks = BlockMaker::with_room(alloc, most)?;
     let indices = Vec::with_capacity(alloc, count as usize)?;
-    let mut apart = Apart { indices, next: 0 };
-    while let Some((first, end, limit)) = first_part(parts.as_slice()) {
-        let Some(next) = apart.add_part(declarations, first, end, limit) else {
+    let mut apart = Apart {
+        indices,
+        next: 0,
+        blocks,
+    };
+    while let Some((part, limit)) = first_part(parts.as_slice()) {
+        let Some(next) = apart.add_part(declarations, &part, limit) else {
             return Ok(None);
         };
-        if next == first {
+        if next == part.next {
             return Ok(None);
         }
-        let start = start_before(declarations, next, end);
-        parts[0] = Part { next, end, start };
+        let start = start_before(declarations, next, part.end);
+        parts[0] = Part {
+            next,
+            end: part.end,
+            start,
+        };
         move_first(&mut parts);
     }
     if apart.indices.len() != declarations.len() {
         return Ok(None);
     }
-    Ok(Some(apart.indices))
+    Ok(Some(apart))
 }
 
 /// The parts in which the first codes ascend, in the order of their first codes; `None` where they are
@@ -174,12 +236,11 @@ fn ascending_parts<T: HasRange>(
 
 /// What is left of the first part, and the first code of the part after it; `None` where nothing is
 /// left.
-fn first_part(parts: &[Part]) -> Option<(u32, u32, u64)>
-    ensures { IfSome result (λ first. (0 < length parts.now)
-        × (first.0 ≡ (get_or parts.now 0 nothing_left).next)
-        × (first.1 ≡ (get_or parts.now 0 nothing_left).end)) }
+fn first_part(parts: &[Part]) -> Option<(Part, u64)>
+    ensures { IfSome result
+        (λ first. (0 < length parts.now) × (first.0 ≡ get_or parts.now 0 nothing_left)) }
 {
-    let part = parts.first()?;
+    let part = *parts.first()?;
     if part.start == u64::MAX {
         return None;
     }
@@ -187,7 +248,7 @@ fn first_part(parts: &[Part]) -> Option<(u32, u32, u64)>
         Some(other) => other.start,
         None => u64::MAX,
     };
-    Some((part.next, part.end, limit))
+    Some((part, limit))
 }
 
 /// Moves the first part behind all those whose first codes are less.

@@ -5,12 +5,14 @@ ghost use Rattle.std.specs.List.{range_with_len};
 ghost use Rattle.std.specs.List.Sorted.{IsNonDecreasingBy, IsPermutation};
 ghost use Rattle.cmap_runs.specs.DeclaredRanges.{AreRanges, range_at};
 ghost use Rattle.cmap_runs.specs.HeldRuns.{AreHeld};
+ghost use Rattle.cmap_runs.specs.Made.{AreFound};
 ghost use Rattle.cmap_runs.specs.OpenRanges.{IsGreatest, IsSwept, StayOpen};
 ghost use Rattle.cmap_runs.specs.Ranges.{AreRunsBelow, Span, runs_of};
 
 use super::HasRange;
+use super::block_maker::BlockMaker;
 use super::held::{Run, RunList, Runs};
-use super::indices::{are_apart, indices_in_order, indices_of_parts};
+use super::indices::{Apart, are_apart, indices_in_order, merged_parts};
 use super::open::OpenRanges;
 use super::ranges::{ranges_at, ranges_of};
 use std::alloc::{AllocError, Global};
@@ -18,13 +20,24 @@ use std::alloc::{AllocError, Global};
 /// How many codes there are.
 const CODE_COUNT: u64 = 1 << 32;
 
+/// The runs of declarations, and their blocks where some are made already.
+#[derive(Drop)]
+pub(super) struct Found {
+    pub(super) runs: RunList,
+    pub(super) blocks: Option<BlockMaker>,
+}
+
 /// The runs of the declarations.
-pub(super) fn runs_of<T: HasRange>(alloc: Global, declarations: &[T]) -> Result<RunList, AllocError>
-    ensures { IfOk result (AreHeld (map T.span declarations.now)) }
+pub(super) fn runs_of<T: HasRange>(alloc: Global, declarations: &[T]) -> Result<Found, AllocError>
+    ensures { IfOk result
+        (λ found. AreFound (map T.span declarations.now) found.runs found.blocks) }
 {
     match u32::try_from(declarations.len()) {
         Ok(count) => runs_by_index(alloc, declarations, count),
-        Err(_) => sorted_and_swept(alloc, ranges_of(alloc, declarations)?),
+        Err(_) => Ok(Found {
+            runs: sorted_and_swept(alloc, ranges_of(alloc, declarations)?)?,
+            blocks: None,
+        }),
     }
 }
 
@@ -33,17 +46,30 @@ fn runs_by_index<T: HasRange>(
     alloc: Global,
     declarations: &[T],
     count: u32,
-) -> Result<RunList, AllocError>
+) -> Result<Found, AllocError>
     requires { count ≡ length declarations.now }
-    ensures { IfOk result (AreHeld (map T.span declarations.now)) }
+    ensures { IfOk result
+        (λ found. AreFound (map T.span declarations.now) found.runs found.blocks) }
 {
-    match indices_of_parts(alloc, declarations, count)? {
-        Some(indices) => Ok(RunList::Ranges(indices)),
-        None => runs_in_order(
-            alloc,
-            declarations,
-            indices_in_order(alloc, declarations, count)?,
-        ),
+    match merged_parts(alloc, declarations, count)? {
+        Some(
+            Apart {
+                indices,
+                blocks,
+                ..
+            },
+        ) => Ok(Found {
+            runs: RunList::Ranges(indices),
+            blocks: Some(blocks),
+        }),
+        None => Ok(Found {
+            runs: runs_in_order(
+                alloc,
+                declarations,
+                indices_in_order(alloc, declarations, count)?,
+            )?,
+            blocks: None,
+        }),
     }
 }
 

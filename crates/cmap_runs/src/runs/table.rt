@@ -63,9 +63,13 @@ impl<T: HasRange> Table<T> {
         // Gives back the capacity that wasn't used.
         let mut list = list;
         list.shrink_to_fit();
-        let runs = runs_of(alloc, list.as_slice())?;
-        let mut held = Held::new(list, runs);
-        let blocks = held.blocks(alloc)?;
+        let found = runs_of(alloc, list.as_slice())?;
+        let mut held = Held::new(list, found.runs);
+        let maker = match found.blocks {
+            Some(maker) => maker,
+            None => held.made(alloc)?,
+        };
+        let blocks = held.finished(maker);
         Ok(Table { held, blocks })
     }
 

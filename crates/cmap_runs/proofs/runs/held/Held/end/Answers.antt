@@ -4,8 +4,8 @@ use Rattle.std.proofs.lemmas.Option.{get_or_from_slice_get}
 use Rattle.cmap_runs.specs.Ranges.{Run}
 use Rattle.cmap_runs.proofs.runs.held.Held.end.Goals as goal
 
-pub returns-in_default : goal.returns-in_default
-returns-in_default g c = λ k d within.
+pub returns-in_default-clause-after : goal.returns-in_default-clause-after
+returns-in_default-clause-after g c = λ k d within.
     let runs = c.args.self.now.runs in let last = c.run_count.result - 1 in
     let high = ap (λ (run : Run). run.high) (c.from.view_is ∙ sym (get_or_from_slice_get runs last _ d c.run_at.ensures)) in
     elim (cases_lt k last) [

@@ -1,16 +1,16 @@
 use Rattle.std.proofs.Common.{◌≡◌, ◌+◌, ◌-◌, ◌≤◌, map}
 use Rattle.std.specs.Vec.{vec_capacity, vec_len}
-use Rattle.cmap_runs.specs.DeclaredRanges.{LieApartBefore}
+use Rattle.cmap_runs.specs.Made.{IsMerged}
 use Rattle.cmap_runs.proofs.runs.indices.Apart.add_part.Given as goal
 
 abbrev pub invariant-loop-index : goal.invariant-loop-index
 invariant-loop-index g l = record {
-  begin : l.first ≤ l.index;
-  within : l.index ≤ l.end;
-  len : vec_len l.self.indices ≡ vec_len l.fn.self.indices + (l.index - l.first);
+  begin : l.part.next ≤ l.index;
+  within : l.index ≤ l.part.end;
+  len : vec_len l.self.indices ≡ vec_len l.fn.self.indices + (l.index - l.part.next);
   capacity : vec_capacity l.fn.self.indices ≤ vec_capacity l.self.indices;
-  apart : LieApartBefore (map g.T.HasRange.span l.declarations) l.fn.self.indices.items l.fn.self.next → LieApartBefore (map g.T.HasRange.span l.declarations) l.self.indices.items l.next;
+  merged : IsMerged (map g.T.HasRange.span l.declarations) l.self;
 }
 
 abbrev pub decreases-loop-index : goal.decreases-loop-index
-decreases-loop-index g l = l.end - l.index
+decreases-loop-index g l = l.part.end - l.index
