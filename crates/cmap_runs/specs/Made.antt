@@ -1,5 +1,5 @@
 -- Private aid: ranges that are merged, with blocks that are made of them.
-use Rattle.std.specs.Prelude.{ℕ, List, Option, IfSome, length, map}
+use Rattle.std.specs.Prelude.{ℕ, ◌*◌, ◌≤◌, List, Option, IfSome, length, map}
 use Rattle.cmap_runs.specs.Blocks.{AreMade}
 use Rattle.cmap_runs.specs.DeclaredRanges.{ArePlacesApart, LieApartBefore, range_at}
 use Rattle.cmap_runs.specs.HeldRuns.{AreHeld, runs_held}
@@ -15,6 +15,7 @@ AreMadeBy runs count maker = AreMade runs count maker.list.items maker.most make
 -- the ranges at the indices lie apart before the code, and the blocks are made of all of them
 pub record AreMerged (spans : List Span) (indices : List ℕ) (next : ℕ) (list : List Block) (most begun starts : ℕ) : Type 0 where
   pub lie : LieApartBefore spans indices next
+  pub begin : 32 * length list ≤ next
   pub made : AreMade (map (range_at spans) indices) (length (map (range_at spans) indices)) list most begun starts
 
 abbrev pub IsMerged : List Span → Apart → Type 0

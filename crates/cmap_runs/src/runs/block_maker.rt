@@ -1,6 +1,6 @@
 //! Blocks that are made while runs come in the order of their codes.
 
-ghost use Rattle.std.specs.Prelude.{◌≤◌, vec_capacity, vec_len};
+ghost use Rattle.std.specs.Prelude.{◌+◌, ◌*◌, ◌<◌, ◌≤◌, vec_capacity, vec_len};
 
 use super::blocks::{BLOCK_LEN, Block, NO_RUN, bit_of};
 use std::alloc::{AllocError, Global};
@@ -15,11 +15,14 @@ pub(super) struct BlockMaker {
     pub(super) begun: usize,
     /// A bit for each code of the open block at which a run begins, that of the first code high.
     pub(super) starts: u32,
+    /// The code after those of the open block; one above all codes where no more blocks may be made.
+    pub(super) end: u64,
+    ghost ends: { vec_len list < most → end ≤ 32 * vec_len list + 32 },
     ghost room: { (most ≤ 2048) × (vec_len list ≤ most) × (most ≤ vec_capacity list) × (begun ≤ 65536) },
 }
 
 impl BlockMaker {
-    ghost use Rattle.std.specs.Prelude.{◌≡◌, ◌+◌, ◌-◌, ◌*◌, ◌%◌, ◌^◌, ◌<◌, ℕ, true, false, List, IfOk, bit_or, length};
+    ghost use Rattle.std.specs.Prelude.{◌≡◌, ◌-◌, ◌%◌, ◌^◌, ℕ, [], true, false, List, IfOk, bit_or, length};
     ghost use Rattle.std.specs.List.{AllWithin};
     ghost use Rattle.cmap_runs.specs.Made.{AreMadeBy};
     ghost use Rattle.cmap_runs.specs.Order.{IsInOrder};
@@ -28,14 +31,15 @@ impl BlockMaker {
     /// No blocks so far, and room for this many.
     pub(super) fn with_room(alloc: Global, most: usize) -> Result<BlockMaker, AllocError>
         requires { most ≤ 2048 }
-        ensures { IfOk result (λ maker. (runs : List Run)
-            → AreMadeBy runs 0 maker) }
+        ensures made { IfOk result (λ maker. (runs : List Run) → AreMadeBy runs 0 maker) }
+        ensures none { IfOk result (λ maker. maker.list.items ≡ []) }
     {
         Ok(BlockMaker {
             list: Vec::with_capacity(alloc, most)?,
             most,
             begun: 0,
             starts: 0,
+            end: u64::from(BLOCK_LEN),
         })
     }
 
@@ -56,9 +60,8 @@ impl BlockMaker {
         u64::from(BLOCK_LEN) * self.list.len() as u64
     }
 
-    /// The code after those of the open block; one above all codes where no more blocks may be made.
-    #[inline(always)]
-    pub(super) fn end(&self) -> u64
+    /// Where the open block ends.
+    fn open_end(&self) -> u64
         ensures { length self.now.list.items < self.now.most
             → result ≡ 32 * length self.now.list.items + 32 }
     {
@@ -100,6 +103,7 @@ impl BlockMaker {
             self.begun = count;
             self.starts = 0;
         }
+        self.end = self.open_end();
     }
 
     /// Marks the start of a run in the open block.
@@ -107,6 +111,7 @@ impl BlockMaker {
         ensures list { self.new.list ≡ self.old.list }
         ensures most { self.new.most ≡ self.old.most }
         ensures begun { self.new.begun ≡ self.old.begun }
+        ensures end { self.new.end ≡ self.old.end }
         ensures starts { self.new.starts
             ≡ bit_or self.old.starts (1 * 2 ^ (31 - low % 32) % 2 ^ 32) }
     {

@@ -226,7 +226,9 @@ impl<T: HasRange> Held<T> {
                 break;
             }
             let run = self.run_at(index);
-            maker.end_before(u64::from(run.low), index, next);
+            if maker.end <= u64::from(run.low) {
+                maker.end_before(u64::from(run.low), index, next);
+            }
             maker.add_start(run.low);
             next = u64::from(run.high) + 1;
         }

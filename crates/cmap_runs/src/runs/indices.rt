@@ -30,11 +30,14 @@ impl Apart {
     fn end_blocks(&mut self, low: u64)
         requires { (spans : List Span) × IsMerged spans self.old }
         ensures merged { (spans : List Span) → IsMerged spans self.old → IsMerged spans self.new }
-        ensures begin { 32 * length self.new.blocks.list.items ≤ self.new.next }
+        ensures ended { length self.new.blocks.list.items < self.new.blocks.most
+            → low < 32 * length self.new.blocks.list.items + 32 }
         ensures indices { self.new.indices ≡ self.old.indices }
     {
-        self.blocks.end_before(low, self.indices.len(), self.next);
-        self.next = self.next.max(self.blocks.code());
+        if self.blocks.end <= low {
+            self.blocks.end_before(low, self.indices.len(), self.next);
+            self.next = self.next.max(self.blocks.code());
+        }
     }
 
     /// Adds the indices of a part, up to one whose range begins at `limit` or later, and answers where it
@@ -59,7 +62,7 @@ impl Apart {
                 break;
             }
             self.end_blocks(low);
-            let bound = limit.min(self.blocks.end());
+            let bound = limit.min(self.blocks.end);
             let next = self.add_to_block(declarations, index, part.end, bound)?;
             if next == index {
                 return None;
@@ -81,15 +84,14 @@ impl Apart {
         requires first { first ≤ end }
         requires end { end ≤ length declarations.now }
         requires room { vec_len self.old.indices + (end - first) ≤ vec_capacity self.old.indices }
-        requires begin { 32 * length self.old.blocks.list.items ≤ self.old.next }
+        requires merged { IsMerged (map T.span declarations.now) self.old }
         requires limit { length self.old.blocks.list.items < self.old.blocks.most
             → limit ≤ 32 * length self.old.blocks.list.items + 32 }
         ensures within { IfSome result (λ next. (first ≤ next) × (next ≤ end)) }
         ensures len { IfSome result
             (λ next. vec_len self.new.indices ≡ vec_len self.old.indices + (next - first)) }
         ensures capacity { vec_capacity self.old.indices ≤ vec_capacity self.new.indices }
-        ensures merged { IfSome result (λ _. IsMerged (map T.span declarations.now) self.old
-            → IsMerged (map T.span declarations.now) self.new) }
+        ensures merged { IfSome result (λ _. IsMerged (map T.span declarations.now) self.new) }
     {
         let (mut index, mut next, mut starts) = (first, self.next, self.blocks.starts);
         while index < end {

@@ -48,7 +48,8 @@ loop-part-init g c =
       left = left;
       merged = record {
         lie = subst (λ items. LieApartBefore spans items 0) (sym c.in_ok-indices.ensures.items) (LieApartBefore-none spans);
-        made = subst (λ items. AreMadeBy (map (range_at spans) items) (length (map (range_at spans) items)) c.in_ok-blocks.blocks) (sym c.in_ok-indices.ensures.items) (c.in_ok-blocks.ensures []);
+        begin = omega (arith, ap length c.in_ok-blocks.ensures.none);
+        made = subst (λ items. AreMadeBy (map (range_at spans) items) (length (map (range_at spans) items)) c.in_ok-blocks.blocks) (sym c.in_ok-indices.ensures.items) (c.in_ok-blocks.ensures.made []);
       };
       room = omega (arith, left.few, c.in_ok-indices.ensures.len, c.in_ok-indices.ensures.capacity);
     }

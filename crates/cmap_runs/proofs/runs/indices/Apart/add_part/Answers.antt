@@ -4,13 +4,13 @@ use Rattle.cmap_runs.proofs.runs.indices.Apart.add_part.Goals as goal
 
 pub loop-index-preserved : goal.loop-index-preserved
 loop-index-preserved g c =
-    let spans = map g.T.HasRange.span c.args.declarations.now in let old = c.loop-index.invariant in let now = c.in_ok-next.ensures in
+    let old = c.loop-index.invariant in let now = c.in_ok-next.ensures in
     record {
       begin = omega (arith, old.begin, now.within.0);
       within = now.within.1;
       len = omega (arith, old.len, now.len, ap vec_len c.end_blocks.ensures.indices, old.begin, now.within.0);
       capacity = omega (arith, old.capacity, c.add_to_block.ensures.capacity, ap vec_capacity c.end_blocks.ensures.indices);
-      merged = now.merged (c.end_blocks.ensures.merged spans old.merged);
+      merged = now.merged;
     }
 
 pub loop-index-smaller : goal.loop-index-smaller
@@ -29,6 +29,6 @@ add_to_block-requires g c =
       first = old.within;
       end = c.requires.end;
       room = omega (arith, old.len, old.capacity, old.begin, old.within, c.requires.room, ap vec_len c.end_blocks.ensures.indices, ap vec_capacity c.end_blocks.ensures.indices);
-      begin = c.end_blocks.ensures.begin;
-      limit = λ more. omega (arith, c.min-bound.ensures, c.end.ensures more);
+      merged = c.end_blocks.ensures.merged (map g.T.HasRange.span c.args.declarations.now) old.merged;
+      limit = λ more. omega (arith, c.min-bound.ensures, c.end_blocks.new.self.blocks.ends (omega (arith, more, c.end_blocks.new.self.blocks.list.ok.0)), c.end_blocks.new.self.blocks.list.ok.0);
     }

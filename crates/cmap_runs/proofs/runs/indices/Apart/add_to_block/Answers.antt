@@ -19,18 +19,17 @@ loop-index-preserved g c =
       len = omega (arith, pushed.len, old.len);
       capacity = omega (arith, pushed.capacity, old.capacity);
       blocks = old.blocks;
-      later = omega (arith, old.later, low);
-      merged = λ are.
+      merged =
           subst (λ items. AreMerged spans items (c.from-next.result + 1) list c.loop-index.self.blocks.most c.loop-index.self.blocks.begun (bit_or c.loop-index.starts c.bit_of-starts.result)) (sym pushed.items)
           (subst (λ high. AreMerged spans (c.loop-index.self.indices.items ++ index ∷ []) (high + 1) list c.loop-index.self.blocks.most c.loop-index.self.blocks.begun (bit_or c.loop-index.starts c.bit_of-starts.result)) (sym c.from-next.ensures)
           (subst (λ bit. AreMerged spans (c.loop-index.self.indices.items ++ index ∷ []) (c.range.inside.high + 1) list c.loop-index.self.blocks.most c.loop-index.self.blocks.begun (bit_or c.loop-index.starts bit)) (sym c.bit_of-starts.ensures)
           (AreMerged-push spans c.loop-index.self.indices.items index c.loop-index.next c.range.inside.low c.range.inside.high list c.loop-index.self.blocks.most c.loop-index.self.blocks.begun c.loop-index.starts
-          (old.merged are) old.later (λ more. omega (arith, below more)) (sym low) (sym high) (omega arith) (omega arith) (omega arith))));
+          old.merged (λ more. omega (arith, below more)) (sym low) (sym high) (omega arith) (omega arith) (omega arith))));
     }
 
 pub loop-index-init : goal.loop-index-init
 loop-index-init g c =
-    record { begin = omega arith; within = c.requires.first; len = omega arith; capacity = omega arith; blocks = refl; later = c.requires.begin; merged = λ are. are }
+    record { begin = omega arith; within = c.requires.first; len = omega arith; capacity = omega arith; blocks = refl; merged = c.requires.merged }
 
 pub range_at-range-requires : goal.range_at-range-requires
 range_at-range-requires g c = omega (arith, c.requires.end)

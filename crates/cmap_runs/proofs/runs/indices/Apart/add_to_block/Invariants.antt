@@ -1,6 +1,6 @@
-use Rattle.std.proofs.Common.{◌≡◌, ◌+◌, ◌-◌, ◌*◌, ◌≤◌, length, map}
+use Rattle.std.proofs.Common.{◌≡◌, ◌+◌, ◌-◌, ◌≤◌, map}
 use Rattle.std.specs.Vec.{vec_capacity, vec_len}
-use Rattle.cmap_runs.specs.Made.{AreMerged, IsMerged}
+use Rattle.cmap_runs.specs.Made.{AreMerged}
 use Rattle.cmap_runs.proofs.runs.indices.Apart.add_to_block.Given as goal
 
 abbrev pub invariant-loop-index : goal.invariant-loop-index
@@ -10,9 +10,7 @@ invariant-loop-index g l = record {
   len : vec_len l.self.indices ≡ vec_len l.fn.self.indices + (l.index - l.first);
   capacity : vec_capacity l.fn.self.indices ≤ vec_capacity l.self.indices;
   blocks : l.self.blocks ≡ l.fn.self.blocks;
-  later : 32 * length l.self.blocks.list.items ≤ l.next;
-  merged : IsMerged (map g.T.HasRange.span l.declarations) l.fn.self
-      → AreMerged (map g.T.HasRange.span l.declarations) l.self.indices.items l.next l.self.blocks.list.items l.self.blocks.most l.self.blocks.begun l.starts;
+  merged : AreMerged (map g.T.HasRange.span l.declarations) l.self.indices.items l.next l.self.blocks.list.items l.self.blocks.most l.self.blocks.begun l.starts;
 }
 
 abbrev pub decreases-loop-index : goal.decreases-loop-index
