@@ -1,6 +1,7 @@
 -- Private aid: what is left of parts of a list of declarations.
-use Rattle.std.specs.Prelude.{ℕ, ◌-◌, ◌≤◌, List, All, sum_by}
+use Rattle.std.specs.Prelude.{ℕ, ◌-◌, ◌≤◌, List, ◌∷◌, All, sum_by}
 use Rattle.cmap_runs.specs.declared.runs.indices.Part.{Part}
+use Rattle.cmap_runs.specs.declared.runs.indices.Parts.{Parts}
 
 -- how many declarations
 abbrev pub left_of : List Part → ℕ
@@ -11,5 +12,5 @@ pub record AreLeft (parts : List Part) (count : ℕ) : Type 0 where
   pub each : All (λ part. (part.next ≤ part.end) × (part.end ≤ count)) parts
   pub few : left_of parts ≤ count
 
-abbrev pub nothing_left : Part
-nothing_left = record { next = 0; end = 0; start = 0 }
+abbrev pub all_parts : Parts → List Part
+all_parts parts = parts.first ∷ parts.others.items

@@ -1,12 +1,12 @@
 //! The indices of declarations, and whether their ranges lie apart.
 
-ghost use Rattle.std.specs.Prelude.{◌≡◌, ◌+◌, ◌-◌, ◌*◌, ◌<◌, ◌≤◌, ◌^◌, true, List, All, IfOk, IfSome, get_or, length, map, nat_le};
+ghost use Rattle.std.specs.Prelude.{◌≡◌, ◌+◌, ◌-◌, ◌*◌, ◌<◌, ◌≤◌, ◌^◌, true, List, [], ◌∷◌, All, IfOk, IfSome, OnOk, length, map};
 ghost use Rattle.std.specs.List.{range_with_len};
 ghost use Rattle.std.specs.List.Sorted.{IsNonDecreasingBy, IsPermutation};
 ghost use Rattle.std.specs.Vec.{vec_capacity, vec_len};
 ghost use Rattle.cmap_runs.specs.DeclaredRanges.{LieApart, range_at};
 ghost use Rattle.cmap_runs.specs.Made.{AreAllMerged, IsMerged};
-ghost use Rattle.cmap_runs.specs.Parts.{AreLeft, nothing_left};
+ghost use Rattle.cmap_runs.specs.Parts.{AreLeft, all_parts};
 ghost use Rattle.cmap_runs.specs.Ranges.{Span};
 
 use super::HasRange;
@@ -25,6 +25,17 @@ pub(super) struct Apart {
 }
 
 impl Apart {
+    /// No indices, and room for none.
+    fn none(alloc: Global) -> Result<Apart, AllocError>
+        ensures { IfOk result (AreAllMerged []) }
+    {
+        Ok(Apart {
+            indices: Vec::new(alloc),
+            next: 0,
+            blocks: BlockMaker::with_room(alloc, 0)?,
+        })
+    }
+
     /// Ends the blocks whose codes come before `low`, where the next range begins.
     #[inline(always)]
     fn end_blocks(&mut self, low: u64)
@@ -131,6 +142,60 @@ struct Part {
     start: u64,
 }
 
+/// The parts that are left of a list of declarations.
+#[derive(Drop)]
+struct Parts {
+    /// The one whose first code is the least.
+    first: Part,
+    /// The others, in the order of their first codes.
+    others: Vec<Part>,
+}
+
+impl Parts {
+    /// Adds a part.
+    fn add(&mut self, part: Part) -> Result<(), AllocError>
+        ensures { OnOk result (IsPermutation (part ∷ all_parts self.old) (all_parts self.new)) }
+    {
+        self.others.insert(0, part)?;
+        self.order();
+        Ok(())
+    }
+
+    /// Puts what is left of the first part in its place.
+    #[inline(always)]
+    fn go_on(&mut self, part: Part)
+        ensures { IsPermutation (part ∷ self.old.others.items) (all_parts self.new) }
+    {
+        self.first = part;
+        self.order();
+    }
+
+    /// Puts the first two parts in their places, where only these may be out of order.
+    #[inline(always)]
+    fn order(&mut self)
+        ensures { IsPermutation (all_parts self.old) (all_parts self.new) }
+    {
+        let first = self.first;
+        let Some(other) = self.others.first() else {
+            return;
+        };
+        if other.start < first.start {
+            self.first = *other;
+            self.others[0] = first;
+        }
+        move_first(&mut self.others);
+    }
+
+    /// The first code of all parts but the first; one above all codes where there are none.
+    #[inline(always)]
+    fn limit(&self) -> u64 {
+        match self.others.first() {
+            Some(other) => other.start,
+            None => u64::MAX,
+        }
+    }
+}
+
 /// The indices of the declarations, in the order of their codes, with the blocks of their ranges, where
 /// they are a few parts that ascend, as single codes and then ranges do, and all ranges lie apart.
 pub(super) fn merged_parts<T: HasRange>(
@@ -141,6 +206,9 @@ pub(super) fn merged_parts<T: HasRange>(
     requires { count ≡ length declarations.now }
     ensures { IfOk result (λ found. IfSome found (AreAllMerged (map T.span declarations.now))) }
 {
+    if count == 0 {
+        return Ok(Some(Apart::none(alloc)?));
+    }
     match merged_by_steps(alloc, declarations, count, LONG_STEP)? {
         Some(apart) => Ok(Some(apart)),
         None => merged_by_steps(alloc, declarations, count, 1),
@@ -156,6 +224,7 @@ fn merged_by_steps<T: HasRange>(
     step: u32,
 ) -> Result<Option<Apart>, AllocError>
     requires count { count ≡ length declarations.now }
+    requires some { 0 < count }
     requires step { 0 < step }
     ensures { IfOk result (λ found. IfSome found (AreAllMerged (map T.span declarations.now))) }
 {
@@ -170,17 +239,14 @@ fn merged<T: HasRange>(
     alloc: Global,
     declarations: &[T],
     count: u32,
-    parts: Vec<Part>,
+    parts: Parts,
 ) -> Result<Option<Apart>, AllocError>
     requires count { count ≡ length declarations.now }
-    requires parts { AreLeft parts.items count }
+    requires parts { AreLeft (all_parts parts) count }
     ensures { IfOk result (λ found. IfSome found (AreAllMerged (map T.span declarations.now))) }
 {
     let mut parts = parts;
-    let most = match parts.first() {
-        Some(part) => most_blocks(declarations.len(), part.start),
-        None => 0,
-    };
+    let most = most_blocks(declarations.len(), parts.first.start);
     let blocks = BlockMaker::with_room(alloc, most)?;
     let indices = Vec::with_capacity(alloc, count as usize)?;
     let mut apart = Apart {
@@ -188,20 +254,20 @@ fn merged<T: HasRange>(
         next: 0,
         blocks,
     };
-    while let Some((part, limit)) = first_part(parts.as_slice()) {
-        let Some(next) = apart.add_part(declarations, &part, limit) else {
+    while parts.first.start != u64::MAX {
+        let part = parts.first;
+        let Some(next) = apart.add_part(declarations, &part, parts.limit()) else {
             return Ok(None);
         };
         if next == part.next {
             return Ok(None);
         }
         let start = start_before(declarations, next, part.end);
-        parts[0] = Part {
+        parts.go_on(Part {
             next,
             end: part.end,
             start,
-        };
-        move_first(&mut parts);
+        });
     }
     if apart.indices.len() != declarations.len() {
         return Ok(None);
@@ -216,41 +282,31 @@ fn ascending_parts<T: HasRange>(
     declarations: &[T],
     count: u32,
     step: u32,
-) -> Result<Option<Vec<Part>>, AllocError>
+) -> Result<Option<Parts>, AllocError>
     requires count { count ≡ length declarations.now }
+    requires some { 0 < count }
     requires step { 0 < step }
-    ensures { IfOk result (λ parts. IfSome parts (λ parts. AreLeft parts.items count)) }
+    ensures { IfOk result (λ parts. IfSome parts (λ parts. AreLeft (all_parts parts) count)) }
 {
-    let mut parts = Vec::new(alloc);
-    let mut first = 0;
-    while first < count {
-        if parts.len() == MOST_PARTS {
+    let mut next = part_end(declarations, 0, count, step);
+    let mut parts = Parts {
+        first: Part {
+            next: 0,
+            end: next,
+            start: start_before(declarations, 0, next),
+        },
+        others: Vec::new(alloc),
+    };
+    while next < count {
+        if parts.others.len() == MOST_PARTS - 1 {
             return Ok(None);
         }
-        let (next, end) = (first, part_end(declarations, first, count, step));
+        let end = part_end(declarations, next, count, step);
         let start = start_before(declarations, next, end);
-        parts.insert(0, Part { next, end, start })?;
-        move_first(&mut parts);
-        first = end;
+        parts.add(Part { next, end, start })?;
+        next = end;
     }
     Ok(Some(parts))
-}
-
-/// What is left of the first part, and the first code of the part after it; `None` where nothing is
-/// left.
-fn first_part(parts: &[Part]) -> Option<(Part, u64)>
-    ensures { IfSome result
-        (λ first. (0 < length parts.now) × (first.0 ≡ get_or parts.now 0 nothing_left)) }
-{
-    let part = *parts.first()?;
-    if part.start == u64::MAX {
-        return None;
-    }
-    let limit = match parts.get(1) {
-        Some(other) => other.start,
-        None => u64::MAX,
-    };
-    Some((part, limit))
 }
 
 /// Moves the first part behind all those whose first codes are less.
