@@ -78,6 +78,9 @@ impl Apart {
             if next == index {
                 return None;
             }
+            if bound == limit {
+                return Some(next);
+            }
             index = next;
         }
         Some(index)
