@@ -220,17 +220,15 @@ impl<T: HasRange> Held<T> {
         ensures same { self.new ≡ self.old }
     {
         let mut maker = BlockMaker::with_room(alloc, self.most_blocks())?;
-        let mut next = 0;
         for index in 0..self.run_count() {
-            if maker.is_full() {
-                break;
+            let low = self.run_at(index).low;
+            if maker.end <= u64::from(low) {
+                maker.end_before(u64::from(low), index, self.end_of(index));
+                if maker.is_full() {
+                    break;
+                }
             }
-            let run = self.run_at(index);
-            if maker.end <= u64::from(run.low) {
-                maker.end_before(u64::from(run.low), index, next);
-            }
-            maker.add_start(run.low);
-            next = u64::from(run.high) + 1;
+            maker.add_start(low);
         }
         Ok(maker)
     }
@@ -244,22 +242,24 @@ impl<T: HasRange> Held<T> {
         ensures same { self.new ≡ self.old }
     {
         let mut maker = maker;
-        let (run_count, end) = (self.run_count(), self.end());
+        let run_count = self.run_count();
+        let end = self.end_of(run_count);
         maker.end_before(end + u64::from(BLOCK_LEN) - 1, run_count, end);
         let left = run_count - self.ended_before(maker.begun, maker.code());
         let list = maker.list;
         Blocks { list, left, end }
     }
 
-    /// The code after those of all runs.
-    fn end(&self) -> u64
-        requires { IsInOrder self.now.runs }
-        ensures after { All (λ run. run.high < result) self.now.runs }
+    /// The code after those of the first `count` runs.
+    fn end_of(&self, count: usize) -> u64
+        requires order { IsInOrder self.now.runs }
+        requires within { count ≤ length self.now.runs }
+        ensures after { AllWithin (λ run. run.high < result) self.now.runs 0 count }
         ensures fits { result ≤ 2 ^ 32 }
     {
-        match self.run_count() {
+        match count {
             0 => 0,
-            count => u64::from(self.run_at(count - 1).high) + 1,
+            _ => u64::from(self.run_at(count - 1).high) + 1,
         }
     }
 
