@@ -1,5 +1,5 @@
 -- Ranges that are merged in the order of their codes, with the blocks that are made of them.
-use Rattle.std.proofs.Common.{◌≡◌, ℕ, ◌+◌, ◌-◌, ◌*◌, ◌%◌, ◌<◌, ◌≤◌, ◌^◌, List, [], ◌∷◌, ◌++◌, length, get_or, map, sym, ap, ◌∙◌, subst, bit_or, arith}
+use Rattle.std.proofs.Common.{◌≡◌, ℕ, ◌+◌, ◌-◌, ◌*◌, ◌%◌, ◌<◌, ◌≤◌, ◌^◌, List, [], ◌∷◌, ◌++◌, length, map, sym, ap, ◌∙◌, subst, bit_or, arith}
 use Rattle.std.proofs.lemmas.List.{get_or_push, length-append, length-map, map_push}
 use Rattle.cmap_runs.specs.Blocks.{AreMade}
 use Rattle.cmap_runs.specs.DeclaredRanges.{range_at}

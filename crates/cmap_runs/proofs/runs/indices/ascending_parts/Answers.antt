@@ -1,7 +1,7 @@
 use Rattle.std.proofs.Common.{arith}
 use Rattle.cmap_runs.specs.Parts.{all_parts}
 use Rattle.cmap_runs.specs.declared.runs.indices.Part.{Part}
-use Rattle.cmap_runs.proofs.PartsLeft.{each_with_one, left_with_one, one_part}
+use Rattle.cmap_runs.proofs.PartsLeft.{each_with_one, left_with_one}
 use Rattle.cmap_runs.proofs.runs.indices.ascending_parts.Goals as goal
 
 pub loop-next-preserved : goal.loop-next-preserved

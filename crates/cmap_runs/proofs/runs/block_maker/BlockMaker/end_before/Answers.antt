@@ -1,7 +1,6 @@
-use Rattle.std.proofs.Common.{◌≡◌, ℕ, ◌+◌, ◌*◌, ◌/◌, ◌<◌, ◌≤◌, List, length, sym, ap, subst, arith}
+use Rattle.std.proofs.Common.{◌≡◌, ℕ, ◌+◌, ◌*◌, ◌/◌, ◌<◌, ◌≤◌, length, sym, ap, subst, arith}
 use Rattle.std.specs.List.{AllWithin}
 use Rattle.cmap_runs.specs.Blocks.{MayHold, begun_by}
-use Rattle.cmap_runs.specs.Ranges.{Run}
 use Rattle.cmap_runs.specs.declared.runs.blocks.Block.{Block}
 use Rattle.cmap_runs.proofs.BlocksMade.{made_more, made_of_none, made_of_open}
 use Rattle.cmap_runs.proofs.runs.block_maker.BlockMaker.end_before.Goals as goal

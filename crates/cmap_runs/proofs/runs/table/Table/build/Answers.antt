@@ -1,4 +1,4 @@
-use Rattle.std.proofs.Common.{◌≡◌, List, Option, map, ap, ◌∙◌, subst, length, sym}
+use Rattle.std.proofs.Common.{◌≡◌, List, Option, map, ap, ◌∙◌, subst, sym}
 use Rattle.std.proofs.lemmas.List.{length-map}
 use Rattle.cmap_runs.specs.DeclaredRanges.{DecidedRuns}
 use Rattle.cmap_runs.specs.Ranges.{Run, Span}
