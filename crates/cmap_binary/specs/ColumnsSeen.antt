@@ -1,6 +1,6 @@
 -- Private aid: what contracts see of the columns of a segment.
 use Rattle.std.specs.Prelude.{option_map}
-use Rattle.cmap_packed.specs.Reader.{bits_left}
+use Rattle.cmap_packed.specs.BitQueues.{bits_ahead}
 use Rattle.cmap_runs.specs.Ranges.{Span}
 use Rattle.cmap_runs.specs.declared.runs.Range.{Range}
 use Rattle.cmap_binary.specs.BinaryEntries as entries
@@ -14,7 +14,7 @@ shape_seen Ranges = entries.ranges
 shape_seen Singles = entries.singles
 
 abbrev pub columns_seen : Columns → entries.Columns
-columns_seen columns = record { deltas = bits_left columns.deltas; counts = option_map bits_left columns.counts; base = columns.base }
+columns_seen columns = record { deltas = bits_ahead columns.deltas; counts = option_map bits_ahead columns.counts; base = columns.base }
 
 abbrev pub cid_columns_seen : CidColumns → entries.CidColumns
 cid_columns_seen left = record { columns = columns_seen left.columns; raws = left.raws.now; next = left.next }

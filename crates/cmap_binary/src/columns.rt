@@ -1,7 +1,7 @@
 //! Columns of the segments of a binary file: where the codes of the entries lie.
 
 ghost use Rattle.std.specs.Prelude.{◌≡◌, ◌+◌, ◌<◌, ◌≤◌, ◌^◌, IfOk, MatchOption, option_map};
-ghost use Rattle.cmap_packed.specs.Reader.{bits_left};
+ghost use Rattle.cmap_packed.specs.BitQueues.{bits_ahead};
 ghost use Rattle.cmap_binary.specs.BinaryEntries.{ColumnsAfter, ColumnsAt, CountsAt, SpanAt, SymbolAt, WidthAt};
 ghost use Rattle.cmap_packed.specs.BundleSeen.{tables_seen};
 ghost use Rattle.cmap_binary.specs.ColumnsSeen.{columns_seen, shape_seen, span_seen};
@@ -10,7 +10,7 @@ ghost use Rattle.cmap_binary.specs.WrongSegments.{WrongSpan};
 ghost use Rattle.cmap_values.specs.Outcomes.{Finds};
 
 use cmap_packed::Tables;
-use cmap_packed::bits::Reader;
+use cmap_packed::bit_queue::BitQueue;
 use cmap_packed::pieces::take_sized;
 use cmap_packed::prefix::PrefixTable;
 use cmap_runs::runs::Range;
@@ -27,9 +27,9 @@ pub(crate) enum Shape {
 #[derive(Drop)]
 pub(crate) struct Columns<'b> {
     /// How many codes each entry leaves out after the end of the one before.
-    deltas: Reader<'b>,
+    deltas: BitQueue<'b>,
     /// How many codes more than two each entry has, where the entries are ranges.
-    pub(crate) counts: Option<Reader<'b>>,
+    pub(crate) counts: Option<BitQueue<'b>>,
     /// The first code after the entry before.
     base: u64,
 }
@@ -52,7 +52,7 @@ fn take_others<'b>(text: &mut &'b [u8], deltas: &'b [u8], shape: Shape) -> Optio
 {
     match take_counts(text, shape) {
         Some(counts) => Some(Columns {
-            deltas: Reader::new(deltas),
+            deltas: BitQueue::new(deltas),
             counts,
             base: 0,
         }),
@@ -61,13 +61,13 @@ fn take_others<'b>(text: &mut &'b [u8], deltas: &'b [u8], shape: Shape) -> Optio
 }
 
 /// The column of counts that the text begins with, where there is one.
-fn take_counts<'b>(text: &mut &'b [u8], shape: Shape) -> Option<Option<Reader<'b>>>
+fn take_counts<'b>(text: &mut &'b [u8], shape: Shape) -> Option<Option<BitQueue<'b>>>
     ensures { Finds (CountsAt (shape_seen shape) text.old.now)
-        (λ counts. (option_map bits_left counts, text.new.now)) result }
+        (λ counts. (option_map bits_ahead counts, text.new.now)) result }
 {
     match shape {
         Shape::Ranges => match take_sized(text) {
-            Some(counts) => Some(Some(Reader::new(counts))),
+            Some(counts) => Some(Some(BitQueue::new(counts))),
             None => None,
         },
         Shape::Singles => Some(None),
@@ -103,9 +103,9 @@ impl Columns<'_> {
 
 /// How far the next entry ends after its start.
 #[inline(always)]
-fn next_width(table: &PrefixTable, counts: &mut Option<Reader<'_>>) -> Option<u64>
-    ensures { Finds (WidthAt table.now (option_map bits_left counts.old))
-        (λ width. (width, option_map bits_left counts.new)) result }
+fn next_width(table: &PrefixTable, counts: &mut Option<BitQueue<'_>>) -> Option<u64>
+    ensures { Finds (WidthAt table.now (option_map bits_ahead counts.old))
+        (λ width. (width, option_map bits_ahead counts.new)) result }
 {
     match counts {
         Some(counts) => {
@@ -118,11 +118,11 @@ fn next_width(table: &PrefixTable, counts: &mut Option<Reader<'_>>) -> Option<u6
 
 /// The symbol of the code word that comes next.
 #[inline(always)]
-fn next_symbol(table: &PrefixTable, reader: &mut Reader<'_>) -> Option<u32>
-    ensures { Finds (SymbolAt table.now (bits_left reader.old))
-        (λ symbol. (symbol, bits_left reader.new)) result }
+fn next_symbol(table: &PrefixTable, bits: &mut BitQueue<'_>) -> Option<u32>
+    ensures { Finds (SymbolAt table.now (bits_ahead bits.old))
+        (λ symbol. (symbol, bits_ahead bits.new)) result }
 {
-    table.decode(reader)
+    table.take_symbol(bits)
 }
 
 /// The codes that start so far after the base; `None` where their end passes 32 bits.

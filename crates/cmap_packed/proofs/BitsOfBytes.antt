@@ -6,6 +6,7 @@ use Rattle.std.proofs.lemmas.List.Concat.{flat_map-append}
 use Rattle.std.proofs.lemmas.List.Elements.{All-append, All-cons, All-drop, All-nil}
 use Rattle.std.proofs.lemmas.Nat.{mod_below, shr-shr}
 use Rattle.std.proofs.lemmas.Option.{slice_get-get_or}
+use Rattle.cmap_packed.specs.BitQueues.{Queue, bits_ahead}
 use Rattle.cmap_packed.specs.PrefixWords.{AreBits, bits_of, bits}
 use Rattle.cmap_packed.specs.Reader.{Reading, bits_left}
 
@@ -57,6 +58,9 @@ AreBits-bits_of (suc count) n = All-cons (λ d. d < 2) _ _ (mod_below (n / 2 ^ c
 AreBits-bits : (bytes : List ℕ) → AreBits (bits bytes)
 AreBits-bits [] = All-nil (λ d. d < 2)
 AreBits-bits (b ∷ bytes) = All-append (λ d. d < 2) (bits_of 8 b) (bits bytes) (AreBits-bits_of 8 b) (AreBits-bits bytes)
+
+pub AreBits-ahead : (q : Queue) → AreBits (bits_ahead q)
+AreBits-ahead q = All-append (λ d. d < 2) (bits_of q.held q.ahead) (bits q.rest) (AreBits-bits_of q.held q.ahead) (AreBits-bits q.rest)
 
 pub AreBits-left : (r : Reading) → AreBits (bits_left r)
 AreBits-left r = All-drop (λ d. d < 2) r.taken (bits r.source) (AreBits-bits r.source)

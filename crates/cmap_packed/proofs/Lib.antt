@@ -1,5 +1,5 @@
+pub mod BitsAhead
 pub mod BitsOfBytes
-pub mod BitsPeeked
 pub mod BitsTaken
 pub mod BytesTaken
 pub mod FilesAt

@@ -1,6 +1,6 @@
 -- The word that begins bits, looked for bit by bit.
-use Rattle.std.proofs.Common.{◌≡◌, ℕ, ◌+◌, ◌*◌, ◌^◌, ◌<◌, ◌≤◌, List, [], ◌∷◌, ◌++◌, length, get_or, drop, Some, None, refl, ap, ◌∙◌, sym, arith}
-use Rattle.std.specs.Prelude.{Option}
+use Rattle.std.proofs.Common.{◌≡◌, ℕ, ◌+◌, ◌*◌, ◌^◌, ◌<◌, ◌≤◌, List, [], ◌∷◌, ◌++◌, inl, inr, length, get_or, drop, Some, None, refl, ap, ◌∙◌, sym, arith}
+use Rattle.std.specs.Prelude.{◌⊎◌, Option}
 use Rattle.std.proofs.lemmas.Bool.{lt-ltb, le-ltb}
 use Rattle.std.proofs.lemmas.List.{append-nil, append_assoc, drop_all, drop_more, get_or_append_left, length-append}
 use Rattle.std.proofs.Math.Nat.{pow-suc}
@@ -76,3 +76,13 @@ module _ {counts s : List ℕ} {p : Progress} (h : IsSearched counts s p) where
       few = omega (arith, h.few);
       same = λ more. rw (le-ltb (p.past * 2 + bit) count above) at (opened more);
     }
+
+-- whatever follows the bits, where no word is left
+pub searched_counts-on : {counts s : List ℕ} {p : Progress} → IsSearched counts s p → length counts ≤ p.len → (more : List ℕ) → first_word counts (s ++ more) ≡ None
+searched_counts-on h end more = searched_counts (IsSearched-more h more) end
+
+-- what follows the bits, where they are as many as the longest word has, or nothing does
+pub searched_end : {counts symbols s : List ℕ} {p : Progress} → IsTable counts symbols → IsSearched counts s p → (32 ≤ p.len) ⊎ (length s ≤ p.len) → (more : List ℕ) → (32 ≤ length s) ⊎ (more ≡ []) → first_word counts (s ++ more) ≡ None
+searched_end table h (inl all) more follows = searched_all (IsSearched-more h more) table all
+searched_end table h (inr end) more (inl long) = searched_all (IsSearched-more h more) table (omega (arith, end, long))
+searched_end {s = s} table h (inr end) more (inr none) = rw (none, append-nil) (searched_bits h end)

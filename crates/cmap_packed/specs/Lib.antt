@@ -1,3 +1,4 @@
+pub mod BitQueues
 pub mod BundleSeen
 pub mod Bundles
 pub mod Copies

@@ -2,9 +2,11 @@
 
 ghost use Rattle.std.specs.Prelude.{◌≡◌, ℕ, ◌/◌, ◌≤◌, ◌↔◌, Bool, List, [], ◌∷◌, ◌++◌, length, option_map, is_some, slice_get, IsTrue, IfSome, if◌then◌else◌, nat_le, ◌&&◌};
 ghost use Rattle.std.specs.List.{before_first};
+ghost use Rattle.cmap_packed.specs.BitQueues.{bits_ahead};
 ghost use Rattle.cmap_packed.specs.Reader.{bits_left, bytes_left, IsAtByte, after_bits, after_bytes, front, number_at, AnswersByByte, AnswersBy};
 ghost use Rattle.cmap_packed.specs.PrefixWords.{bits};
 
+use crate::bit_queue::BitQueue;
 use cmap_values::code_length::read_code;
 use std::marker::Model;
 
@@ -174,16 +176,6 @@ impl<'a> Reader<'a> {
         self.byte += n;
     }
 
-    /// The next eight bits as a byte, where two bytes have them and the bits that go before.
-    pub(crate) fn peek_u8(&self) -> Option<u8>
-        ensures { IfSome result
-            (λ byte. (later : List ℕ) × (bits_left self.now ≡ bits (byte ∷ []) ++ later)) }
-    {
-        let low = self.bytes.get(self.byte + 1).copied()?;
-        let pair = u16::from_be_bytes([self.bytes[self.byte], low]);
-        Some((pair >> (8 - self.bit) & 0xFF) as u8)
-    }
-
     /// Moves past `count` bits.
     pub(crate) fn skip_bits(&mut self, count: u8)
         requires { count ≤ length (bits_left self.old) }
@@ -194,14 +186,13 @@ impl<'a> Reader<'a> {
         self.bit = bit % 8;
     }
 
-    /// A reader at the same bit.
-    pub(crate) fn fork(&self) -> Reader<'a>
-        ensures { result ≡ self.now }
+    /// The bits that are left.
+    pub(crate) fn queue(&self) -> BitQueue<'a>
+        ensures { bits_ahead result ≡ bits_left self.now }
     {
-        Reader {
-            bytes: self.bytes,
-            byte: self.byte,
-            bit: self.bit,
+        match self.left() {
+            [first, rest @ ..] => BitQueue::after(*first, 8 - self.bit, rest),
+            [] => BitQueue::new(&[]),
         }
     }
 }

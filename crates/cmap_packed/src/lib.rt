@@ -2,6 +2,7 @@
 //! and the bundles that hold the tables and the files.
 #![tactic(auto)]
 
+pub mod bit_queue;
 pub mod bits;
 mod bundle;
 mod owned_bundle;

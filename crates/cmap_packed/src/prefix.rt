@@ -2,6 +2,7 @@
 
 ghost use Rattle.std.specs.Prelude.{◌≡◌, ℕ, IfSome, IfNone, length};
 ghost use Rattle.cmap_packed.specs.PrefixWords.{AreWordLengths, BeginsAt, Decodes, lengths_from, zip_words};
+ghost use Rattle.cmap_packed.specs.BitQueues.{bits_ahead};
 ghost use Rattle.cmap_packed.specs.Reader.{bits_left, IsAtByte, after_bits};
 ghost use Rattle.cmap_packed.specs.TableTaken.{ParsesTable};
 
@@ -9,7 +10,8 @@ mod reading;
 mod words;
 
 use self::reading::parse;
-use self::words::{Search, Word, next_word};
+use self::words::{Word, next_word};
+use crate::bit_queue::BitQueue;
 use crate::bits::Reader;
 use std::alloc::{AllocError, Global};
 use std::fmt;
@@ -23,7 +25,7 @@ pub struct PrefixTable {
     counts: Vec<u32>,
     symbols: Vec<u32>,
     /// What is known of the word that comes next, by each byte.
-    known: Vec<Result<Word, Search>>,
+    known: Vec<Word>,
 }
 
 // A clause sees the symbols in the order of their words, each with the length of its word in bits.
@@ -93,7 +95,6 @@ impl PrefixTable {
 
     /// The symbol whose word comes next, and the reader moves past that word; `None` where no
     /// word of the table does, and then the reader stays. It takes no memory.
-    #[inline(always)]
     pub fn decode(&self, reader: &mut Reader<'_>) -> Option<u32>
         ensures found { IfSome result (λ symbol. (len : ℕ)
             × Decodes self.now (bits_left reader.old) symbol len (bits_left reader.new)
@@ -103,8 +104,27 @@ impl PrefixTable {
             → BeginsAt self.now (bits_left reader.old) j → i ≡ j }
         ensures unmoved { IfNone result (reader.new ≡ reader.old) }
     {
-        let word = next_word(&self.counts, &self.symbols, &self.known, reader)?;
+        let mut bits = reader.queue();
+        bits.fill();
+        let word = next_word(&self.counts, &self.symbols, &self.known, &bits)?;
         reader.skip_bits(word.len);
+        Some(word.symbol)
+    }
+
+    /// The symbol whose word the bits begin with, and that word is taken off; `None` where they begin
+    /// with no word of the table, and then they stay. It takes no memory.
+    #[inline(always)]
+    pub fn take_symbol(&self, bits: &mut BitQueue<'_>) -> Option<u32>
+        ensures found { IfSome result (λ symbol. (len : ℕ)
+            × Decodes self.now (bits_ahead bits.old) symbol len (bits_ahead bits.new)) }
+        ensures none { IfNone result ((i : ℕ) → BeginsAt self.now (bits_ahead bits.old) i → ⊥) }
+        ensures only { (i j : ℕ) → BeginsAt self.now (bits_ahead bits.old) i
+            → BeginsAt self.now (bits_ahead bits.old) j → i ≡ j }
+        ensures unmoved { IfNone result (bits_ahead bits.new ≡ bits_ahead bits.old) }
+    {
+        bits.fill();
+        let word = next_word(&self.counts, &self.symbols, &self.known, bits)?;
+        bits.skip(word.len);
         Some(word.symbol)
     }
 }

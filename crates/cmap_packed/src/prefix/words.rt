@@ -1,16 +1,16 @@
 //! The words of a table, by how many there are of each length.
 
-ghost use Rattle.std.specs.Prelude.{◌≡◌, ℕ, List, None, length, IfErr, IfOk, MatchOption};
-ghost use Rattle.cmap_packed.specs.PrefixWords.{AreWordLengths, lengths_from};
-ghost use Rattle.cmap_packed.specs.Reader.{bits_left};
-ghost use Rattle.cmap_packed.specs.WordsByLength.{IsSearched, IsTable, first_word};
-ghost use Rattle.cmap_packed.specs.WordsFound.{FindsFirst, IsKnown, KnowBytes, search_seen};
+ghost use Rattle.std.specs.Prelude.{◌≡◌, ◌⊎◌, ◌++◌, ◌<◌, ◌≤◌, ℕ, List, [], None, length, IfNone, IfOk, IfSome, MatchOption};
+ghost use Rattle.cmap_packed.specs.BitQueues.{IsFilled, bits_ahead};
+ghost use Rattle.cmap_packed.specs.PrefixWords.{AreWordLengths, bits_of, lengths_from};
+ghost use Rattle.cmap_packed.specs.WordsByLength.{IsFirst, IsTable, first_word};
+ghost use Rattle.cmap_packed.specs.WordsFound.{FindsFirst, KnowBytes};
 
-use crate::bits::Reader;
+use crate::bit_queue::BitQueue;
 use std::alloc::{AllocError, Global};
 
 /// The most bits that a word has.
-pub(super) const LONGEST: usize = 32;
+const LONGEST: usize = 32;
 
 /// How many bytes there are.
 const BYTES: usize = 256;
@@ -22,102 +22,87 @@ pub(super) struct Word {
     pub(super) len: u8,
 }
 
-/// How far the word that begins bits has been looked for: it has more than `len` bits. `rank` words
-/// have no more, and `past` is how far the first `len` bits, as a number, are past these words.
-#[derive(Clone, Copy)]
-pub(super) struct Search {
-    len: u8,
-    rank: usize,
-    past: usize,
-}
+/// What is known by a byte that no word of up to eight bits begins.
+const UNKNOWN: Word = Word { symbol: 0, len: 0 };
 
-/// No bit has been looked at.
-const START: Search = Search {
-    len: 0,
-    rank: 0,
-    past: 0,
-};
-
-/// Nothing is known of the word that comes next.
-static UNKNOWN: Result<Word, Search> = Err(START);
-
-/// The word that comes next; `None` where none does. The two lists come as they are held, and aren't
-/// read for a word that is known.
+/// The word that comes next, which is at hand; `None` where none does. The two lists come as they are
+/// held, and aren't read for a word that is known.
 #[inline(always)]
 pub(super) fn next_word(
     counts: &Vec<u32>,
     symbols: &Vec<u32>,
-    known: &[Result<Word, Search>],
-    reader: &Reader<'_>,
+    known: &[Word],
+    bits: &BitQueue<'_>,
 ) -> Option<Word>
     requires table { IsTable counts.now.items symbols.now.items }
     requires bytes { length known.now ≡ 256 }
     requires knows { KnowBytes counts.now.items symbols.now.items known.now }
-    ensures { FindsFirst counts.now.items symbols.now.items (bits_left reader.now) result }
+    requires filled { IsFilled bits.now }
+    ensures first { FindsFirst counts.now.items symbols.now.items (bits_ahead bits.now) result }
+    ensures at_hand { IfSome result (λ word. word.len ≤ bits.now.held) }
 {
-    match look_up(known, reader) {
-        Ok(word) => Some(*word),
-        Err(search) => find_from(counts, symbols, reader.fork(), search),
+    if let Some(word) = look_up(known, bits) {
+        return Some(word);
     }
+    let (number, held) = bits.at_hand();
+    find_from(counts, symbols, number, held)
 }
 
-/// The word that comes next, which is looked for from there on; `None` where none does.
+/// What is known of the word that comes next by the next eight bits.
+#[inline(always)]
+fn look_up(known: &[Word], bits: &BitQueue<'_>) -> Option<Word>
+    requires { length known.now ≡ 256 }
+    ensures { (counts symbols : List ℕ) → KnowBytes counts symbols known.now
+        → IfSome result (λ word. (word.len ≤ bits.now.held)
+            × IsFirst counts symbols (bits_ahead bits.now) word.symbol word.len) }
+{
+    let byte = bits.peek_u8()?;
+    let word = known[usize::from(byte)];
+    if word.len == 0 { None } else { Some(word) }
+}
+
+/// The word that begins the last `held` bits of a number, as `find` has it.
 #[inline(never)]
-fn find_from(
-    counts: &Vec<u32>,
-    symbols: &Vec<u32>,
-    reader: Reader<'_>,
-    start: &Search,
-) -> Option<Word>
+fn find_from(counts: &Vec<u32>, symbols: &Vec<u32>, number: u64, held: u32) -> Option<Word>
     requires table { IsTable counts.now.items symbols.now.items }
-    requires start { IsSearched counts.now.items (bits_left reader) (search_seen start.now) }
-    ensures { FindsFirst counts.now.items symbols.now.items (bits_left reader.entry) result }
+    requires most { held ≤ 64 }
+    ensures found { IfSome result (λ word. (word.len ≤ held) × ((more : List ℕ)
+        → IsFirst counts.now.items symbols.now.items (bits_of held number ++ more) word.symbol word.len)) }
+    ensures none { IfNone result ((more : List ℕ) → (32 ≤ held) ⊎ (more ≡ [])
+        → first_word counts.now.items (bits_of held number ++ more) ≡ None) }
 {
-    find(counts, symbols, reader, *start).ok()
+    find(counts, symbols, number, held)
 }
 
-/// The word that comes next, which is looked for from there on; or how far it has been looked for,
-/// where none does. Words of one length are numbers in a row, and after the last one comes twice its
-/// follower among the longer words.
-fn find(
-    counts: &[u32],
-    symbols: &[u32],
-    mut reader: Reader<'_>,
-    start: Search,
-) -> Result<Word, Search>
+/// The word that begins the last `held` bits of a number; `None` where none does, if these are as many
+/// as the longest word has or no bit comes after them. Words of one length are numbers in a row, and
+/// after the last one comes twice its follower among the longer words.
+fn find(counts: &[u32], symbols: &[u32], number: u64, held: u32) -> Option<Word>
     requires table { IsTable counts.now symbols.now }
-    requires start { IsSearched counts.now (bits_left reader) (search_seen start) }
-    ensures known { IsKnown counts.now symbols.now (bits_left reader.entry) result }
-    ensures none { IfErr result (λ _. first_word counts.now (bits_left reader.entry) ≡ None) }
+    requires most { held ≤ 64 }
+    ensures found { IfSome result (λ word. (word.len ≤ held) × ((more : List ℕ)
+        → IsFirst counts.now symbols.now (bits_of held number ++ more) word.symbol word.len)) }
+    ensures none { IfNone result ((more : List ℕ) → (32 ≤ held) ⊎ (more ≡ [])
+        → first_word counts.now (bits_of held number ++ more) ≡ None) }
 {
-    reader.skip_bits(start.len);
-    let mut rank = start.rank;
-    let mut past = start.past;
-    for i in usize::from(start.len)..LONGEST {
-        let len = i as u8;
-        let Some(count) = counts.get(i) else {
-            return Err(Search { len, rank, past });
-        };
-        let Some(bit) = reader.read_bit() else {
-            return Err(Search { len, rank, past });
+    let mut rank = 0;
+    let mut past = 0;
+    for i in 0..held.min(LONGEST as u32) {
+        let Some(count) = counts.get(i as usize) else {
+            return None;
         };
         let count = *count as usize;
-        past = past * 2 + usize::from(bit);
+        let bit = number >> (held - 1 - i) & 1;
+        past = past * 2 + bit as usize;
         if past < count {
             let symbol = symbols[rank + past];
-            return Ok(Word {
-                symbol,
-                len: len + 1,
-            });
+            let len = i as u8 + 1;
+            return Some(Word { symbol, len });
         }
         past -= count;
         rank += count;
     }
-    Err(Search {
-        len: LONGEST as u8,
-        rank,
-        past,
-    })
+    None
 }
 
 /// What is known of the word that comes next by each byte.
@@ -125,27 +110,15 @@ pub(super) fn search_bytes(
     alloc: Global,
     counts: &[u32],
     symbols: &[u32],
-) -> Result<Vec<Result<Word, Search>>, AllocError>
+) -> Result<Vec<Word>, AllocError>
     requires { IsTable counts.now symbols.now }
     ensures { IfOk result (λ known. (length known.items ≡ 256) × KnowBytes counts.now symbols.now known.items) }
 {
     let mut known = Vec::with_capacity(alloc, BYTES)?;
     for byte in 0..BYTES {
-        known.push(find(counts, symbols, Reader::new(&[byte as u8]), START))?;
+        known.push(find(counts, symbols, byte as u64, 8).unwrap_or(UNKNOWN))?;
     }
     Ok(known)
-}
-
-/// What is known of the word that comes next by the next eight bits.
-fn look_up<'k>(known: &'k [Result<Word, Search>], reader: &Reader<'_>) -> &'k Result<Word, Search>
-    requires { length known.now ≡ 256 }
-    ensures { (counts symbols : List ℕ) → KnowBytes counts symbols known.now
-        → IsKnown counts symbols (bits_left reader.now) result.now }
-{
-    match reader.peek_u8() {
-        Some(byte) => &known[usize::from(byte)],
-        None => &UNKNOWN,
-    }
 }
 
 /// How many words there are, where none is longer than `LONGEST`, and there is room for each: a word

@@ -11,10 +11,10 @@ use Rattle.cmap_binary.proofs.columns.next_symbol.Goals as goal
 rest_is : (table : List CodeWord) (stream rest : List ℕ) (symbol len : ℕ) → Decodes table stream symbol len rest → rest ≡ drop len stream
 rest_is table stream rest symbol len d = sym (ap (drop len) d.bits_are ∙ drop_at d.word rest len d.word_is.length_is)
 
-symbol_found : (o : Option ℕ) (table : List CodeWord) (stream rest : List ℕ) (Moves : ℕ → ℕ → Type 0) → IfSome o (λ symbol. (len : ℕ) × Decodes table stream symbol len rest × Moves symbol len) → IfNone o ((i : ℕ) → BeginsAt table stream i → ⊥)
+symbol_found : (o : Option ℕ) (table : List CodeWord) (stream rest : List ℕ) → IfSome o (λ symbol. (len : ℕ) × Decodes table stream symbol len rest) → IfNone o ((i : ℕ) → BeginsAt table stream i → ⊥)
     → ((i j : ℕ) → BeginsAt table stream i → BeginsAt table stream j → i ≡ j) → MatchOption o (HoldsOfNone (SymbolAt table stream)) (λ symbol. IsOnly (SymbolAt table stream) (symbol, rest))
-symbol_found None table stream rest Moves found none only = λ other (len, d). none d.index (d.word, other.1, (_, d.word_is), d.bits_are)
-symbol_found (Some symbol) table stream rest Moves (len, d, moves) none only = record {
+symbol_found None table stream rest found none only = λ other (len, d). none d.index (d.word, other.1, (_, d.word_is), d.bits_are)
+symbol_found (Some symbol) table stream rest (len, d) none only = record {
   holds = (len, d);
   alone = λ other (size, e).
       let same : e.index ≡ d.index = only e.index d.index (e.word, other.1, (_, e.word_is), e.bits_are) (d.word, rest, (_, d.word_is), d.bits_are) in
@@ -25,4 +25,4 @@ symbol_found (Some symbol) table stream rest Moves (len, d, moves) none only = r
 }
 
 pub returns : goal.returns
-returns c = symbol_found c.decode.result _ _ _ _ c.decode.ensures.found c.decode.ensures.none c.decode.ensures.only
+returns c = symbol_found c.take_symbol.result _ _ _ c.take_symbol.ensures.found c.take_symbol.ensures.none c.take_symbol.ensures.only
