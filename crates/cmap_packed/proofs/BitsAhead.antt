@@ -31,13 +31,17 @@ ahead_after q count enough =
     sym (ap (λ bs. drop count (bs ++ bits q.rest)) split ∙ ap (drop count) (append_assoc next (bits_of left q.ahead) (bits q.rest)) ∙ drop_at next _ count (length-bits_of count _))
 
 -- the next eight
+pub byte_first : (held n byte : ℕ) → 8 ≤ held → byte ≡ n / 2 ^ (held - 8) % 2 ^ 8 → bits_of held n ≡ bits_of 8 byte ++ bits_of (held - 8) n
+byte_first held n byte enough is =
+    let left = held - 8 in
+    let e : 8 + left ≡ held = omega arith in
+    let split : bits_of held n ≡ bits_of 8 (n / 2 ^ left) ++ bits_of left n = rw e at (bits_of-split 8 left n) in
+    split ∙ ap (λ bs. bs ++ bits_of left n) (sym (ap (bits_of 8) is ∙ bits_of-mod 8 0 (n / 2 ^ left)))
+
 pub ahead_byte : (q : Queue) (byte : ℕ) → 8 ≤ q.held → byte ≡ q.ahead / 2 ^ (q.held - 8) % 2 ^ 8 → bits_ahead q ≡ bits_of 8 byte ++ bits_ahead (after_held q 8)
 ahead_byte q byte enough is =
-    let left = q.held - 8 in
-    let high = q.ahead / 2 ^ left in
-    let e : 8 + left ≡ q.held = omega arith in
-    let split : bits_of q.held q.ahead ≡ bits_of 8 high ++ bits_of left q.ahead = rw e at (bits_of-split 8 left q.ahead) in
-    ap (λ bs. bs ++ bits q.rest) split ∙ append_assoc (bits_of 8 high) (bits_of left q.ahead) (bits q.rest) ∙ ap (λ bs. bs ++ bits_ahead (after_held q 8)) (sym (ap (bits_of 8) is ∙ bits_of-mod 8 0 high))
+    let left = bits_of (q.held - 8) q.ahead in
+    ap (λ bs. bs ++ bits q.rest) (byte_first q.held q.ahead byte enough is) ∙ append_assoc (bits_of 8 byte) left (bits q.rest)
 
 -- ---- the bits that a reader leaves, of which the slice `left` has the bytes that aren't passed whole
 module _ (bytes left : List ℕ) (byte bit : ℕ) (small : bit < 8) (left_is : left ≡ drop ((8 * byte + bit) / 8) bytes) where

@@ -10,7 +10,7 @@ mod reading;
 mod words;
 
 use self::reading::parse;
-use self::words::{Word, next_word};
+use self::words::{Known, next_word};
 use crate::bit_queue::BitQueue;
 use crate::bits::Reader;
 use std::alloc::{AllocError, Global};
@@ -25,7 +25,7 @@ pub struct PrefixTable {
     counts: Vec<u32>,
     symbols: Vec<u32>,
     /// What is known of the word that comes next, by each byte.
-    known: Vec<Word>,
+    known: Known,
 }
 
 // A clause sees the symbols in the order of their words, each with the length of its word in bits.
@@ -42,8 +42,7 @@ impl Model for PrefixTable {
 
     ghost invariant = { λ t. record {
       table : IsTable t.counts.items t.symbols.items;
-      bytes : length t.known.items ≡ 256;
-      knows : KnowBytes t.counts.items t.symbols.items t.known.items;
+      knows : KnowBytes t.counts.items t.symbols.items t.known;
     } };
 }
 

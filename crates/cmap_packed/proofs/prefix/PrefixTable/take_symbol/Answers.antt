@@ -5,9 +5,6 @@ use Rattle.cmap_packed.proofs.BitsOfBytes.{AreBits-ahead}
 use Rattle.cmap_packed.proofs.TablesDecoded.{BeginsAt-none, BeginsAt-only, first_decodes}
 use Rattle.cmap_packed.proofs.prefix.PrefixTable.take_symbol.Goals as goal
 
-pub next_word-requires-clause-knows : goal.next_word-requires-clause-knows
-next_word-requires-clause-knows c = rw c.deref.ensures.value c.self.invariant.knows
-
 pub returns-in_err-word-clause-none : goal.returns-in_err-word-clause-none
 returns-in_err-word-clause-none c =
     rw (c.from_residual.ensures, ← c.self.view_is) (BeginsAt-none c.self.invariant.table _ (AreBits-ahead c.args.bits.now) (rw c.fill.ensures.same at c.in_err-word.ensures.first))

@@ -33,8 +33,7 @@ invariant_of-result c =
     let made = rw c.deref.ensures.value at c.in-Some-count_words.ensures in
     record {
       table = IsTable-taken _ _ _ _ _ made.1 (rw (c.in-Some-2.is, made.0) at c.in_ok-symbols.ensures);
-      bytes = c.in_ok-known.ensures.0;
-      knows = rw (c.deref-2.ensures.value, c.deref-3.ensures.value) at c.in_ok-known.ensures.1;
+      knows = rw (c.deref-2.ensures.value, c.deref-3.ensures.value) at c.in_ok-known.ensures;
     }
 
 pub returns : goal.returns

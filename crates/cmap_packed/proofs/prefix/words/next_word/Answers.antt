@@ -22,3 +22,9 @@ returns-clause-first c =
     let q = c.args.bits.now in
     finds c.args.counts.now.items c.args.symbols.now.items (bits_of q.held q.ahead) (bits q.rest) q.held c.find_from.result (filled_bits q c.requires.filled)
     (rw c.at_hand-number.ensures.all at c.find_from.ensures.found) (rw c.at_hand-number.ensures.all at c.find_from.ensures.none)
+
+pub returns-in-Some-clause-first : goal.returns-in-Some-clause-first
+returns-in-Some-clause-first c = (rw c.in-Some.is at (c.look_up.ensures c.args.counts.now.items c.args.symbols.now.items c.requires.knows)).1
+
+pub returns-in-Some-clause-at_hand : goal.returns-in-Some-clause-at_hand
+returns-in-Some-clause-at_hand c = (rw c.in-Some.is at (c.look_up.ensures c.args.counts.now.items c.args.symbols.now.items c.requires.knows)).0

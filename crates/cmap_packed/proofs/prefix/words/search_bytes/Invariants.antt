@@ -1,6 +1,11 @@
 use Rattle.std.proofs.Common.{◌≡◌, length}
-use Rattle.cmap_packed.specs.WordsFound.{KnowBytes}
+use Rattle.cmap_packed.specs.WordsFound.{ForBytes, IsKnown, IsSearchedByte}
 use Rattle.cmap_packed.proofs.prefix.words.search_bytes.Given as goal
 
 abbrev pub invariant-loop-byte : goal.invariant-loop-byte
-invariant-loop-byte l = (length l.known.items ≡ l.byte) × KnowBytes l.counts l.symbols l.known.items
+invariant-loop-byte l = record {
+  words_size : length l.words.items ≡ l.byte;
+  searches_size : length l.searches.items ≡ l.byte;
+  words : ForBytes (IsKnown l.counts l.symbols) l.words.items;
+  searches : ForBytes (IsSearchedByte l.counts) l.searches.items;
+}
