@@ -73,3 +73,8 @@ module _ {counts symbols : List ℕ} (table : IsTable counts symbols) where
         },
         word.enough,
       )
+
+  pub first_few : (stream : List ℕ) (symbol len : ℕ) → IsFirst counts symbols stream symbol len → len ≤ 32
+  first_few stream symbol len (rank, is, symbol_is) =
+      let (k, more, found, b) = found_begins counts stream start _ is in
+      omega (arith, b.length_is, table.sound.lengths k 0 b.within)

@@ -97,11 +97,11 @@ impl<'a> BitQueue<'a> {
 
     /// Moves past `count` bits, which are at hand.
     #[inline(always)]
-    pub(crate) fn skip(&mut self, count: u8)
+    pub(crate) fn skip(&mut self, count: u32)
         requires { count ≤ self.old.held }
         ensures { self.new ≡ after_held self.old count }
     {
-        self.held -= u32::from(count);
+        self.held -= count;
     }
 }
 

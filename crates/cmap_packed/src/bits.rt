@@ -176,12 +176,13 @@ impl<'a> Reader<'a> {
         self.byte += n;
     }
 
-    /// Moves past `count` bits.
-    pub(crate) fn skip_bits(&mut self, count: u8)
-        requires { count ≤ length (bits_left self.old) }
+    /// Moves past `count` bits, no more than the longest word has.
+    pub(crate) fn skip_bits(&mut self, count: u32)
+        requires few { count ≤ 32 }
+        requires within { count ≤ length (bits_left self.old) }
         ensures { self.new ≡ after_bits self.old count }
     {
-        let bit = self.bit + u32::from(count);
+        let bit = self.bit + count;
         self.byte += (bit / 8) as usize;
         self.bit = bit % 8;
     }

@@ -19,7 +19,7 @@ const BYTES: usize = 256;
 #[derive(Clone, Copy)]
 pub(super) struct Word {
     pub(super) symbol: u32,
-    pub(super) len: u8,
+    pub(super) len: u32,
 }
 
 /// How far the word that begins bits has been looked for: it has more than `len` bits. `rank` words
@@ -65,24 +65,25 @@ pub(super) fn next_word(
     ensures first { FindsFirst counts.now.items symbols.now.items (bits_ahead bits.now) result }
     ensures at_hand { IfSome result (λ word. word.len ≤ bits.now.held) }
 {
-    if let Some(word) = look_up(known, bits) {
+    let word = look_up(known, bits);
+    if word.len != 0 {
         return Some(word);
     }
     let (number, held) = bits.at_hand();
     find_from(counts, symbols, known, number, held)
 }
 
-/// What is known of the word that comes next by the next eight bits.
+/// The word that comes next, if it is known by the next eight bits, or else `LONGER`.
 #[inline(always)]
-fn look_up(known: &Known, bits: &BitQueue<'_>) -> Option<Word>
+fn look_up(known: &Known, bits: &BitQueue<'_>) -> Word
     requires { length known.now.words.items ≡ 256 }
-    ensures { (counts symbols : List ℕ) → KnowBytes counts symbols known.now
-        → IfSome result (λ word. (word.len ≤ bits.now.held)
-            × IsFirst counts symbols (bits_ahead bits.now) word.symbol word.len) }
+    ensures { (counts symbols : List ℕ) → KnowBytes counts symbols known.now → 0 < result.len
+        → (result.len ≤ bits.now.held) × IsFirst counts symbols (bits_ahead bits.now) result.symbol result.len }
 {
-    let byte = bits.peek_u8()?;
-    let word = known.words[usize::from(byte)];
-    if word.len == 0 { None } else { Some(word) }
+    match bits.peek_u8() {
+        Some(byte) => known.words[usize::from(byte)],
+        None => LONGER,
+    }
 }
 
 /// The word that begins the last `held` bits of a number, looked for from where it is known; `None`
@@ -142,7 +143,7 @@ fn find(
         past = past * 2 + bit as usize;
         if past < count {
             let symbol = symbols[rank + past];
-            let len = i as u8 + 1;
+            let len = i + 1;
             return Ok(Word { symbol, len });
         }
         past -= count;

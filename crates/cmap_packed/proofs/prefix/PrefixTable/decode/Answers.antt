@@ -2,7 +2,7 @@ use Rattle.std.proofs.Common.{◌∙◌, subst}
 use Rattle.std.proofs.lemmas.List.{drop-drop}
 use Rattle.cmap_packed.specs.PrefixWords.{Decodes, bits}
 use Rattle.cmap_packed.proofs.BitsOfBytes.{AreBits-left}
-use Rattle.cmap_packed.proofs.TablesDecoded.{BeginsAt-none, BeginsAt-only, first_decodes}
+use Rattle.cmap_packed.proofs.TablesDecoded.{BeginsAt-none, BeginsAt-only, first_decodes, first_few}
 use Rattle.cmap_packed.proofs.prefix.PrefixTable.decode.Goals as goal
 
 pub returns-in_err-word-clause-none : goal.returns-in_err-word-clause-none
@@ -12,8 +12,11 @@ returns-in_err-word-clause-none c =
 pub returns-in_err-word-clause-only : goal.returns-in_err-word-clause-only
 returns-in_err-word-clause-only c = rw (← c.self.view_is) (BeginsAt-only c.self.invariant.table _ (AreBits-left c.args.reader.now))
 
-pub skip_bits-requires : goal.skip_bits-requires
-skip_bits-requires c = (first_decodes c.self.invariant.table _ _ _ (AreBits-left c.args.reader.now) (rw (c.fill.ensures.same, c.queue-bits.ensures) at c.in_ok-word.ensures.first)).1
+pub skip_bits-requires-clause-few : goal.skip_bits-requires-clause-few
+skip_bits-requires-clause-few c = first_few c.self.invariant.table _ _ _ c.in_ok-word.ensures.first
+
+pub skip_bits-requires-clause-within : goal.skip_bits-requires-clause-within
+skip_bits-requires-clause-within c = (first_decodes c.self.invariant.table _ _ _ (AreBits-left c.args.reader.now) (rw (c.fill.ensures.same, c.queue-bits.ensures) at c.in_ok-word.ensures.first)).1
 
 pub returns-clause-only : goal.returns-clause-only
 returns-clause-only c = rw (← c.self.view_is) (BeginsAt-only c.self.invariant.table _ (AreBits-left c.args.reader.now))

@@ -4,10 +4,10 @@ use Rattle.cmap_packed.specs.WordsFound.{IsKnown}
 use Rattle.cmap_packed.proofs.BitsAhead.{ahead_byte}
 use Rattle.cmap_packed.proofs.prefix.words.look_up.Goals as goal
 
-pub returns-else-word-eq0 : goal.returns-else-word-eq0
-returns-else-word-eq0 c = λ counts symbols knows.
+pub returns-in-Some : goal.returns-in-Some
+returns-in-Some c = λ counts symbols knows some.
     let byte = c.from.result in
-    let (enough, is) = c.in_ok-byte.ensures in
-    let known = knows.words byte c.index-word.result.now (omega (arith, knows.a_word_each, c.from.ensures)) in
-    let (short, first) = subst (IsKnown counts symbols byte) (sym c.index-word.ensures) known (omega (arith, c.if-word-eq0.false)) in
+    let (enough, is) = c.in-Some.ensures in
+    let known = knows.words byte c.index.result.now (omega (arith, knows.a_word_each, c.from.ensures)) in
+    let (short, first) = subst (IsKnown counts symbols byte) (sym c.index.ensures) known some in
     (omega (arith, short, enough), rw (ahead_byte c.args.bits.now byte enough (c.from.ensures ∙ is)) (first (bits_ahead (after_held c.args.bits.now 8))))

@@ -1,4 +1,4 @@
-use Rattle.std.proofs.Common.{◌≡◌, ◌≤◌, ◌++◌, ℕ, List, [], inl, inr, ap, Some, None}
+use Rattle.std.proofs.Common.{◌≡◌, ◌≤◌, ◌++◌, ℕ, List, [], inl, inr, ap, Some, None, arith}
 use Rattle.std.specs.Prelude.{◌⊎◌, IfNone, IfSome, Option}
 use Rattle.cmap_packed.specs.BitQueues.{IsFilled, Queue}
 use Rattle.cmap_packed.specs.PrefixWords.{bits, bits_of}
@@ -23,8 +23,8 @@ returns-clause-first c =
     finds c.args.counts.now.items c.args.symbols.now.items (bits_of q.held q.ahead) (bits q.rest) q.held c.find_from.result (filled_bits q c.requires.filled)
     (rw c.at_hand-number.ensures.all at c.find_from.ensures.found) (rw c.at_hand-number.ensures.all at c.find_from.ensures.none)
 
-pub returns-in-Some-clause-first : goal.returns-in-Some-clause-first
-returns-in-Some-clause-first c = (rw c.in-Some.is at (c.look_up.ensures c.args.counts.now.items c.args.symbols.now.items c.requires.knows)).1
+pub returns-then-word-ne0-clause-first : goal.returns-then-word-ne0-clause-first
+returns-then-word-ne0-clause-first c = (c.look_up-word.ensures c.args.counts.now.items c.args.symbols.now.items c.requires.knows (omega (arith, c.if-word-ne0.true))).1
 
-pub returns-in-Some-clause-at_hand : goal.returns-in-Some-clause-at_hand
-returns-in-Some-clause-at_hand c = (rw c.in-Some.is at (c.look_up.ensures c.args.counts.now.items c.args.symbols.now.items c.requires.knows)).0
+pub returns-then-word-ne0-clause-at_hand : goal.returns-then-word-ne0-clause-at_hand
+returns-then-word-ne0-clause-at_hand c = (c.look_up-word.ensures c.args.counts.now.items c.args.symbols.now.items c.requires.knows (omega (arith, c.if-word-ne0.true))).0
