@@ -12,7 +12,7 @@ ghost use Rattle.cmap_values.specs.Outcomes.{Finds};
 use cmap_packed::Tables;
 use cmap_packed::bit_queue::BitQueue;
 use cmap_packed::pieces::take_sized;
-use cmap_packed::prefix::PrefixTable;
+use cmap_packed::prefix::{PrefixTable, take_symbol};
 use cmap_runs::runs::Range;
 use cmap_values::fault::{Fault, Reason, Segment};
 
@@ -122,7 +122,7 @@ fn next_symbol(table: &PrefixTable, bits: &mut BitQueue<'_>) -> Option<u32>
     ensures { Finds (SymbolAt table.now (bits_ahead bits.old))
         (λ symbol. (symbol, bits_ahead bits.new)) result }
 {
-    table.take_symbol(bits)
+    take_symbol(table, bits)
 }
 
 /// The codes that start so far after the base; `None` where their end passes 32 bits.

@@ -109,21 +109,21 @@ impl PrefixTable {
         reader.skip_bits(word.len);
         Some(word.symbol)
     }
+}
 
-    /// The symbol whose word the bits begin with, and that word is taken off; `None` where they begin
-    /// with no word of the table, and then they stay. It takes no memory.
-    #[inline(always)]
-    pub fn take_symbol(&self, bits: &mut BitQueue<'_>) -> Option<u32>
-        ensures found { IfSome result (λ symbol. (len : ℕ)
-            × Decodes self.now (bits_ahead bits.old) symbol len (bits_ahead bits.new)) }
-        ensures none { IfNone result ((i : ℕ) → BeginsAt self.now (bits_ahead bits.old) i → ⊥) }
-        ensures only { (i j : ℕ) → BeginsAt self.now (bits_ahead bits.old) i
-            → BeginsAt self.now (bits_ahead bits.old) j → i ≡ j }
-        ensures unmoved { IfNone result (bits_ahead bits.new ≡ bits_ahead bits.old) }
-    {
-        bits.fill();
-        let word = next_word(&self.counts, &self.symbols, &self.known, bits)?;
-        bits.skip(word.len);
-        Some(word.symbol)
-    }
+/// The symbol whose word the bits begin with, and that word is taken off; `None` where they begin with
+/// no word of the table, and then they stay. It takes no memory.
+#[inline(always)]
+pub fn take_symbol(table: &PrefixTable, bits: &mut BitQueue<'_>) -> Option<u32>
+    ensures found { IfSome result (λ symbol. (len : ℕ)
+        × Decodes table.now (bits_ahead bits.old) symbol len (bits_ahead bits.new)) }
+    ensures none { IfNone result ((i : ℕ) → BeginsAt table.now (bits_ahead bits.old) i → ⊥) }
+    ensures only { (i j : ℕ) → BeginsAt table.now (bits_ahead bits.old) i
+        → BeginsAt table.now (bits_ahead bits.old) j → i ≡ j }
+    ensures unmoved { IfNone result (bits_ahead bits.new ≡ bits_ahead bits.old) }
+{
+    bits.fill();
+    let word = next_word(&table.counts, &table.symbols, &table.known, bits)?;
+    bits.skip(word.len);
+    Some(word.symbol)
 }
