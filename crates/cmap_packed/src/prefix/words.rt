@@ -69,8 +69,10 @@ pub(super) fn next_word(
     if word.len != 0 {
         return Some(word);
     }
+    // The answer is taken apart, so that no word has to go through memory.
     let (number, held) = bits.at_hand();
-    find_from(counts, symbols, known, number, held)
+    let word = find_from(counts, symbols, known, number, held)?;
+    Some(word)
 }
 
 /// The word that comes next, if it is known by the next eight bits, or else `LONGER`.

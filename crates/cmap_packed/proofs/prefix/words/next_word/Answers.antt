@@ -11,17 +11,12 @@ filled_bits : (q : Queue) → IsFilled q → (32 ≤ q.held) ⊎ (bits q.rest �
 filled_bits q (inl enough) = inl enough
 filled_bits q (inr end) = inr (ap bits end)
 
--- what is found of the bits at hand, which come first
-finds : (counts symbols front rest : List ℕ) (held : ℕ) (o : Option Word) → (32 ≤ held) ⊎ (rest ≡ []) → IfSome o (λ word. (word.len ≤ held) × ((more : List ℕ) → IsFirst counts symbols (front ++ more) word.symbol word.len))
-    → IfNone o ((more : List ℕ) → (32 ≤ held) ⊎ (more ≡ []) → first_word counts (front ++ more) ≡ None) → FindsFirst counts symbols (front ++ rest) o
-finds counts symbols front rest held None filled found none = none rest filled
-finds counts symbols front rest held (Some word) filled found none = found.1 rest
-
 pub returns-clause-first : goal.returns-clause-first
-returns-clause-first c =
-    let q = c.args.bits.now in
-    finds c.args.counts.now.items c.args.symbols.now.items (bits_of q.held q.ahead) (bits q.rest) q.held c.find_from.result (filled_bits q c.requires.filled)
-    (rw c.at_hand-number.ensures.all at c.find_from.ensures.found) (rw c.at_hand-number.ensures.all at c.find_from.ensures.none)
+returns-clause-first c = (rw c.at_hand-number.ensures.all at c.in_ok-word.ensures.found).1 (bits c.args.bits.now.rest)
+
+pub returns-in_err-word-clause-first : goal.returns-in_err-word-clause-first
+returns-in_err-word-clause-first c =
+    rw c.from_residual.ensures ((rw c.at_hand-number.ensures.all at c.in_err-word.ensures.none) (bits c.args.bits.now.rest) (filled_bits c.args.bits.now c.requires.filled))
 
 pub returns-then-word-ne0-clause-first : goal.returns-then-word-ne0-clause-first
 returns-then-word-ne0-clause-first c = (c.look_up-word.ensures c.args.counts.now.items c.args.symbols.now.items c.requires.knows (omega (arith, c.if-word-ne0.true))).1
