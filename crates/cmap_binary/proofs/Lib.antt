@@ -3,6 +3,7 @@ pub mod Bodies
 pub mod EntrySums
 pub mod FaultsFirst
 pub mod OneFile
+pub mod RawCids
 pub mod Reading
 mod ReasonsAlone
 pub mod RowsAdded

@@ -1,6 +1,6 @@
 //! The entries of segments of a binary file.
 
-ghost use Rattle.cmap_binary.specs.BinaryEntries.{BfEntryAt, CidEntryAt, DestinationAt};
+ghost use Rattle.cmap_binary.specs.BinaryEntries.{BfEntryAt, CidEntryAt, DestinationAt, cid_from};
 ghost use Rattle.cmap_binary.specs.BinaryFiles as files;
 ghost use Rattle.cmap_binary.specs.BinaryFiles.{SaysAs};
 ghost use Rattle.cmap_binary.specs.BinarySeen.{AddsRow, Declares, ReadsOr};
@@ -8,10 +8,10 @@ ghost use Rattle.cmap_binary.specs.WrongSegments.{WrongBfEntry, WrongCidEntry, W
 ghost use Rattle.cmap_packed.specs.BundleSeen.{tables_seen};
 ghost use Rattle.cmap_binary.specs.ColumnsSeen.{cid_columns_seen, columns_seen, shape_seen};
 ghost use Rattle.cmap_packed.specs.Fronts.{FieldAt, RowOf};
-ghost use Rattle.cmap_values.specs.Outcomes.{Finds};
-ghost use Rattle.cmap_values.specs.declared.fault.Reason.TheVariants.{Entry};
+ghost use Rattle.cmap_values.specs.Outcomes.{Finds, Outcome};
+ghost use Rattle.cmap_values.specs.declared.fault.Reason.TheVariants.{CidTooLarge, Entry};
 ghost use Rattle.cmap_values.specs.declared.fault.Segment.TheVariants.{Texts};
-ghost use Rattle.std.specs.Prelude.{◌≡◌};
+ghost use Rattle.std.specs.Prelude.{◌≡◌, ◌*◌, ◌^◌, ◌<◌, ◌≤◌, length};
 ghost use Rattle.cmap_values.specs.CodeLengths.{length_of};
 ghost use Rattle.cmap_values.specs.Files.{bf, cid};
 ghost use Rattle.cmap_values.specs.DeclarationsSeen.{cid_entry_seen, lists_seen};
@@ -47,10 +47,7 @@ impl CidColumns<'_> {
         let Some(raw) = take_u16(&mut self.raws) else {
             return Err(Fault::Refused(Reason::Entry(Segment::Cids)));
         };
-        let cid = if raw == 0 { self.next } else { u64::from(raw) };
-        let Ok(cid) = u32::try_from(cid) else {
-            return Err(Fault::Refused(Reason::CidTooLarge));
-        };
+        let cid = cid_of(raw, self.next)?;
         self.next = u64::from(cid) + u64::from(range.end - range.start) + 1;
         Ok(CidRange { range, cid })
     }
@@ -90,7 +87,8 @@ pub(crate) fn add_cids(
 }
 
 /// Adds the next `count` entries, for codes of this length. Each length has a loop of its own, which
-/// needn't look for its list; and so have single codes of two bytes, which have no counts to hold.
+/// needn't look for its list; and so have single codes of two bytes, which have no counts to hold, where
+/// there is a raw CID for each.
 fn add_cid_entries(
     tables: &Tables,
     left: CidColumns<'_>,
@@ -102,13 +100,53 @@ fn add_cid_entries(
         (cid (length_of len)) count
         (cid_columns_seen left.entry) (lists_seen lists.old) (lists_seen lists.new) result }
 {
-    let singles = left.columns.counts.is_none();
+    let singles = left.columns.counts.is_none() && 2 * usize::from(count) <= left.raws.len();
     match len {
-        CodeLength::Two if singles => add_each_cid(tables, left, count, CodeLength::Two, lists),
+        CodeLength::Two if singles => add_single_cids(tables, left, count, lists),
         CodeLength::One => add_each_cid(tables, left, count, CodeLength::One, lists),
         CodeLength::Two => add_each_cid(tables, left, count, CodeLength::Two, lists),
         CodeLength::Three => add_each_cid(tables, left, count, CodeLength::Three, lists),
         CodeLength::Four => add_each_cid(tables, left, count, CodeLength::Four, lists),
+    }
+}
+
+/// Adds the next `count` entries one by one, each of which has a raw CID, for codes of two bytes.
+fn add_single_cids(
+    tables: &Tables,
+    left: CidColumns<'_>,
+    count: u16,
+    lists: &mut Lists,
+) -> Result<(), Fault<Reason>>
+    requires { 2 * count ≤ length left.raws.now }
+    ensures { AddsRow (CidEntryAt (tables_seen tables.now)) (WrongCidEntry (tables_seen tables.now))
+        (cid 2) count
+        (cid_columns_seen left.entry) (lists_seen lists.old) (lists_seen lists.new) result }
+{
+    let CidColumns {
+        mut columns,
+        raws,
+        mut next,
+    } = left;
+    for i in 0..usize::from(count) {
+        let range = columns.next_range(tables, Segment::Cids)?;
+        let raw = u16::from_be_bytes([raws[2 * i], raws[2 * i + 1]]);
+        let cid = cid_of(raw, next)?;
+        next = u64::from(cid) + u64::from(range.end - range.start) + 1;
+        lists.add_cid(CodeLength::Two, CidRange { range, cid })?;
+    }
+    Ok(())
+}
+
+/// The CID that a raw one means after those before `next`.
+#[inline(always)]
+fn cid_of(raw: u16, next: u64) -> Result<u32, Fault<Reason>>
+    ensures { Outcome (λ cid. (cid ≡ cid_from raw next) × (cid < 2 ^ 32))
+        (λ reason. (2 ^ 32 ≤ cid_from raw next) × (reason ≡ CidTooLarge)) result }
+{
+    let cid = if raw == 0 { next } else { u64::from(raw) };
+    match u32::try_from(cid) {
+        Ok(cid) => Ok(cid),
+        Err(_) => Err(Fault::Refused(Reason::CidTooLarge)),
     }
 }
 

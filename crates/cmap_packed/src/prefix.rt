@@ -10,7 +10,7 @@ mod reading;
 mod words;
 
 use self::reading::parse;
-use self::words::{Known, next_word};
+use self::words::{Known, find_ahead, look_up, next_word};
 use crate::bit_queue::BitQueue;
 use crate::bits::Reader;
 use std::alloc::{AllocError, Global};
@@ -123,7 +123,12 @@ pub fn take_symbol(table: &PrefixTable, bits: &mut BitQueue<'_>) -> Option<u32>
     ensures unmoved { IfNone result (bits_ahead bits.new ≡ bits_ahead bits.old) }
 {
     bits.fill();
-    let word = next_word(&table.counts, &table.symbols, &table.known, bits)?;
+    let known = look_up(&table.known, bits);
+    if known.len != 0 {
+        bits.skip(known.len);
+        return Some(known.symbol);
+    }
+    let word = find_ahead(&table.counts, &table.symbols, &table.known, bits)?;
     bits.skip(word.len);
     Some(word.symbol)
 }

@@ -69,15 +69,12 @@ pub(super) fn next_word(
     if word.len != 0 {
         return Some(word);
     }
-    // The answer is taken apart, so that no word has to go through memory.
-    let (number, held) = bits.at_hand();
-    let word = find_from(counts, symbols, known, number, held)?;
-    Some(word)
+    find_ahead(counts, symbols, known, bits)
 }
 
 /// The word that comes next, if it is known by the next eight bits, or else `LONGER`.
 #[inline(always)]
-fn look_up(known: &Known, bits: &BitQueue<'_>) -> Word
+pub(super) fn look_up(known: &Known, bits: &BitQueue<'_>) -> Word
     requires { length known.now.words.items ≡ 256 }
     ensures { (counts symbols : List ℕ) → KnowBytes counts symbols known.now → 0 < result.len
         → (result.len ≤ bits.now.held) × IsFirst counts symbols (bits_ahead bits.now) result.symbol result.len }
@@ -86,6 +83,25 @@ fn look_up(known: &Known, bits: &BitQueue<'_>) -> Word
         Some(byte) => known.words[usize::from(byte)],
         None => LONGER,
     }
+}
+
+/// The word that comes next, which may be longer than eight bits.
+#[inline(always)]
+pub(super) fn find_ahead(
+    counts: &Vec<u32>,
+    symbols: &Vec<u32>,
+    known: &Known,
+    bits: &BitQueue<'_>,
+) -> Option<Word>
+    requires table { IsTable counts.now.items symbols.now.items }
+    requires knows { KnowBytes counts.now.items symbols.now.items known.now }
+    requires filled { IsFilled bits.now }
+    ensures first { FindsFirst counts.now.items symbols.now.items (bits_ahead bits.now) result }
+    ensures at_hand { IfSome result (λ word. word.len ≤ bits.now.held) }
+{
+    let (number, held) = bits.at_hand();
+    let word = find_from(counts, symbols, known, number, held)?;
+    Some(word)
 }
 
 /// The word that begins the last `held` bits of a number, looked for from where it is known; `None`

@@ -1,10 +1,10 @@
 use Rattle.cmap_binary.proofs.entries.add_cid_entries.Goals as goal
 
 pub returns-in-Two : goal.returns-in-Two
-returns-in-Two c = rw c.in-Two.is c.add_each_cid.ensures
+returns-in-Two c = rw c.in-Two.is c.add_single_cids.ensures
 
 pub returns-in-Two-2 : goal.returns-in-Two-2
-returns-in-Two-2 c = rw c.in-Two-2.is c.add_each_cid-in-Two-2.ensures
+returns-in-Two-2 c = rw c.in-Two-2.is c.add_each_cid.ensures
 
 pub returns-in-One : goal.returns-in-One
 returns-in-One c = rw c.in-One.is c.add_each_cid-in-One.ensures

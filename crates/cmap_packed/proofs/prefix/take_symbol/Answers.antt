@@ -1,4 +1,4 @@
-use Rattle.std.proofs.Common.{◌∙◌, sym, subst, ap}
+use Rattle.std.proofs.Common.{sym, subst, arith}
 use Rattle.cmap_packed.specs.PrefixWords.{Decodes}
 use Rattle.cmap_packed.proofs.BitsAhead.{ahead_after}
 use Rattle.cmap_packed.proofs.BitsOfBytes.{AreBits-ahead}
@@ -19,4 +19,17 @@ pub returns-clause-found : goal.returns-clause-found
 returns-clause-found c =
     let (next, enough) = first_decodes c.table.invariant.table _ _ _ (AreBits-ahead c.fill.new.self) c.in_ok-word.ensures.first in
     let after = sym (ahead_after c.fill.new.self c.in_ok-word.word.len c.in_ok-word.ensures.at_hand) in
-    (c.in_ok-word.word.len, rw (← c.table.view_is, c.skip.ensures, ← c.fill.ensures.same) (subst (Decodes _ _ _ _) after next))
+    (c.in_ok-word.word.len, rw (← c.table.view_is, c.skip-2.ensures, ← c.fill.ensures.same) (subst (Decodes _ _ _ _) after next))
+
+pub skip-requires : goal.skip-requires
+skip-requires c = (c.look_up-known.ensures c.table.inside.counts.items c.table.inside.symbols.items c.table.invariant.knows (omega (arith, c.if-known-ne0.true))).0
+
+pub returns-then-known-ne0-clause-only : goal.returns-then-known-ne0-clause-only
+returns-then-known-ne0-clause-only c = rw (← c.table.view_is) (BeginsAt-only c.table.invariant.table _ (AreBits-ahead c.args.bits.now))
+
+pub returns-then-known-ne0-clause-found : goal.returns-then-known-ne0-clause-found
+returns-then-known-ne0-clause-found c =
+    let (enough, first) = c.look_up-known.ensures c.table.inside.counts.items c.table.inside.symbols.items c.table.invariant.knows (omega (arith, c.if-known-ne0.true)) in
+    let (next, within) = first_decodes c.table.invariant.table _ _ _ (AreBits-ahead c.fill.new.self) first in
+    let after = sym (ahead_after c.fill.new.self c.look_up-known.result.len enough) in
+    (c.look_up-known.result.len, rw (← c.table.view_is, c.skip.ensures, ← c.fill.ensures.same) (subst (Decodes _ _ _ _) after next))

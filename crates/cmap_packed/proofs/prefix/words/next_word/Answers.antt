@@ -1,22 +1,5 @@
-use Rattle.std.proofs.Common.{◌≡◌, ◌≤◌, ◌++◌, ℕ, List, [], inl, inr, ap, Some, None, arith}
-use Rattle.std.specs.Prelude.{◌⊎◌, IfNone, IfSome, Option}
-use Rattle.cmap_packed.specs.BitQueues.{IsFilled, Queue}
-use Rattle.cmap_packed.specs.PrefixWords.{bits, bits_of}
-use Rattle.cmap_packed.specs.WordsByLength.{IsFirst, first_word}
-use Rattle.cmap_packed.specs.WordsFound.{FindsFirst}
-use Rattle.cmap_packed.specs.declared.prefix.words.Word.{Word}
+use Rattle.std.proofs.Common.{arith}
 use Rattle.cmap_packed.proofs.prefix.words.next_word.Goals as goal
-
-filled_bits : (q : Queue) → IsFilled q → (32 ≤ q.held) ⊎ (bits q.rest ≡ [])
-filled_bits q (inl enough) = inl enough
-filled_bits q (inr end) = inr (ap bits end)
-
-pub returns-clause-first : goal.returns-clause-first
-returns-clause-first c = (rw c.at_hand-number.ensures.all at c.in_ok-word.ensures.found).1 (bits c.args.bits.now.rest)
-
-pub returns-in_err-word-clause-first : goal.returns-in_err-word-clause-first
-returns-in_err-word-clause-first c =
-    rw c.from_residual.ensures ((rw c.at_hand-number.ensures.all at c.in_err-word.ensures.none) (bits c.args.bits.now.rest) (filled_bits c.args.bits.now c.requires.filled))
 
 pub returns-then-word-ne0-clause-first : goal.returns-then-word-ne0-clause-first
 returns-then-word-ne0-clause-first c = (c.look_up-word.ensures c.args.counts.now.items c.args.symbols.now.items c.requires.knows (omega (arith, c.if-word-ne0.true))).1
