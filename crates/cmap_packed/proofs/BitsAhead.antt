@@ -117,9 +117,9 @@ four_pushed (a ∷ b ∷ c ∷ d ∷ later) count n x enough room fits two three
     let stepped : x ≡ ((a * 256 + b) * 256 + c) * 256 + d = omega (arith, is) in
     let joined : bits_of 32 x ≡ bits (a ∷ b ∷ c ∷ d ∷ []) = ap (bits_of 32) stepped ∙ bits_of-four a b c d two three four in
     rw all (
-      ap (λ bs. bs ++ bits later) (word_pushed count n x room fits)
-      ∙ append_assoc (bits_of count n) (bits_of 32 x) (bits later)
-      ∙ ap (λ bs. bits_of count n ++ (bs ++ bits later)) joined
+    ap (λ bs. bs ++ bits later) (word_pushed count n x room fits)
+    ∙ append_assoc (bits_of count n) (bits_of 32 x) (bits later)
+    ∙ ap (λ bs. bits_of count n ++ (bs ++ bits later)) joined
     )
 four_pushed (a ∷ b ∷ c ∷ []) count n x enough room fits two three four is = absurd (omega (arith, enough))
 four_pushed (a ∷ b ∷ []) count n x enough room fits two three four is = absurd (omega (arith, enough))

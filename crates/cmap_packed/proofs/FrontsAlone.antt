@@ -1,10 +1,10 @@
 -- What bytes begin with is one thing, and so are the symbols that bits spell.
-use Rattle.std.proofs.Common.{◌≡◌, ℕ, zero, suc, ◌+◌, ◌<◌, refl, sym, ap, ◌∙◌, subst, List, [], ◌∷◌, ◌++◌, inl, inr, length, take, drop, Some, arith}
+use Rattle.std.proofs.Common.{◌≡◌, ℕ, zero, suc, ◌+◌, ◌<◌, refl, sym, ap, ◌∙◌, subst, List, [], ◌∷◌, ◌++◌, inl, inr, length, take, drop, arith}
 use Rattle.std.specs.Prelude.{◌⊎◌, slice_get}
 use Rattle.std.proofs.lemmas.List.{drop_at}
 use Rattle.std.proofs.lemmas.Option.{same_Some}
 use Rattle.cmap_packed.specs.Bundles.{HoldsTables, PrefixTables}
-use Rattle.cmap_packed.specs.Fronts.{Then, Gives, GivesIf, RowOf, ListOf, AllOf, ByteAt, BytesAt, CodeAt, FieldAt, FramedAt, SizedAt, TerminatedAt}
+use Rattle.cmap_packed.specs.Fronts.{Then, Gives, GivesIf, RowOf, ListOf, AllOf, ByteAt, BytesAt, CodeAt, FieldAt, SizedAt, TerminatedAt}
 use Rattle.cmap_packed.specs.PrefixWords.{CodeWord, Decodes, IsPrefixFree, IsWord}
 use Rattle.cmap_values.specs.Only.{HoldsOfNone}
 use Rattle.cmap_packed.proofs.Fronts.{pair_is}

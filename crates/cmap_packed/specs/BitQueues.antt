@@ -1,5 +1,5 @@
 -- Bits in a row, of which the next ones are at hand as one number.
-use Rattle.std.specs.Prelude.{◌≡◌, ◌⊎◌, ℕ, ◌+◌, ◌-◌, ◌*◌, ◌≤◌, List, [], ◌++◌}
+use Rattle.std.specs.Prelude.{◌≡◌, ◌⊎◌, ℕ, ◌-◌, ◌≤◌, List, [], ◌++◌}
 use Rattle.cmap_packed.specs.PrefixWords.{bits, bits_of}
 
 -- the last `held` bits of a number, and the bits of bytes after them

@@ -1,4 +1,4 @@
-use Rattle.std.proofs.Common.{◌≡◌, ◌++◌, ℕ, ◌+◌, ◌*◌, ◌≤◌, [], ap, sym, ◌∙◌, length, drop, arith}
+use Rattle.std.proofs.Common.{◌≡◌, ◌++◌, ◌+◌, ◌*◌, ap, sym, ◌∙◌, length, arith}
 use Rattle.std.proofs.lemmas.List.{append-nil, drop_all}
 use Rattle.cmap_packed.specs.PrefixWords.{bits, bits_of}
 use Rattle.cmap_packed.proofs.BitsAhead.{bytes_pushed}

@@ -1,4 +1,4 @@
-use Rattle.std.proofs.Common.{◌≡◌, ◌++◌, ℕ, ◌+◌, ◌*◌, ◌≤◌, drop, length}
+use Rattle.std.proofs.Common.{◌≡◌, ◌++◌, ℕ, ◌+◌, ◌*◌, ◌≤◌, drop}
 use Rattle.cmap_packed.specs.PrefixWords.{bits, bits_of}
 use Rattle.cmap_packed.proofs.bit_queue.with_bytes.Given as goal
 

@@ -1,4 +1,4 @@
-use Rattle.std.proofs.Common.{◌∙◌, ap, sym, subst, arith}
+use Rattle.std.proofs.Common.{◌∙◌, ap, sym, arith}
 use Rattle.std.proofs.lemmas.List.{nil_from_length}
 use Rattle.cmap_packed.specs.BitQueues.{bits_ahead}
 use Rattle.cmap_packed.specs.Reader.{bytes_left}

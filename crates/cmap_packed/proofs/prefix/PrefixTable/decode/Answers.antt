@@ -1,4 +1,4 @@
-use Rattle.std.proofs.Common.{◌∙◌, subst}
+use Rattle.std.proofs.Common.{subst}
 use Rattle.std.proofs.lemmas.List.{drop-drop}
 use Rattle.cmap_packed.specs.PrefixWords.{Decodes, bits}
 use Rattle.cmap_packed.proofs.BitsOfBytes.{AreBits-left}

@@ -1,10 +1,10 @@
-use Rattle.std.proofs.Common.{◌≤◌, ◌≡◌, inl, inr, length, refl, subst, arith}
+use Rattle.std.proofs.Common.{◌≤◌, ◌≡◌, ◌-◌, ◌/◌, ◌^◌, bit_and, inl, inr, length, refl, subst, arith}
 use Rattle.std.specs.Prelude.{◌⊎◌}
 use Rattle.std.proofs.lemmas.Bool.{cases_lt}
 use Rattle.std.proofs.lemmas.Nat.{and_mask}
 use Rattle.cmap_packed.proofs.BitsTaken.{NextBit-held}
 use Rattle.cmap_packed.proofs.BitsOfBytes.{length-bits_of}
-use Rattle.cmap_packed.proofs.WordsSearched.{NextBit, searched_counts-on, searched_end, searched_hit, searched_next, symbol_within}
+use Rattle.cmap_packed.proofs.WordsSearched.{searched_counts-on, searched_end, searched_hit, searched_next, symbol_within}
 use Rattle.cmap_packed.specs.PrefixWords.{bits_of}
 use Rattle.cmap_packed.specs.WordsByLength.{IsSearched}
 use Rattle.cmap_packed.proofs.prefix.words.find.Goals as goal
@@ -17,17 +17,17 @@ returns-in_default-clause-none c = λ more follows. searched_counts-on c.loop-i.
 
 pub bounds-symbols-rank : goal.bounds-symbols-rank
 bounds-symbols-rank c =
-    let at = NextBit-held c.args.counts.now c.args.held c.args.number c.loop-i.i _ _ (omega (arith, c.loop-i-test.true, c.min-end.ensures)) (and_mask _ 1) (grind (arith, c.in-Some.ensures)) in
+    let at = NextBit-held c.args.counts.now c.args.held c.args.number c.loop-i.i c.in-Some.count.now (bit_and (c.args.number / 2 ^ (c.args.held - 1 - c.loop-i.i)) 1) (omega (arith, c.loop-i-test.true, c.min-end.ensures)) (and_mask _ 1) (grind (arith, c.in-Some.ensures)) in
     symbol_within c.loop-i.invariant at c.requires.table c.if-past-count.true
 
 pub returns-then-past-count-clause-found : goal.returns-then-past-count-clause-found
 returns-then-past-count-clause-found c =
-    let at = NextBit-held c.args.counts.now c.args.held c.args.number c.loop-i.i _ _ (omega (arith, c.loop-i-test.true, c.min-end.ensures)) (and_mask _ 1) (grind (arith, c.in-Some.ensures)) in
+    let at = NextBit-held c.args.counts.now c.args.held c.args.number c.loop-i.i c.in-Some.count.now (bit_and (c.args.number / 2 ^ (c.args.held - 1 - c.loop-i.i)) 1) (omega (arith, c.loop-i-test.true, c.min-end.ensures)) (and_mask _ 1) (grind (arith, c.in-Some.ensures)) in
     (omega (arith, c.loop-i-test.true, c.min-end.ensures), λ more. (_, searched_hit c.loop-i.invariant at c.if-past-count.true more, refl))
 
 pub loop-i-preserved : goal.loop-i-preserved
 loop-i-preserved c =
-    let at = NextBit-held c.args.counts.now c.args.held c.args.number c.loop-i.i _ _ (omega (arith, c.loop-i-test.true, c.min-end.ensures)) (and_mask _ 1) (grind (arith, c.in-Some.ensures)) in
+    let at = NextBit-held c.args.counts.now c.args.held c.args.number c.loop-i.i c.in-Some.count.now (bit_and (c.args.number / 2 ^ (c.args.held - 1 - c.loop-i.i)) 1) (omega (arith, c.loop-i-test.true, c.min-end.ensures)) (and_mask _ 1) (grind (arith, c.in-Some.ensures)) in
     searched_next c.loop-i.invariant at (omega (arith, c.type_inv.counts c.loop-i.i)) (omega (arith, c.loop-i-test.true, c.min-end.ensures)) c.if-past-count.false
 
 pub returns-clause-none : goal.returns-clause-none

@@ -1,10 +1,7 @@
-use Rattle.std.proofs.Common.{◌≡◌, ◌≤◌, ◌++◌, ℕ, List, [], inl, inr, ap, Some, None, arith}
-use Rattle.std.specs.Prelude.{◌⊎◌, IfNone, IfSome, Option}
+use Rattle.std.proofs.Common.{◌≡◌, ◌≤◌, [], inl, inr, ap}
+use Rattle.std.specs.Prelude.{◌⊎◌}
 use Rattle.cmap_packed.specs.BitQueues.{IsFilled, Queue}
-use Rattle.cmap_packed.specs.PrefixWords.{bits, bits_of}
-use Rattle.cmap_packed.specs.WordsByLength.{IsFirst, first_word}
-use Rattle.cmap_packed.specs.WordsFound.{FindsFirst}
-use Rattle.cmap_packed.specs.declared.prefix.words.Word.{Word}
+use Rattle.cmap_packed.specs.PrefixWords.{bits}
 use Rattle.cmap_packed.proofs.prefix.words.find_ahead.Goals as goal
 
 filled_bits : (q : Queue) → IsFilled q → (32 ≤ q.held) ⊎ (bits q.rest ≡ [])
