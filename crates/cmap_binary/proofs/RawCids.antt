@@ -28,6 +28,6 @@ raw_only bytes i raw within is =
 
 -- an entry, by its codes and its raw CID
 pub entry_only : (tables : PrefixTables) (left : CidColumns) (span : Span) (columns : Columns) (raw cid next : ℕ) (raws : List ℕ) → IsOnly (SpanAt tables left.columns) (span, columns) → IsOnly (FieldAt 2 left.raws) (raw, raws)
-    → (cid ≡ cid_from raw left.next) × (cid < 2 ^ 32) → next ≡ cid + (span.end - span.start) + 1
+    → cid ≡ cid_from raw left.next → cid < 2 ^ 32 → next ≡ cid + (span.end - span.start) + 1
     → IsOnly (CidEntryAt tables left) (record { start = span.start; end = span.end; cid = cid }, record { columns = columns; raws = raws; next = next })
-entry_only tables left span columns raw cid next raws one two (cid_is, fits) next_is = rw (next_is, cid_is) (then_only _ one (then_only _ two (gives_if (rw cid_is at fits))))
+entry_only tables left span columns raw cid next raws one two cid_is fits next_is = rw (next_is, cid_is) (then_only _ one (then_only _ two (gives_if (rw cid_is at fits))))

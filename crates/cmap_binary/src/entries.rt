@@ -8,10 +8,10 @@ ghost use Rattle.cmap_binary.specs.WrongSegments.{WrongBfEntry, WrongCidEntry, W
 ghost use Rattle.cmap_packed.specs.BundleSeen.{tables_seen};
 ghost use Rattle.cmap_binary.specs.ColumnsSeen.{cid_columns_seen, columns_seen, shape_seen};
 ghost use Rattle.cmap_packed.specs.Fronts.{FieldAt, RowOf};
-ghost use Rattle.cmap_values.specs.Outcomes.{Finds, Outcome};
-ghost use Rattle.cmap_values.specs.declared.fault.Reason.TheVariants.{CidTooLarge, Entry};
+ghost use Rattle.cmap_values.specs.Outcomes.{Finds};
+ghost use Rattle.cmap_values.specs.declared.fault.Reason.TheVariants.{Entry};
 ghost use Rattle.cmap_values.specs.declared.fault.Segment.TheVariants.{Texts};
-ghost use Rattle.std.specs.Prelude.{◌≡◌, ◌*◌, ◌^◌, ◌<◌, ◌≤◌, length};
+ghost use Rattle.std.specs.Prelude.{◌≡◌, ◌*◌, ◌≤◌, length};
 ghost use Rattle.cmap_values.specs.CodeLengths.{length_of};
 ghost use Rattle.cmap_values.specs.Files.{bf, cid};
 ghost use Rattle.cmap_values.specs.DeclarationsSeen.{cid_entry_seen, lists_seen};
@@ -47,7 +47,9 @@ impl CidColumns<'_> {
         let Some(raw) = take_u16(&mut self.raws) else {
             return Err(Fault::Refused(Reason::Entry(Segment::Cids)));
         };
-        let cid = cid_of(raw, self.next)?;
+        let Ok(cid) = u32::try_from(cid_of(raw, self.next)) else {
+            return Err(Fault::Refused(Reason::CidTooLarge));
+        };
         self.next = u64::from(cid) + u64::from(range.end - range.start) + 1;
         Ok(CidRange { range, cid })
     }
@@ -130,24 +132,21 @@ fn add_single_cids(
     for i in 0..usize::from(count) {
         let range = columns.next_range(tables, Segment::Cids)?;
         let raw = u16::from_be_bytes([raws[2 * i], raws[2 * i + 1]]);
-        let cid = cid_of(raw, next)?;
+        let Ok(cid) = u32::try_from(cid_of(raw, next)) else {
+            return Err(Fault::Refused(Reason::CidTooLarge));
+        };
         next = u64::from(cid) + u64::from(range.end - range.start) + 1;
         lists.add_cid(CodeLength::Two, CidRange { range, cid })?;
     }
     Ok(())
 }
 
-/// The CID that a raw one means after those before `next`.
+/// The CID that a raw one means after those before `next`: 0 is the next one.
 #[inline(always)]
-fn cid_of(raw: u16, next: u64) -> Result<u32, Fault<Reason>>
-    ensures { Outcome (λ cid. (cid ≡ cid_from raw next) × (cid < 2 ^ 32))
-        (λ reason. (2 ^ 32 ≤ cid_from raw next) × (reason ≡ CidTooLarge)) result }
+fn cid_of(raw: u16, next: u64) -> u64
+    ensures { result ≡ cid_from raw next }
 {
-    let cid = if raw == 0 { next } else { u64::from(raw) };
-    match u32::try_from(cid) {
-        Ok(cid) => Ok(cid),
-        Err(_) => Err(Fault::Refused(Reason::CidTooLarge)),
-    }
+    if raw == 0 { next } else { u64::from(raw) }
 }
 
 /// Adds the next `count` entries one by one.
