@@ -36,7 +36,7 @@ pub(super) struct Search {
 pub(super) struct Known {
     /// The word that begins the byte, or `LONGER`.
     words: Vec<Word>,
-    /// How far it has been looked for.
+    /// How far the word has been looked for.
     searches: Vec<Search>,
 }
 
@@ -50,8 +50,8 @@ const START: Search = Search {
     past: 0,
 };
 
-/// The word that comes next, which is at hand; `None` where none does. All but the words that are known
-/// comes as it is held, and isn't read for such a word.
+/// The word that comes next, which is at hand; `None` where none does. The two lists come as they are
+/// held, and aren't read for a word that is known.
 #[inline(always)]
 pub(super) fn next_word(
     counts: &Vec<u32>,
@@ -85,7 +85,7 @@ pub(super) fn look_up(known: &Known, bits: &BitQueue<'_>) -> Word
     }
 }
 
-/// The word that comes next, which may be longer than eight bits.
+/// The word that comes next, as `next_word` has it, if it isn't known.
 #[inline(always)]
 pub(super) fn find_ahead(
     counts: &Vec<u32>,
@@ -100,6 +100,7 @@ pub(super) fn find_ahead(
     ensures at_hand { IfSome result (λ word. word.len ≤ bits.now.held) }
 {
     let (number, held) = bits.at_hand();
+    // Taken apart, so that a word that is known needn't go through memory.
     let word = find_from(counts, symbols, known, number, held)?;
     Some(word)
 }
