@@ -202,12 +202,18 @@ four_counted text long =
     let none : number_from_digits 10 (map (weight 10) (take 0 (drop 1 text))) ≡ 0 = refl in
     omega (arith, none, counted_more text 0 (omega (arith, long)), counted_more text 1 (omega (arith, long)), counted_more text 2 (omega (arith, long)), counted_more text 3 (omega (arith, long)))
 
+pub three_counted : (text : List ℕ) → 4 < length text
+    → number_from_digits 10 (map (weight 10) (take 3 (drop 1 text))) ≡ (10 * weight 10 (get_or text 1 0) + weight 10 (get_or text 2 0)) * 10 + weight 10 (get_or text 3 0)
+three_counted text long =
+    let none : number_from_digits 10 (map (weight 10) (take 0 (drop 1 text))) ≡ 0 = refl in
+    omega (arith, none, counted_more text 0 (omega (arith, long)), counted_more text 1 (omega (arith, long)), counted_more text 2 (omega (arith, long)))
+
 pub five_counted : (text : List ℕ) → 6 < length text
     → number_from_digits 10 (map (weight 10) (take 5 (drop 1 text))) ≡ ((10 * weight 10 (get_or text 1 0) + weight 10 (get_or text 2 0)) * 100 + (10 * weight 10 (get_or text 3 0) + weight 10 (get_or text 4 0))) * 10 + weight 10 (get_or text 5 0)
 five_counted text long = omega (arith, four_counted text long, counted_more text 4 (omega (arith, long)))
 
 -- a short number between two white bytes, by what its bytes count
-pub spaced_counted : (len n : ℕ) (text : List ℕ) (found : Option (ℕ × ℕ)) → 1 ≤ len → len ≤ 5 → 7 ≤ length text → is_white (get_or text 0 0) ≡ true → is_white (get_or text (len + 1) 0) ≡ true
+pub spaced_counted : (len n : ℕ) (text : List ℕ) (found : Option (ℕ × ℕ)) → 1 ≤ len → len ≤ 5 → len + 1 < length text → is_white (get_or text 0 0) ≡ true → is_white (get_or text (len + 1) 0) ≡ true
     → n ≡ number_from_digits 10 (map (weight 10) (take len (drop 1 text))) → MatchOption found (2 ^ 32 ≤ n) (λ first. (first ≡ (n, len)) × (n < 2 ^ 32)) → IfSome found (λ first. spaced_decimal text ≡ Some first)
 spaced_counted len n text None some few long before after is found = tt
 spaced_counted len n text (Some first) some few long before after is (same, small) =

@@ -348,9 +348,9 @@ impl<'a> Scanner<'a> {
     }
 
     /// The number that the two bytes of the next string write, and the number after it, where one white
-    /// byte stands before each, four digits write the bytes, and four or five decimal digits before a
-    /// white byte the number. The scanner is moved past both. `None` of any other text and near the end
-    /// of the text, leaving the scanner in place.
+    /// byte stands before each, four digits write the bytes, and three to five decimal digits before a
+    /// white byte the number. Two white bytes may stand before three digits. The scanner is moved past both.
+    /// `None` of any other text and near the end of the text, leaving the scanner in place.
     #[inline(always)]
     pub fn next_two_bytes_and_decimal(&mut self) -> Option<(u16, u64)>
         ensures tokens { IfSome result (λ found. (between : Cursor) × (piece : List ℕ)
@@ -362,7 +362,7 @@ impl<'a> Scanner<'a> {
         ensures stays { result ≡ None → self.new ≡ self.old }
     {
         let (bytes, number, len) = two_bytes_and_decimal(&self.source[self.offset..])?;
-        self.offset += TWO_BYTES_LEN + (1 + len);
+        self.offset += TWO_BYTES_LEN + len;
         Some((bytes, number))
     }
 
@@ -382,7 +382,7 @@ impl<'a> Scanner<'a> {
         ensures stays { result ≡ None → self.new ≡ self.old }
     {
         let (low, high, number, len) = two_strings_and_decimal(&self.source[self.offset..])?;
-        self.offset += 2 * TWO_BYTES_LEN + (1 + len);
+        self.offset += 2 * TWO_BYTES_LEN + len;
         Some((low, high, number))
     }
 

@@ -4,7 +4,8 @@ ghost use Rattle.std.specs.Prelude.{◌≡◌, ℕ, ◌+◌, ◌-◌, ◌<◌, �
 ghost use Rattle.std.specs.List.{prefix_len};
 ghost use Rattle.cmap_tokens.specs.Bytes as bytes;
 ghost use Rattle.cmap_tokens.specs.Numbers as numbers;
-ghost use Rattle.cmap_tokens.specs.Scanner.{spaced_decimal};
+ghost use Rattle.cmap_tokens.specs.Scanner.{FirstToken, spaced_decimal};
+ghost use Rattle.cmap_tokens.specs.Tokens.{Numeral};
 ghost use Rattle.cmap_tokens.specs.NumberSeen.{number_seen};
 ghost use Rattle.cmap_tokens.specs.TokenReading as reading;
 
@@ -36,6 +37,59 @@ pub(super) fn padded_decimal(text: &[u8]) -> Option<(u64, usize)>
         [blank, ..] if is_white(*blank) => blank_decimal(&text[1..]),
         _ => None,
     }
+}
+
+/// The decimal number of three to five digits that a text begins with, and how many bytes it takes with
+/// the white bytes before it. One stands before it, or two before three digits, and one after it. Where
+/// fewer bytes are left, some aren't found.
+#[inline(always)]
+pub(super) fn plain_decimal(text: &[u8]) -> Option<(u64, usize)>
+    ensures token { IfSome result (λ first. FirstToken text.now (Numeral (numbers.Integer (pos first.0))) first.1) }
+    ensures few { IfSome result (λ first. first.0 < 2 ^ 32) }
+    ensures within { IfSome result (λ first. first.1 ≤ length text.now) }
+{
+    if let Some((number, len)) = short_decimal(text) {
+        return Some((number, 1 + len));
+    }
+    other_decimal(text)
+}
+
+/// The same, of three digits, as few numbers have.
+#[cold]
+#[inline(never)]
+fn other_decimal(text: &[u8]) -> Option<(u64, usize)>
+    ensures token { IfSome result (λ first. FirstToken text.now (Numeral (numbers.Integer (pos first.0))) first.1) }
+    ensures few { IfSome result (λ first. first.0 < 2 ^ 32) }
+    ensures within { IfSome result (λ first. first.1 ≤ length text.now) }
+{
+    if let Some((number, len)) = three_digits(text) {
+        return Some((number, 1 + len));
+    }
+    match text {
+        [blank, ..] if is_white(*blank) => {
+            let (number, len) = three_digits(&text[1..])?;
+            Some((number, 1 + (1 + len)))
+        }
+        _ => None,
+    }
+}
+
+/// Where fewer bytes are left, no number of three digits is looked for.
+const THREE_DIGITS_LEN: usize = 5;
+
+/// The decimal number of three digits that stands between two white bytes at the head of a text, and how
+/// many digits it has.
+#[inline(always)]
+fn three_digits(text: &[u8]) -> Option<(u64, usize)>
+    ensures front { IfSome result (λ first. spaced_decimal text.now ≡ Some first) }
+    ensures few { IfSome result (λ first. first.0 < 2 ^ 32) }
+    ensures within { IfSome result (λ first. 2 + first.1 ≤ length text.now) }
+{
+    if text.len() < THREE_DIGITS_LEN || !is_white(text[0]) || !is_white(text[4]) {
+        return None;
+    }
+    let number = decimal_pair(text[1], text[2]) * 10 + decimal_weight(text[3]);
+    if_digits(number, 3)
 }
 
 /// Where fewer bytes are left, a short decimal number isn't looked for.

@@ -1,12 +1,13 @@
 //! The token that a text begins with.
 
-ghost use Rattle.std.specs.Prelude.{◌≡◌, ℕ, ◌+◌, ◌*◌, ◌%◌, ◌<◌, ◌≤◌, ◌^◌, drop, false, true, List, ◌∷◌, ◌++◌, length, take, option_map, Some, IfOk, IfSome, IsSome, IsTrue, MatchOption, MatchResult};
+ghost use Rattle.std.specs.Prelude.{◌≡◌, ℕ, ◌+◌, ◌*◌, ◌%◌, ◌<◌, ◌≤◌, ◌^◌, drop, false, true, List, ◌∷◌, ◌++◌, length, take, option_map, pos, Some, IfOk, IfSome, IsSome, IsTrue, MatchOption, MatchResult};
 ghost use Rattle.std.specs.List.{prefix_len};
 ghost use Rattle.cmap_tokens.specs.Bytes.{is_regular};
 ghost use Rattle.cmap_tokens.specs.Gaps.{IsBlank};
+ghost use Rattle.cmap_tokens.specs.Numbers.{Integer};
 ghost use Rattle.cmap_tokens.specs.Tokens as tokens;
 ghost use Rattle.cmap_tokens.specs.Tokens.{IsMalformed, name_or_number};
-ghost use Rattle.cmap_tokens.specs.Scanner.{FirstToken, closed_number, closed_parts, short_pairs, spaced_decimal, spaced_pairs, spaced_parts, spaced_two_bytes};
+ghost use Rattle.cmap_tokens.specs.Scanner.{FirstToken, closed_number, closed_parts, short_pairs, spaced_pairs, spaced_parts, spaced_two_bytes};
 ghost use Rattle.cmap_tokens.specs.TokenReading as reading;
 ghost use Rattle.cmap_tokens.specs.TokenSeen.{malformed_seen, token_seen};
 ghost use Rattle.cmap_tokens.specs.Malformed.{malformed_kind};
@@ -16,7 +17,7 @@ use super::byte_class::{is_regular, is_white};
 use super::gaps::gap_len;
 use super::lengths::{run_len, string_len};
 use super::malformed_pieces::malformed_kind;
-use super::numerals::{hex_number, number_of, short_decimal};
+use super::numerals::{hex_number, number_of, plain_decimal};
 use super::{Malformed, Name, StringToken, Token};
 
 /// The token that a text begins with, and how many bytes it takes with the gap before it.
@@ -136,40 +137,41 @@ pub(super) fn two_strings(text: &[u8]) -> Option<(u16, u16)>
     Some((first, second))
 }
 
-/// Where fewer bytes are left, no string of two bytes and a short decimal number after it are looked for.
+/// Where fewer bytes are left, no string of two bytes and a decimal number after it are looked for.
 const TWO_BYTES_AND_DECIMAL_LEN: usize = 14;
 
-/// The number that two bytes write, the decimal number of four or five digits after it, and how many
-/// digits that has, where a text begins with such a string after one white byte.
+/// The number that two bytes write, the decimal number after it, and how many bytes that takes with the
+/// white bytes before it, where a text begins with such a string after one white byte.
 #[inline(always)]
 pub(super) fn two_bytes_and_decimal(text: &[u8]) -> Option<(u16, u64, usize)>
     ensures string { IfSome result (λ first. spaced_two_bytes text.now ≡ Some first.0) }
-    ensures decimal { IfSome result (λ first. spaced_decimal (drop 7 text.now) ≡ Some (first.1, first.2)) }
+    ensures decimal { IfSome result (λ first.
+        FirstToken (drop 7 text.now) (tokens.Numeral (Integer (pos first.1))) first.2) }
     ensures few { IfSome result (λ first. first.1 < 2 ^ 32) }
-    ensures within { IfSome result (λ first. 8 + first.2 ≤ length text.now) }
+    ensures within { IfSome result (λ first. 7 + first.2 ≤ length text.now) }
 {
     if text.len() < TWO_BYTES_AND_DECIMAL_LEN {
         return None;
     }
     let number = two_bytes(text)?;
-    let (decimal, len) = short_decimal(&text[TWO_BYTES_LEN..])?;
+    let (decimal, len) = plain_decimal(&text[TWO_BYTES_LEN..])?;
     Some((number, decimal, len))
 }
 
-/// Where fewer bytes are left, no two strings of two bytes and a short decimal number are looked for.
+/// Where fewer bytes are left, no two strings of two bytes and a decimal number are looked for.
 const TWO_STRINGS_AND_DECIMAL_LEN: usize = TWO_BYTES_LEN + TWO_BYTES_AND_DECIMAL_LEN;
 
-/// The numbers that the two bytes of each of two strings write, the decimal number of four or five
-/// digits after them, and how many digits that has, where a text begins with such strings after one white
+/// The numbers that the two bytes of each of two strings write, the decimal number after them, and how many
+/// bytes that takes with the white bytes before it, where a text begins with such strings after one white
 /// byte each.
 #[inline(always)]
 pub(super) fn two_strings_and_decimal(text: &[u8]) -> Option<(u16, u16, u64, usize)>
     ensures first { IfSome result (λ found. spaced_two_bytes text.now ≡ Some found.0) }
     ensures second { IfSome result (λ found. spaced_two_bytes (drop 7 text.now) ≡ Some found.1) }
     ensures decimal { IfSome result (λ found.
-        spaced_decimal (drop 7 (drop 7 text.now)) ≡ Some (found.2, found.3)) }
+        FirstToken (drop 7 (drop 7 text.now)) (tokens.Numeral (Integer (pos found.2))) found.3) }
     ensures few { IfSome result (λ found. found.2 < 2 ^ 32) }
-    ensures within { IfSome result (λ found. 15 + found.3 ≤ length text.now) }
+    ensures within { IfSome result (λ found. 14 + found.3 ≤ length text.now) }
 {
     if text.len() < TWO_STRINGS_AND_DECIMAL_LEN {
         return None;
