@@ -4,7 +4,8 @@
 ghost use Rattle.std.specs.Prelude.{◌≡◌, ℕ, ◌+◌, ◌-◌, List, Ok, Some, IfErr, IfOk, MatchOption, OnOk};
 ghost use Rattle.cmap_values.specs.CodeLengths.{length_of};
 ghost use Rattle.cmap_values.specs.DeclarationsSeen.{cid_entry_seen, lists_seen};
-ghost use Rattle.cmap_text.specs.EntriesSeen.{AddsDeclarations, AddsEntryIf, AddsTexts, ReadsAs, WhereRefused};
+ghost use Rattle.cmap_text.specs.EntriesSeen.{AddsDeclarations, AddsEntryIf, AddsTexts, ReadsAs, RefusesAt, WhereRefused};
+ghost use Rattle.cmap_values.specs.Outcomes.{Outcome};
 ghost use Rattle.cmap_values.specs.Files.{lists_of};
 ghost use Rattle.cmap_values.specs.Files as declared;
 ghost use Rattle.cmap_values.specs.ListsAppended.{append_lists};
@@ -15,7 +16,7 @@ ghost use Rattle.cmap_values.specs.UnitsSeen.{units_seen};
 ghost use Rattle.cmap_text.specs.TextFiles as files;
 ghost use Rattle.cmap_text.specs.TextSeen.{code_seen, extent_seen, kind_seen};
 ghost use Rattle.cmap_text.specs.TextReading as reading;
-ghost use Rattle.cmap_text.specs.TextReading.{cids_after, code_in, entry_after, filed, list_in, list_or_destination, text_of, texts_from};
+ghost use Rattle.cmap_text.specs.TextReading.{body_in, cids_after, code_in, entry_after, filed, list_in, list_or_destination, text_of, texts_from};
 ghost use Rattle.cmap_text.specs.TokenParsers.{followed_by, or_wrong, run, token_in};
 ghost use Rattle.cmap_tokens.specs.Tokens.{String};
 ghost use Rattle.cmap_tokens.specs.TokensLeft.{Left};
@@ -107,20 +108,40 @@ pub(crate) fn add_plain_cids(
     Ok(true)
 }
 
-/// The text of a single code, where both have two bytes and stand as most do. `false` of any other
+/// The text of a single code, where the code has two bytes and stands as most do. `false` of any other
 /// tokens, leaving the reader in place.
 #[inline(always)]
 pub(crate) fn add_plain_text(
     reader: &mut TokenReader<'_>,
     lists: &mut Lists,
 ) -> Result<bool, Fault<WrongToken>>
-    ensures adds { IfOk result (AddsEntryIf files.bf_char reader.old lists.old lists.new reader.new) }
-    ensures fails { IfErr result (λ fault. fault ≡ Memory) }
+    ensures { Outcome (AddsEntryIf files.bf_char reader.old lists.old lists.new reader.new)
+        (RefusesAt reader.new (run (body_in files.bf_char (lists_seen lists.old)) reader.old)) result }
 {
     let Some((code, unit)) = reader.two_byte_code_and_unit() else {
-        return Ok(false);
+        return add_longer_text(reader, lists);
     };
     add_text(lists, code.number, code.number, Units::One([unit]))?;
+    Ok(true)
+}
+
+/// The same, for a text of another number of units than one.
+#[cold]
+#[inline(never)]
+fn add_longer_text(
+    reader: &mut TokenReader<'_>,
+    lists: &mut Lists,
+) -> Result<bool, Fault<WrongToken>>
+    ensures { Outcome (AddsEntryIf files.bf_char reader.old lists.old lists.new reader.new)
+        (RefusesAt reader.new (run (body_in files.bf_char (lists_seen lists.old)) reader.old)) result }
+{
+    let Some(code) = reader.two_byte_code() else {
+        return Ok(false);
+    };
+    match reader.longer_destination() {
+        Some(units) => add_text(lists, code.number, code.number, units)?,
+        None => add_bf_char(reader, code, lists)?,
+    }
     Ok(true)
 }
 

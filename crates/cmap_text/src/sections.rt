@@ -1,6 +1,6 @@
 //! Sections: an opener, entries, a closer.
 
-ghost use Rattle.std.specs.Prelude.{◌≡◌, ◌≤◌, ℕ, List, Ok, Some, IfErr, IfOk, MatchOption, OnOk, length, option_map};
+ghost use Rattle.std.specs.Prelude.{false, ◌≡◌, ◌≤◌, ℕ, List, Ok, Some, IfErr, IfOk, MatchOption, OnOk, length, option_map};
 ghost use Rattle.cmap_tokens.specs.TokenSeen.{token_seen};
 ghost use Rattle.cmap_values.specs.DeclarationsSeen.{lists_seen};
 ghost use Rattle.cmap_values.specs.Outcomes.{Finds};
@@ -10,7 +10,7 @@ ghost use Rattle.cmap_text.specs.TextFiles as files;
 ghost use Rattle.cmap_text.specs.TextReading.{body_in, code_fault, code_in, code_or_closer, entry_after, opened_by};
 ghost use Rattle.cmap_text.specs.TextSeen.{code_seen, extent_seen, kind_seen, section_seen};
 ghost use Rattle.cmap_text.specs.TokenParsers.{head_in, or_wrong, token_in};
-ghost use Rattle.cmap_tokens.specs.Tokens.{String};
+ghost use Rattle.cmap_tokens.specs.Tokens.{Name, String};
 
 use crate::entries::{
     CidKind, Extent, add_bf_char, add_bf_range, add_cids, add_codespace_range, add_plain_cids,
@@ -36,19 +36,39 @@ impl Section {
     pub(crate) fn opened_by(token: &Token<'_>) -> Option<Section>
         ensures { option_map section_seen result ≡ opened_by (token_seen token.now) }
     {
-        if is_executable(token, b"begincidrange") {
+        match token {
+            Token::Name(name) if !name.is_literal() => Section::named(name.as_bytes()),
+            _ => None,
+        }
+    }
+
+    /// The section that an executable name opens. The first byte of most names shows that they open none.
+    fn named(name: &[u8]) -> Option<Section>
+        ensures { option_map section_seen result ≡ opened_by (Name false name.now) }
+    {
+        match name {
+            [b'b', ..] => Section::of_opener(name),
+            _ => None,
+        }
+    }
+
+    /// The same, by all bytes of the name.
+    fn of_opener(name: &[u8]) -> Option<Section>
+        ensures { option_map section_seen result ≡ opened_by (Name false name.now) }
+    {
+        if name == b"begincidrange".as_slice() {
             Some(Section::Cids(CidKind::Cid, Extent::Range))
-        } else if is_executable(token, b"begincidchar") {
+        } else if name == b"begincidchar".as_slice() {
             Some(Section::Cids(CidKind::Cid, Extent::Single))
-        } else if is_executable(token, b"beginbfrange") {
+        } else if name == b"beginbfrange".as_slice() {
             Some(Section::BfRange)
-        } else if is_executable(token, b"beginbfchar") {
+        } else if name == b"beginbfchar".as_slice() {
             Some(Section::BfChar)
-        } else if is_executable(token, b"beginnotdefrange") {
+        } else if name == b"beginnotdefrange".as_slice() {
             Some(Section::Cids(CidKind::Notdef, Extent::Range))
-        } else if is_executable(token, b"beginnotdefchar") {
+        } else if name == b"beginnotdefchar".as_slice() {
             Some(Section::Cids(CidKind::Notdef, Extent::Single))
-        } else if is_executable(token, b"begincodespacerange") {
+        } else if name == b"begincodespacerange".as_slice() {
             Some(Section::Codespaces)
         } else {
             None

@@ -219,6 +219,16 @@ impl<'d> TokenReader<'d> {
         if let Some(number) = self.scanner.next_two_bytes() {
             return Some(units_of_number(2, u32::from(number)));
         }
+        self.longer_destination()
+    }
+
+    /// The same, of a destination that `next_two_bytes` doesn't read.
+    #[inline(always)]
+    pub(crate) fn longer_destination(&mut self) -> Option<Units>
+        ensures { MatchOption result (self.new ≡ self.old) (λ units. (piece : List ℕ)
+            × (token_in self.old ≡ Ok (String piece, self.new))
+            × (destination_in (String piece) ≡ Some (units_seen units))) }
+    {
         if let Some((count, number)) = self.scanner.next_pairs() {
             return Some(units_of_number(count, number));
         }

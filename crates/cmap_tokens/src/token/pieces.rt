@@ -129,7 +129,7 @@ pub(super) fn two_strings(text: &[u8]) -> Option<(u16, u16)>
     ensures second { IfSome result (λ found. spaced_two_bytes (drop 7 text.now) ≡ Some found.1) }
     ensures within { IfSome result (λ _. 14 ≤ length text.now) }
 {
-    if text.len() < 2 * TWO_BYTES_LEN {
+    if text.len() < 2 * TWO_BYTES_LEN || text[2 * TWO_BYTES_LEN - 1] != b'>' {
         return None;
     }
     let first = two_bytes(text)?;

@@ -1,4 +1,4 @@
-use Rattle.std.proofs.Common.{◌++◌, length-append, refl, sym, ap, ◌∙◌, arith}
+use Rattle.std.proofs.Common.{refl, sym, ap, ◌∙◌, arith}
 use Rattle.cmap_tokens.specs.Tokens.{String}
 use Rattle.cmap_tokens.specs.TokensLeft.{tokens_of}
 use Rattle.cmap_text.specs.TextReading.{destination_of}
@@ -12,21 +12,3 @@ returns-in-Some c =
     let read = read_value destination_of (String piece) piece value refl only.holds ∙ destination_of-is value (omega (arith, two)) in
     let units = c.units_of_number.ensures value are (omega arith) (omega arith) (sym two) (c.from.ensures ∙ number) in
     (piece, ap token_in (sym c.self.view_is ∙ left), rw (read, ← units) refl)
-
-pub returns-in-Some-next_pairs : goal.returns-in-Some-next_pairs
-returns-in-Some-next_pairs c =
-    let (piece, reads, (value, only, are, count, number), left) = c.in-Some-next_pairs.ensures.token in
-    let (least, most) = c.in-Some-next_pairs.ensures.few in
-    let read = read_value destination_of (String piece) piece value refl only.holds ∙ destination_of-is value (omega (arith, count, least)) in
-    let units = c.units_of_number-in-Some-next_pairs.ensures value are least most count number in
-    let stays = ap tokens_of (sym (c.next_two_bytes.ensures.stays c.in_default.is)) in
-    (piece, ap token_in (sym c.self.view_is ∙ stays ∙ left), rw (read, ← units) refl)
-
-pub returns : goal.returns
-returns c =
-    let (piece, reads, (front, rest, only, front_are, rest_are, four, count, high, low), left) = c.in_ok-count.ensures.token in
-    let (least, most, even) = c.in_ok-count.ensures.few in
-    let read = read_value destination_of (String piece) piece (front ++ rest) refl only.holds ∙ destination_of-is (front ++ rest) (omega (arith, four, length-append front rest)) in
-    let units = c.units_of_parts.ensures front rest front_are rest_are four count least most even high low in
-    let stays = ap tokens_of (sym (c.next_two_bytes.ensures.stays c.in_default.is) ∙ sym (c.next_pairs.ensures.stays c.in_default-next_pairs.is)) in
-    (piece, ap token_in (sym c.self.view_is ∙ stays ∙ left), rw (read, ← units) refl)
