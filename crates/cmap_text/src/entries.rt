@@ -108,27 +108,27 @@ pub(crate) fn add_plain_cids(
     Ok(true)
 }
 
-/// The text of a single code, where the code has two bytes and stands as most do. `false` of any other
+/// The text of a single code, where both have two bytes and stand as most do. `false` of any other
 /// tokens, leaving the reader in place.
 #[inline(always)]
 pub(crate) fn add_plain_text(
     reader: &mut TokenReader<'_>,
     lists: &mut Lists,
 ) -> Result<bool, Fault<WrongToken>>
-    ensures { Outcome (AddsEntryIf files.bf_char reader.old lists.old lists.new reader.new)
-        (RefusesAt reader.new (run (body_in files.bf_char (lists_seen lists.old)) reader.old)) result }
+    ensures adds { IfOk result (AddsEntryIf files.bf_char reader.old lists.old lists.new reader.new) }
+    ensures fails { IfErr result (λ fault. fault ≡ Memory) }
 {
     let Some((code, unit)) = reader.two_byte_code_and_unit() else {
-        return add_longer_text(reader, lists);
+        return Ok(false);
     };
     add_text(lists, code.number, code.number, Units::One([unit]))?;
     Ok(true)
 }
 
-/// The same, for a text of another number of units than one.
-#[cold]
+/// The text of a single code, where the code has two bytes and stands as most do. `false` of any other
+/// code or token, leaving the reader in place.
 #[inline(never)]
-fn add_longer_text(
+pub(crate) fn add_longer_text(
     reader: &mut TokenReader<'_>,
     lists: &mut Lists,
 ) -> Result<bool, Fault<WrongToken>>

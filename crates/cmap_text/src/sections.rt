@@ -13,8 +13,8 @@ ghost use Rattle.cmap_text.specs.TokenParsers.{head_in, or_wrong, token_in};
 ghost use Rattle.cmap_tokens.specs.Tokens.{Name, String};
 
 use crate::entries::{
-    CidKind, Extent, add_bf_char, add_bf_range, add_cids, add_codespace_range, add_plain_cids,
-    add_plain_text,
+    CidKind, Extent, add_bf_char, add_bf_range, add_cids, add_codespace_range, add_longer_text,
+    add_plain_cids, add_plain_text,
 };
 use crate::tokens::{Code, TokenReader, is_executable};
 use crate::wrong_token::WrongToken;
@@ -235,6 +235,23 @@ fn read_plain_cids(
 /// Reads the entries of a section of texts of single codes that stand as most do, up to one that doesn't.
 #[inline(never)]
 fn read_plain_texts(
+    reader: &mut TokenReader<'_>,
+    lists: &mut Lists,
+) -> Result<(), Fault<WrongToken>>
+    ensures reads { ReadsOn (body_in files.bf_char) reader.old lists.old lists.new reader.new result }
+    ensures fewer { OnOk result (length reader.new.tokens ≤ length reader.old.tokens) }
+{
+    loop {
+        read_short_texts(reader, lists)?;
+        if !add_longer_text(reader, lists)? {
+            return Ok(());
+        }
+    }
+}
+
+/// Reads those of texts of one unit, up to another entry.
+#[inline(always)]
+fn read_short_texts(
     reader: &mut TokenReader<'_>,
     lists: &mut Lists,
 ) -> Result<(), Fault<WrongToken>>

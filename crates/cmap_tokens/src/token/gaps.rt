@@ -40,9 +40,12 @@ fn comment_len(text: &[u8]) -> usize
 }
 
 /// How many bytes are passed at once where none of them ends a comment.
-const AT_ONCE: usize = 8;
+const AT_ONCE: usize = 16;
 
-/// How many bytes of a comment are passed, by eights, before one that may end it.
+/// How many bytes are passed at once after these.
+const FEWER: usize = 8;
+
+/// How many bytes of a comment are passed, by sixteens and then by eight, before one that may end it.
 fn plain_len(text: &[u8]) -> usize
     ensures exact { reading.gap_len true text.now
         ≡ result + reading.gap_len true (drop result text.now) }
@@ -51,6 +54,9 @@ fn plain_len(text: &[u8]) -> usize
     let mut i = 0;
     while text.len() - i >= AT_ONCE && are_plain(&text[i..i + AT_ONCE]) {
         i += AT_ONCE;
+    }
+    if text.len() - i >= FEWER && are_plain(&text[i..i + FEWER]) {
+        i += FEWER;
     }
     i
 }

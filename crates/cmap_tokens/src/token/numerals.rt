@@ -55,22 +55,21 @@ pub(super) fn plain_decimal(text: &[u8]) -> Option<(u64, usize)>
 }
 
 /// The same, of three digits, as few numbers have.
-#[cold]
-#[inline(never)]
+#[inline(always)]
 fn other_decimal(text: &[u8]) -> Option<(u64, usize)>
     ensures token { IfSome result (λ first. FirstToken text.now (Numeral (numbers.Integer (pos first.0))) first.1) }
     ensures few { IfSome result (λ first. first.0 < 2 ^ 32) }
     ensures within { IfSome result (λ first. first.1 ≤ length text.now) }
 {
-    if let Some((number, len)) = three_digits(text) {
-        return Some((number, 1 + len));
-    }
     match text {
-        [blank, ..] if is_white(*blank) => {
+        [first, second, ..] if is_white(*first) && is_white(*second) => {
             let (number, len) = three_digits(&text[1..])?;
             Some((number, 1 + (1 + len)))
         }
-        _ => None,
+        _ => {
+            let (number, len) = three_digits(text)?;
+            Some((number, 1 + len))
+        }
     }
 }
 
@@ -79,7 +78,8 @@ const THREE_DIGITS_LEN: usize = 5;
 
 /// The decimal number of three digits that stands between two white bytes at the head of a text, and how
 /// many digits it has.
-#[inline(always)]
+#[cold]
+#[inline(never)]
 fn three_digits(text: &[u8]) -> Option<(u64, usize)>
     ensures front { IfSome result (λ first. spaced_decimal text.now ≡ Some first) }
     ensures few { IfSome result (λ first. first.0 < 2 ^ 32) }

@@ -5,13 +5,13 @@ use Rattle.cmap_text.specs.TextReading.{body_in}
 use Rattle.cmap_text.specs.TokenParsers.{run}
 use Rattle.cmap_text.proofs.sections.read_plain_texts.Given as goal
 
-abbrev pub invariant-loop : goal.invariant-loop
-invariant-loop l =
+abbrev pub invariant-loop-reader : goal.invariant-loop-reader
+invariant-loop-reader l =
     let body = body_in bf_char in
     record {
       same : run (body (lists_seen l.initial.lists)) l.initial.reader ≡ run (body (lists_seen l.lists)) l.reader;
       fewer : length l.reader.tokens ≤ length l.initial.reader.tokens;
     }
 
-abbrev pub decreases-loop : goal.decreases-loop
-decreases-loop l = length l.reader.tokens
+abbrev pub decreases-loop-reader : goal.decreases-loop-reader
+decreases-loop-reader l = length l.reader.tokens
