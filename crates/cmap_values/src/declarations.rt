@@ -160,6 +160,7 @@ impl Lists {
     }
 
     /// Adds a declaration of texts.
+    #[inline(always)]
     pub fn add_bf(&mut self, range: BfRange) -> Result<(), AllocError>
         ensures added { OnOk result (lists_seen self.new ≡ append_lists (lists_seen self.old)
             (lists_of (Declaration.bf (bf_entry_seen range) ∷ []))) }

@@ -11,6 +11,7 @@ use super::byte_class::is_white;
 pub(super) const FORM_FEED: u8 = 12;
 
 /// How many bytes of white space and comments a text begins with.
+#[inline(always)]
 pub(super) fn gap_len(text: &[u8]) -> usize
     ensures exact { result ≡ reading.gap_len false text.now }
     ensures within { result ≤ length text.now }

@@ -1,6 +1,5 @@
 use Rattle.std.proofs.Common.{refl, sym, ap, ◌∙◌, arith}
 use Rattle.cmap_tokens.specs.Tokens.{String}
-use Rattle.cmap_tokens.specs.TokensLeft.{tokens_of}
 use Rattle.cmap_text.specs.TextReading.{destination_of}
 use Rattle.cmap_text.specs.TokenParsers.{token_in}
 use Rattle.cmap_text.proofs.TokensRead.{read_value, destination_of-is}
