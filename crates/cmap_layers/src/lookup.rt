@@ -34,11 +34,14 @@ impl Layers {
         ensures { FindsCid self.now code byte_len looks.old looks.new result }
     {
         let layers = self.as_slice();
-        match layers {
-            // Most maps have one layer, which is asked without a loop.
-            [only] => decided_by(only, code, CodeLength::of(byte_len)?, looks)?,
-            _ => cid_in_turn(layers, code, byte_len, looks),
+        if byte_len == 2 {
+            // Most maps have one layer, and most codes two bytes: these are looked up without a loop, and
+            // without a jump by the length.
+            if let [only] = layers {
+                return decided_by(only, code, CodeLength::Two, looks)?;
+            }
         }
+        cid_in_turn(layers, code, byte_len, looks)
     }
 
     /// The answer of `cid`, where the code lies in a codespace range of some layer; else `None`.
