@@ -1,10 +1,10 @@
 -- Codespace ranges that are asked for: the rows of a query, and whether a range is in all of them.
-use Rattle.std.proofs.Common.{◌≡◌, ◌≢◌, ℕ, zero, suc, ◌+◌, ◌-◌, ◌*◌, ◌/◌, ◌%◌, ◌^◌, ◌<◌, ◌≤◌, ◌⊎◌, List, [], ◌∷◌, length, map, max, min, take, drop, get_or, get_or-take, Option, Some, None, refl, sym, ap, ◌∙◌, subst, inl, inr, lt-ltb, le-ltb, div-one, slice_get, bit_and, All, Any, arith}
-use Rattle.std.specs.Prelude.{◌↔◌, IsSomeAnd, slice_index, if◌then◌else◌}
+use Rattle.std.proofs.Common.{◌≡◌, ◌≢◌, ℕ, zero, suc, ◌+◌, ◌-◌, ◌*◌, ◌/◌, ◌%◌, ◌^◌, ◌<◌, ◌≤◌, ◌⊎◌, Bool, List, [], ◌∷◌, length, map, max, min, take, drop, get_or, get_or-take, Option, Some, None, refl, sym, ap, ◌∙◌, subst, inl, inr, lt-ltb, le-ltb, div-one, slice_get, bit_and, All, Any, arith}
+use Rattle.std.specs.Prelude.{◌↔◌, IsSomeAnd, slice_index, unwrap_or, if◌then◌else◌}
 use Rattle.std.specs.Int.{bit_at, bytes_high_first}
 use Rattle.std.specs.Int as int
 use Rattle.std.specs.Global.{Vec}
-use Rattle.std.proofs.lemmas.Bool.{cases_lt}
+use Rattle.std.proofs.lemmas.Bool.{cases_lt, ne_eqb}
 use Rattle.std.proofs.lemmas.Nat.Bits.{bit_at-zero}
 use Rattle.std.proofs.lemmas.List.{length-take-le}
 use Rattle.std.proofs.lemmas.Nat.{and_le_l, shr-shr}
@@ -15,7 +15,7 @@ use Rattle.cmap_values.specs.Files.{Codespace}
 use Rattle.cmap_values.specs.declared.code_length.CodeLength.{CodeLength}
 use Rattle.cmap_values.specs.declared.code_length.CodeLength.TheVariants.{One, Two, Three, Four}
 use Rattle.cmap_values.specs.declared.declarations.Codespace as declared
-use Rattle.cmap_codespaces.specs.CodesWithin.{Begins, HasFront, IsInsideRanges, IsLeast, IsWithin, byte_at, lesser}
+use Rattle.cmap_codespaces.specs.CodesWithin.{Begins, HasFront, IsInsideRanges, IsLeast, IsWithin, byte_at, lesser, some_count}
 use Rattle.cmap_codespaces.specs.SpaceBits.{AreBlocks, AreGroups, AreRows, AreSet, EachRow, HasGroup, HasRange, HaveBits, HaveRows, InRow, InRows, IsFound, IsFoundAmong, IsFoundAt, IsInside, IsInsideWithin, IsSet, front_row, query_of, row_count, row_of_length, row_of_value}
 use Rattle.cmap_codespaces.specs.declared.query.Query.{Query}
 use Rattle.cmap_codespaces.proofs.RowBits.{both_set, item_within, length_in_row, some_bit, value_in_row}
@@ -463,3 +463,8 @@ too_few spaces front fewest n least short some =
           ]
       | inr past ↦ absurd (subst (λ o. IsSomeAnd o (λ space. HasFront n front (codespace_seen space))) past.1 has)
     ]
+
+-- a count that stands for the least number, or for none
+pub least_counted : (Holds : ℕ → Type 0) (least : Option ℕ) → ((n : ℕ) → Holds n → 1 ≤ n) → IsLeast Holds least → IsLeast Holds (some_count (unwrap_or least 0))
+least_counted Holds None some is = is
+least_counted Holds (Some n) some is = subst (IsLeast Holds) (ap (λ (b : Bool). if b then None else Some n) (sym (ne_eqb n 0 (λ zero. omega (arith, zero, some n is.0))))) is

@@ -1,5 +1,5 @@
 -- Whether a codespace range contains a code, byte by byte and not as a number, and whether codes of it begin with given bytes. ISO 32000-1, 9.7.6.2.
-use Rattle.std.specs.Prelude.{◌≡◌, MatchOption, Option, Some, None, Any, min, ℕ, suc, ◌-◌, ◌/◌, ◌%◌, ◌^◌, ◌<◌, ◌≤◌, List, length, take, slice_index}
+use Rattle.std.specs.Prelude.{◌≡◌, MatchOption, Option, Some, None, Any, min, ℕ, suc, ◌-◌, ◌/◌, ◌%◌, ◌^◌, ◌<◌, ◌≤◌, List, length, take, slice_index, nat_eq, if◌then◌else◌}
 use Rattle.cmap_values.specs.Files.{Codespace}
 
 -- the byte of a number that stands k bytes before its last
@@ -29,6 +29,10 @@ IsInsideRanges text spaces n = Begins text n × Any (HasFront n (take n text)) s
 -- the least number for which it holds; none where it holds for none
 abbrev pub IsLeast : (ℕ → Type 0) → Option ℕ → Type 0
 IsLeast Holds least = MatchOption least ((n : ℕ) → Holds n → ⊥) (λ n. Holds n × ((m : ℕ) → m < n → Holds m → ⊥))
+
+-- a count, or nothing for 0
+abbrev pub some_count : ℕ → Option ℕ
+some_count count = if nat_eq count 0 then None else Some count
 
 -- the lesser of two numbers, or the one that is there
 abbrev pub lesser : Option ℕ → Option ℕ → Option ℕ

@@ -1,10 +1,11 @@
 //! The shortest code in a codespace range that a string begins with.
 
-ghost use Rattle.std.specs.Prelude.{◌≡◌, ℕ, ◌+◌, ◌*◌, ◌<◌, ◌≤◌, length, slice_index, take};
+ghost use Rattle.std.specs.Prelude.{◌≡◌, ℕ, ◌+◌, ◌*◌, ◌<◌, ◌≤◌, Some, length, slice_index, take};
+ghost use Rattle.std.specs.Bool.{MatchBool};
 ghost use Rattle.std.specs.Int.{bit_at};
 ghost use Rattle.cmap_values.specs.CodeLengths.{IsCodeLength};
 ghost use Rattle.cmap_codespaces.specs.CodesWithin.{IsLeast, lesser};
-ghost use Rattle.cmap_codespaces.specs.SpaceBits.{AreGroups, HaveRows, IsFound, IsFoundAmong, IsInside, IsInsideWithin, IsSet, query_of, row_count, row_of_value};
+ghost use Rattle.cmap_codespaces.specs.SpaceBits.{AreGroups, HaveRows, IsFound, IsFoundAmong, IsInside, IsInsideWithin, IsSet, MayBegin, query_of, row_count, row_of_value};
 
 use crate::block::{row_of_length, row_of_value};
 use crate::query::Query;
@@ -50,21 +51,49 @@ pub(crate) fn shortest_among_groups(
     None
 }
 
-/// The same of one block.
+/// The same of one block. Most codes have one or two bytes: outside of a loop, what is then done for each
+/// length needs no test of it.
 #[inline(always)]
 pub(crate) fn shortest_in_block(rows: &[u64], text: &[u8]) -> Option<u8>
     requires { length rows.now ≡ row_count }
     ensures { IsLeast (IsInside text.now rows.now) result }
 {
+    let most = text.len().min(4) as u8;
     let mut found = u64::MAX;
-    for place in 0..text.len().min(4) as u8 {
-        let byte = text[usize::from(place)];
-        found &= rows[row_of_value(place, u32::from(byte))];
-        if found & rows[row_of_length(place + 1)] != 0 {
+    if most == 0 {
+        return None;
+    }
+    if ends_at(rows, text, 0, &mut found) {
+        return Some(1);
+    }
+    if most == 1 {
+        return None;
+    }
+    if ends_at(rows, text, 1, &mut found) {
+        return Some(2);
+    }
+    for place in 2..most {
+        if ends_at(rows, text, place, &mut found) {
             return Some(place + 1);
         }
     }
     None
+}
+
+/// Whether a range of a block contains a code that ends with the byte at a place. `found` has a bit for
+/// each range that may begin with the bytes before, and then for each that may begin with this one too.
+#[inline(always)]
+fn ends_at(rows: &[u64], text: &[u8], place: u8, found: &mut u64) -> bool
+    requires size { length rows.now ≡ row_count }
+    requires place { (place < 4) × (place < length text.now) }
+    requires before { MayBegin rows.now text.now place found.old }
+    ensures { MatchBool result
+        (IsLeast (IsInside text.now rows.now) (Some (place + 1)))
+        (MayBegin rows.now text.now (place + 1) found.new) }
+{
+    let byte = text[usize::from(place)];
+    *found &= rows[row_of_value(place, u32::from(byte))];
+    *found & rows[row_of_length(place + 1)] != 0
 }
 
 /// How many bytes the codes have at least of the ranges of a block that may begin with these bytes.

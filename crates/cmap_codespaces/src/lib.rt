@@ -12,4 +12,4 @@ mod spaces;
 
 pub use front::lesser;
 pub use query::Query;
-pub use spaces::Spaces;
+pub use spaces::{Spaces, some_count};

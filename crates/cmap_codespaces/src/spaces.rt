@@ -3,7 +3,7 @@
 ghost use Rattle.std.specs.Prelude.{◌≡◌, ◌↔◌, ◌≤◌, Any, IfOk, IsTrue, length, map};
 ghost use Rattle.cmap_values.specs.CodeLengths.{IsCodeLength};
 ghost use Rattle.cmap_values.specs.DeclarationsSeen.{codespace_seen};
-ghost use Rattle.cmap_codespaces.specs.CodesWithin.{HasFront, IsInsideRanges, IsLeast};
+ghost use Rattle.cmap_codespaces.specs.CodesWithin.{HasFront, IsInsideRanges, IsLeast, some_count};
 ghost use Rattle.cmap_codespaces.specs.SpaceBits.{AreBlocks, AreRows, InRows};
 
 use crate::block::{BLOCK_LEN, rows_of};
@@ -160,12 +160,20 @@ impl Spaces {
     {
         match self.blocks.as_slice() {
             [only] => shortest_in_block(only, text),
-            _ => self.shortest_of_all(text),
+            _ => some_count(self.count_of_all(text)),
         }
     }
 
-    /// The answer of `shortest`, of any number of blocks.
+    /// The answer of `shortest`, of any number of blocks; 0 for `None`, since an `Option` that a call
+    /// returns is kept whole, and so are others where it may stand.
     #[inline(never)]
+    fn count_of_all(&self, text: &[u8]) -> u8
+        ensures { IsLeast (IsInsideRanges text.now (map codespace_seen self.now)) (some_count result) }
+    {
+        self.shortest_of_all(text).unwrap_or(0)
+    }
+
+    /// The answer of `shortest`, of any number of blocks.
     fn shortest_of_all(&self, text: &[u8]) -> Option<u8>
         ensures { IsLeast (IsInsideRanges text.now (map codespace_seen self.now)) result }
     {
@@ -185,6 +193,14 @@ impl Spaces {
         }
         shortest_among_groups(&self.blocks, &self.groups, &self.tops, fewest, text)
     }
+}
+
+/// A count, or `None` for 0.
+#[inline(always)]
+pub fn some_count(count: u8) -> Option<u8>
+    ensures { result ≡ some_count count }
+{
+    if count == 0 { None } else { Some(count) }
 }
 
 /// The rows of each block of 64 ranges.

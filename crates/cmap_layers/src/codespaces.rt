@@ -3,7 +3,7 @@
 
 ghost use Rattle.std.specs.Prelude.{◌↔◌, ◌<◌, ◌≤◌, ◌^◌, Any, IsTrue, length};
 ghost use Rattle.cmap_values.specs.CodeLengths.{IsCodeLength, length_of};
-ghost use Rattle.cmap_codespaces.specs.CodesWithin.{HasFront, IsLeast};
+ghost use Rattle.cmap_codespaces.specs.CodesWithin.{HasFront, IsLeast, some_count};
 ghost use Rattle.cmap_codespaces.specs.SpaceBits.{AreRows, InRows};
 ghost use Rattle.cmap_layers.specs.LayersSeen.{layers_seen};
 ghost use Rattle.cmap_layers.specs.Lookups.{InCodespace};
@@ -11,7 +11,7 @@ ghost use Rattle.cmap_layers.specs.StringCodes.{BeginsInside};
 
 use crate::layer::Layer;
 use crate::layers::Layers;
-use cmap_codespaces::{Query, lesser};
+use cmap_codespaces::{Query, lesser, some_count};
 use cmap_values::code_length::CodeLength;
 
 impl Layers {
@@ -45,12 +45,19 @@ pub(crate) fn shortest(layers: &[Layer], text: &[u8]) -> Option<u8>
 {
     match layers {
         [only] => only.spaces.shortest(text),
-        _ => shortest_of_all(layers, text),
+        _ => some_count(count_of_all(layers, text)),
     }
 }
 
-/// The answer of `shortest`, of any number of layers.
+/// The answer of `shortest`, of any number of layers; 0 for `None`, as `some_count` reads it.
 #[inline(never)]
+fn count_of_all(layers: &[Layer], text: &[u8]) -> u8
+    ensures { IsLeast (BeginsInside (layers_seen layers.now) text.now) (some_count result) }
+{
+    shortest_of_all(layers, text).unwrap_or(0)
+}
+
+/// The answer of `shortest`, of any number of layers.
 fn shortest_of_all(layers: &[Layer], text: &[u8]) -> Option<u8>
     ensures { IsLeast (BeginsInside (layers_seen layers.now) text.now) result }
 {

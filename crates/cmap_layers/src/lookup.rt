@@ -1,6 +1,6 @@
 //! What a code stands for: the first layer that decides, from the top one on.
 
-ghost use Rattle.std.specs.Prelude.{◌≡◌, ◌*◌, ◌<◌, ◌≤◌, length, map, option_and_then, option_map, is_some, IfOk, IfSome, IsSomeAnd, OnErr};
+ghost use Rattle.std.specs.Prelude.{◌≡◌, ◌*◌, ◌<◌, ◌≤◌, [], ◌∷◌, length, map, option_and_then, option_map, is_some, IfOk, IfSome, IsSomeAnd, OnErr};
 ghost use Rattle.std.specs.Option.{option_copied};
 ghost use Rattle.cmap_runs.specs.SearchLooks.{LooksAtMost};
 ghost use Rattle.cmap_tokens.specs.Texts.{only_character, text_at, text_of_characters};
@@ -34,14 +34,18 @@ impl Layers {
         ensures { FindsCid self.now code byte_len looks.old looks.new result }
     {
         let layers = self.as_slice();
-        if byte_len == 2 {
-            // Most maps have one layer, and most codes two bytes: these are looked up without a loop, and
-            // without a jump by the length.
-            if let [only] = layers {
-                return decided_by(only, code, CodeLength::Two, looks)?;
-            }
+        // Most maps have one layer, which is asked without a loop. The answer of a call is taken apart:
+        // else all answers would be put together and tested once more.
+        let [only] = layers else {
+            let cid = cid_in_turn(layers, code, byte_len, looks)?;
+            return Some(cid);
+        };
+        // Most codes have two bytes. They need no jump by their length.
+        if byte_len != 2 {
+            let cid = cid_of_length(only, code, byte_len, looks)?;
+            return Some(cid);
         }
-        cid_in_turn(layers, code, byte_len, looks)
+        cid_in(only, code, CodeLength::Two, looks)
     }
 
     /// The answer of `cid`, where the code lies in a codespace range of some layer; else `None`.
@@ -81,6 +85,22 @@ impl Layers {
         };
         text_of(alloc, found, code - found.range.start)
     }
+}
+
+/// The CID of a code of this length in a map of one layer.
+#[inline(always)]
+fn cid_in(layer: &Layer, code: u32, len: CodeLength, looks: &mut Looks) -> Option<Cid>
+    ensures { FindsCid (layer_seen layer.now ∷ []) code (length_of len) looks.old looks.new result }
+{
+    decided_by(layer, code, len, looks)?
+}
+
+/// The CID of a code of `byte_len` bytes in a map of one layer.
+#[inline(never)]
+fn cid_of_length(layer: &Layer, code: u32, byte_len: u8, looks: &mut Looks) -> Option<Cid>
+    ensures { FindsCid (layer_seen layer.now ∷ []) code byte_len looks.old looks.new result }
+{
+    cid_in(layer, code, CodeLength::of(byte_len)?, looks)
 }
 
 /// The CID of a code of `byte_len` bytes, by asking each layer in turn.

@@ -1,4 +1,4 @@
-use Rattle.std.proofs.Common.{ℕ, ◌<◌, List, length, eqb-true, sym, ap, ◌∙◌, refl, subst, arith}
+use Rattle.std.proofs.Common.{ℕ, ◌<◌, List, length, sym, ap, ◌∙◌, refl, subst, arith}
 use Rattle.std.specs.Global.{Vec}
 use Rattle.std.proofs.lemmas.Result.{IfOk-from_err}
 use Rattle.cmap_codespaces.specs.SpaceBits.{AreBlocks, AreGroups, HaveLengths, HaveRows}
