@@ -146,7 +146,7 @@ IsInside text rows n = Begins text n × IsFound rows (query_of n (take n text))
 abbrev pub IsInsideWithin : List ℕ → List (Vec ℕ) → ℕ → ℕ → ℕ → Type 0
 IsInsideWithin text blocks first count n = Begins text n × IsFoundWithin blocks (query_of n (take n text)) first count
 
--- the text begins with no code of at most so many bytes that a range of the block contains; the bits are those of the ranges that may begin with its first bytes, so many
+-- the text begins with no code of at most `count` bytes that a range of the block contains; `bits` has a bit for each range that may begin with its first `count` bytes
 pub record MayBegin (rows text : List ℕ) (count bits : ℕ) : Type 0 where
   pub set : (i : ℕ) → bit_at bits i ≡ 1 → (k : ℕ) → k < count → IsSet rows i (row_of_value k (slice_index text k))
   pub all : (i : ℕ) → i < 64 → ((k : ℕ) → k < count → IsSet rows i (row_of_value k (slice_index text k))) → bit_at bits i ≡ 1

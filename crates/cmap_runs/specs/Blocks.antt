@@ -43,7 +43,7 @@ pub record IsOpen (runs : List Run) (count code begun starts : ℕ) : Type 0 whe
   pub starts_are : AreStarts runs code begun count starts
   pub last : AllWithin (λ run. run.low < code + 32) runs 0 count
 
--- the first blocks, of which there may be so many; the first `count` runs were seen, and the others begin after those blocks
+-- the first blocks, at most `most`, of the first `count` runs; the other runs begin after those blocks
 pub record AreMade (runs : List Run) (count : ℕ) (list : List Block) (most begun starts : ℕ) : Type 0 where
   pub each : (i place : ℕ) (d : Block) → i < length list → place < 32 → MayHold runs (32 * i + place) (begun_by (get_or list i d) place)
   pub within : (begun ≤ count) × (count ≤ length runs)

@@ -47,7 +47,7 @@ pub(super) fn bit_of(code: u32) -> u32
     1 << (BLOCK_LEN - 1 - code % BLOCK_LEN)
 }
 
-/// How many blocks may be made of so many runs, the first of which begins at `first`. Few runs need
+/// How many blocks may be made of this many runs, the first of which begins at `first`. Few runs need
 /// none but that of the first codes, where the notdefs of most files lie.
 pub(super) fn most_blocks(run_count: usize, first: u64) -> usize
     ensures { result ≤ 2048 }
