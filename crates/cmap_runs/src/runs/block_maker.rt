@@ -15,7 +15,8 @@ pub(super) struct BlockMaker {
     pub(super) begun: usize,
     /// A bit for each code of the open block at which a run begins, that of the first code high.
     pub(super) starts: u32,
-    /// The code after those of the open block; one above all codes where no more blocks may be made.
+    /// The code after those of the open block. Where no more blocks may be made it is one above all codes,
+    /// from the first `end_before` on.
     pub(super) end: u64,
     ghost ends: { vec_len list < most → end ≤ 32 * vec_len list + 32 },
     ghost room: { (most ≤ 2048) × (vec_len list ≤ most) × (most ≤ vec_capacity list) × (begun ≤ 65536) },
