@@ -1,5 +1,6 @@
 pub mod BinarySalvaged
 pub mod Bodies
+mod CidsOfTwo
 pub mod EntrySums
 pub mod FaultsFirst
 pub mod OneFile

@@ -1,10 +1,13 @@
 -- Private aid: what contracts see of the types of segments, and of a file to which one is added.
 use Rattle.std.specs.Prelude.{◌≡◌, ℕ, List, [], ◌∷◌, ◌++◌, map, Some, Result}
+use Rattle.std.specs.Global.{Vec}
 use Rattle.cmap_values.specs.CodeLengths.{length_of}
 use Rattle.cmap_values.specs.Files.{Declaration, File, Lists, lists_of}
 use Rattle.cmap_values.specs.ListsAppended.{append_lists}
 use Rattle.cmap_values.specs.Only.{IsOnly, HoldsOfNone}
 use Rattle.cmap_values.specs.Outcomes.{Outcome}
+use Rattle.cmap_values.specs.declared.declarations.CidRange.{CidRange}
+use Rattle.cmap_values.specs.declared.declarations.Lists as declarations
 use Rattle.cmap_values.specs.declared.fault.Fault.{Fault}
 use Rattle.cmap_values.specs.declared.fault.Reason.{Reason}
 use Rattle.cmap_packed.specs.Bundles.{PrefixTables}
@@ -76,6 +79,15 @@ pub record SaysRow {A S : Type 0} (item : S → A × S → Type 0) (kind : A →
 -- a call that adds things in a row to lists
 abbrev pub AddsRow : {A S : Type 0} → (S → A × S → Type 0) → (S → Reason → Type 0) → (A → Declaration) → ℕ → S → Lists → Lists → Result Unit (Fault Reason) → Type 0
 AddsRow item wrong kind n start old new = Outcome (λ done. SaysRow item kind n start old new) (IsWrong (RowOf item n start) (WrongInRow item wrong n start))
+
+-- lists of which that of the CIDs for codes of two bytes is this one
+abbrev pub with_cids_of_two : Vec CidRange → declarations.Lists → declarations.Lists
+with_cids_of_two list others = record {
+  cids = record { one = others.cids.one; two = list; three = others.cids.three; four = others.cids.four };
+  notdefs = others.notdefs;
+  bfs = others.bfs;
+  spaces = others.spaces;
+}
 
 -- the bytes are segments in a row, which say together what the file says
 abbrev pub SegmentsSay : PrefixTables → List ℕ → File → Type 0

@@ -3,7 +3,7 @@
 ghost use Rattle.cmap_binary.specs.BinaryEntries.{BfEntryAt, CidEntryAt, DestinationAt, cid_from};
 ghost use Rattle.cmap_binary.specs.BinaryFiles as files;
 ghost use Rattle.cmap_binary.specs.BinaryFiles.{SaysAs};
-ghost use Rattle.cmap_binary.specs.BinarySeen.{AddsRow, Declares, ReadsOr};
+ghost use Rattle.cmap_binary.specs.BinarySeen.{AddsRow, Declares, ReadsOr, with_cids_of_two};
 ghost use Rattle.cmap_binary.specs.WrongSegments.{WrongBfEntry, WrongCidEntry, WrongCids, WrongTexts};
 ghost use Rattle.cmap_packed.specs.BundleSeen.{tables_seen};
 ghost use Rattle.cmap_binary.specs.ColumnsSeen.{cid_columns_seen, columns_seen, shape_seen};
@@ -11,10 +11,11 @@ ghost use Rattle.cmap_packed.specs.Fronts.{FieldAt, RowOf};
 ghost use Rattle.cmap_values.specs.Outcomes.{Finds};
 ghost use Rattle.cmap_values.specs.declared.fault.Reason.TheVariants.{Entry};
 ghost use Rattle.cmap_values.specs.declared.fault.Segment.TheVariants.{Texts};
-ghost use Rattle.std.specs.Prelude.{◌≡◌, ◌*◌, ◌≤◌, length};
+ghost use Rattle.std.specs.Prelude.{◌≡◌, ◌+◌, ◌*◌, ◌≤◌, length, min, vec_capacity, vec_len};
 ghost use Rattle.cmap_values.specs.CodeLengths.{length_of};
 ghost use Rattle.cmap_values.specs.Files.{bf, cid};
-ghost use Rattle.cmap_values.specs.DeclarationsSeen.{cid_entry_seen, lists_seen};
+ghost use Rattle.cmap_values.specs.DeclarationsSeen.{cid_entry_seen, lists_seen, slot};
+ghost use Rattle.cmap_values.specs.declared.declarations.Lists.{Lists};
 ghost use Rattle.cmap_values.specs.UnitsSeen.{units_seen};
 
 use crate::columns::{Columns, Shape, take_columns};
@@ -25,6 +26,7 @@ use cmap_values::declarations::{BfRange, CidRange, Lists};
 use cmap_values::fault::{Fault, Reason, Segment};
 use cmap_values::units::Units;
 use std::alloc::Global;
+use std::mem::replace;
 
 /// What is left of the columns of a segment of CIDs.
 #[derive(Drop)]
@@ -59,6 +61,7 @@ impl CidColumns<'_> {
 /// is ignored.
 #[inline(never)]
 pub(crate) fn add_cids(
+    alloc: Global,
     tables: &Tables,
     shape: Shape,
     len: CodeLength,
@@ -85,26 +88,29 @@ pub(crate) fn add_cids(
         raws: payload,
         next: 0,
     };
-    add_cid_entries(tables, left, count, len, lists)
+    add_cid_entries(alloc, tables, left, count, len, lists)
 }
 
 /// Adds the next `count` entries, for codes of this length. Each length has a loop of its own, which
 /// needn't look for its list; and so have single codes of two bytes, which have no counts to hold, where
 /// there is a raw CID for each.
 fn add_cid_entries(
+    alloc: Global,
     tables: &Tables,
     left: CidColumns<'_>,
     count: u16,
     len: CodeLength,
     lists: &mut Lists,
 ) -> Result<(), Fault<Reason>>
+    requires { let list = slot lists.old.cids len in
+        vec_len list + min count (length left.raws.now) ≤ vec_capacity list }
     ensures { AddsRow (CidEntryAt (tables_seen tables.now)) (WrongCidEntry (tables_seen tables.now))
         (cid (length_of len)) count
         (cid_columns_seen left.entry) (lists_seen lists.old) (lists_seen lists.new) result }
 {
     let singles = left.columns.counts.is_none() && 2 * usize::from(count) <= left.raws.len();
     match len {
-        CodeLength::Two if singles => add_single_cids(tables, left, count, lists),
+        CodeLength::Two if singles => add_single_cids(alloc, tables, left, count, lists),
         CodeLength::One => add_each_cid(tables, left, count, CodeLength::One, lists),
         CodeLength::Two => add_each_cid(tables, left, count, CodeLength::Two, lists),
         CodeLength::Three => add_each_cid(tables, left, count, CodeLength::Three, lists),
@@ -112,17 +118,40 @@ fn add_cid_entries(
     }
 }
 
-/// Adds the next `count` entries one by one, each of which has a raw CID, for codes of two bytes.
+/// Adds the next `count` entries one by one, each of which has a raw CID, for codes of two bytes. Their
+/// list stands apart meanwhile, so that its length needn't be written for each.
 fn add_single_cids(
+    alloc: Global,
     tables: &Tables,
     left: CidColumns<'_>,
     count: u16,
     lists: &mut Lists,
 ) -> Result<(), Fault<Reason>>
-    requires { 2 * count ≤ length left.raws.now }
+    requires raws { 2 * count ≤ length left.raws.now }
+    requires room { vec_len lists.old.cids.two + count ≤ vec_capacity lists.old.cids.two }
     ensures { AddsRow (CidEntryAt (tables_seen tables.now)) (WrongCidEntry (tables_seen tables.now))
         (cid 2) count
         (cid_columns_seen left.entry) (lists_seen lists.old) (lists_seen lists.new) result }
+{
+    let mut list = replace(&mut lists.cids.two, Vec::new(alloc));
+    let added = push_single_cids(tables, left, count, &mut list);
+    lists.cids.two = list;
+    added
+}
+
+/// Adds the next `count` entries to the list of those for codes of two bytes, which has room for them.
+#[inline(always)]
+fn push_single_cids(
+    tables: &Tables,
+    left: CidColumns<'_>,
+    count: u16,
+    list: &mut Vec<CidRange>,
+) -> Result<(), Fault<Reason>>
+    requires raws { 2 * count ≤ length left.raws.now }
+    requires room { vec_len list.old + count ≤ vec_capacity list.old }
+    ensures { (others : Lists) → AddsRow (CidEntryAt (tables_seen tables.now))
+        (WrongCidEntry (tables_seen tables.now)) (cid 2) count (cid_columns_seen left.entry)
+        (lists_seen (with_cids_of_two list.old others)) (lists_seen (with_cids_of_two list.new others)) result }
 {
     let CidColumns {
         mut columns,
@@ -136,7 +165,7 @@ fn add_single_cids(
             return Err(Fault::Refused(Reason::CidTooLarge));
         };
         next = u64::from(cid) + u64::from(range.end - range.start) + 1;
-        lists.add_cid(CodeLength::Two, CidRange { range, cid })?;
+        list.push_reserved(CidRange { range, cid });
     }
     Ok(())
 }

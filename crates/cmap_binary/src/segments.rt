@@ -48,7 +48,7 @@ fn add_content<'d>(
         (file_seen file.old) (file_seen file.new) result }
 {
     match kind {
-        Kind::Cids(shape, len) => add_cids(tables, shape, len, payload, &mut file.lists),
+        Kind::Cids(shape, len) => add_cids(alloc, tables, shape, len, payload, &mut file.lists),
         Kind::Texts(shape, units) => add_texts(
             alloc,
             tables,

@@ -9,6 +9,10 @@ use std::io::{ErrorKind, Read};
 /// How many bytes a read asks for.
 const PIECE_LEN: usize = 8192;
 
+/// How many bytes there is room for at first. So much lies in pages of its own, which aren't copied where the
+/// room grows, and take no memory until they are filled.
+const FIRST_ROOM: usize = 1 << 18;
+
 /// How many reads an input may take: with whole pieces, 32 TiB. So the loop ends on any input.
 const MOST_READS: u32 = u32::MAX;
 
@@ -16,7 +20,7 @@ const MOST_READS: u32 = u32::MAX;
 pub fn read_all<R: Read>(alloc: Global, input: &mut R) -> Result<Vec<u8>, Failure>
     ensures { IfOk result (λ all. IfSome (R.remaining input.old) (λ given. all.items ≡ given)) }
 {
-    let mut bytes = Vec::new(alloc);
+    let mut bytes = Vec::with_capacity(alloc, FIRST_ROOM)?;
     let mut piece = vec![in alloc; 0; PIECE_LEN]?;
     for _ in 0..MOST_READS {
         match input.read(&mut piece) {
