@@ -9,8 +9,8 @@ use std::io::{ErrorKind, Read};
 /// How many bytes a read asks for.
 const PIECE_LEN: usize = 8192;
 
-/// How many bytes there is room for at first. So much lies in pages of its own, which aren't copied where the
-/// room grows, and take no memory until they are filled.
+/// How many bytes there is room for at first. A room of this size has pages of its own: they aren't copied
+/// where it grows, and take no memory before they are filled.
 const FIRST_ROOM: usize = 1 << 18;
 
 /// How many reads an input may take: with whole pieces, 32 TiB. So the loop ends on any input.
