@@ -7,6 +7,7 @@ use crate::file_bytes::FileBytes;
 use crate::file_names::file_name;
 use crate::folders::{files_in, is_folder, name_of, why_no_folder};
 use crate::inputs::{read, report_unreadable, unreadable};
+use crate::path_text::path_bytes;
 use crate::search::Search;
 use crate::status::{ACCEPTED, FAILED};
 use hayro_cmap::{Bundle, BundleFiles, CMap, NamedFile, NamedFiles, Source, identity_text};
@@ -81,7 +82,7 @@ enum Found<'b> {
 pub struct Bases<'b> {
     pub bundle: Option<&'b Bundle<'b>>,
     /// The paths of bases that aren't read yet, by their names.
-    paths: BTreeMap<String, String>,
+    paths: BTreeMap<Vec<u8>, String>,
     /// The last folders in which a name is looked up: none at first.
     pub search: Search,
     /// The bases that were read.
@@ -131,10 +132,9 @@ impl<'b> Bases<'b> {
 
     /// Adds the path of a file, unless an earlier one has its name.
     fn add_path(&mut self, alloc: Global, path: &str) -> Result<(), AllocError> {
-        let name = name_of(path);
-        if self.paths.get(name).is_none() {
-            let path = String::from_str(alloc, path)?;
-            self.paths.insert(String::from_str(alloc, name)?, path)?;
+        let name = path_bytes(alloc, name_of(path))?;
+        if self.path(&name).is_none() {
+            self.paths.insert(name, String::from_str(alloc, path)?)?;
         }
         Ok(())
     }
@@ -168,7 +168,6 @@ impl<'b> Bases<'b> {
 
     /// The path of the base of this name that isn't read yet.
     fn path(&self, name: &[u8]) -> Option<&str> {
-        let name = str::from_utf8(name).ok()?;
         Some(self.paths.get(name)?.as_str())
     }
 
@@ -285,10 +284,7 @@ impl<'b> Bases<'b> {
     }
 
     fn take_path(&mut self, name: &[u8]) -> Option<String> {
-        match str::from_utf8(name) {
-            Ok(name) => self.paths.remove(name),
-            Err(_) => None,
-        }
+        self.paths.remove(name)
     }
 
     /// The bytes of the file of this name.

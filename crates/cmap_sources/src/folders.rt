@@ -1,26 +1,30 @@
 //! The files in folders.
 
-use crate::failure::{Failure, fault, report};
+use crate::failure::Failure;
 use crate::inputs::{readable, report_unreadable};
-use crate::path_text::is_plain;
+use crate::path_text::{is_plain, path_text};
 use cmap_escape::count::Count;
 use std::alloc::{AllocError, Global};
-use std::fs::{self, DirEntry, read_dir};
-use std::io::{self, ErrorKind};
+use std::fs::{self, Files};
+use std::io::{self, ErrorKind, Read};
 
 /// The most folders that are read. The loop over folders ends because each is read once and links aren't followed, but
 /// no clause says how many a file system has: so it has this bound, which no run reaches.
 const MOST_FOLDERS: u32 = u32::MAX;
 
+/// The most reads of the names in a folder, which no run reaches.
+const MOST_READS: u32 = u32::MAX;
+
+/// How many bytes of names a read has room for. A name has up to 255.
+const NAMES_ROOM: usize = 32768;
+
 /// What lies in a folder and its subfolders.
 #[derive(Drop)]
 pub struct Found {
-    /// The paths of the files, in the order of their bytes.
+    /// The paths of the files, in the order of their texts.
     pub files: Vec<String>,
-    /// How many folders, and files whose names aren't UTF-8, can't be read.
+    /// How many folders can't be read.
     pub unreadable: Count,
-    /// How many names of the folder that is being read aren't UTF-8. The standard library doesn't give them.
-    unnamed: Count,
     /// The folders that aren't read yet.
     waiting: Vec<String>,
 }
@@ -96,7 +100,6 @@ impl Found {
         Found {
             files: Vec::new(alloc),
             unreadable: Count::of(0),
-            unnamed: Count::of(0),
             waiting: Vec::new(alloc),
         }
     }
@@ -115,58 +118,66 @@ impl Found {
 
     /// Adds what lies in a folder, or reports that it can't be read.
     fn add_folder(&mut self, rt: &HostRuntime, folder: &str) -> Result<(), Failure> {
-        self.unnamed = Count::of(0);
         if let Err(error) = readable(self.add_entries(rt, folder))? {
             report_unreadable(rt, folder, &error)?;
             self.unreadable.add_one();
         }
-        self.report_unnamed(rt, folder)
-    }
-
-    /// Reports that names in a folder aren't UTF-8.
-    fn report_unnamed(&mut self, rt: &HostRuntime, folder: &str) -> Result<(), Failure> {
-        if self.unnamed.get() > 0 {
-            let wrong = "can't be read as a whole: it has names that aren't UTF-8";
-            report(rt, &fault(rt, folder, wrong))?;
-            self.unreadable.add(self.unnamed.get());
-        }
         Ok(())
     }
 
+    /// Adds what lies in a folder, unless it is hidden.
     fn add_entries(&mut self, rt: &HostRuntime, folder: &str) -> io::Result<()> {
-        for entry in read_dir(rt, folder)? {
-            match entry {
-                Ok(entry) => self.add(rt, &entry)?,
-                Err(error) if error.kind() == ErrorKind::InvalidFilename => self.unnamed.add_one(),
-                Err(error) => return Err(error),
+        let folder = with_slash(rt.alloc(), folder)?;
+        let names = names_in(rt, folder.as_str())?;
+        for name in names.split(|byte| *byte == 0) {
+            if !matches!(name, [] | [b'.', ..]) {
+                self.add(rt, path_in(rt.alloc(), folder.as_str(), name)?)?;
             }
         }
         Ok(())
     }
 
-    /// Adds an entry of a folder, unless it is hidden.
-    fn add(&mut self, rt: &HostRuntime, entry: &DirEntry) -> io::Result<()> {
-        if entry.file_name().starts_with('.') {
-            return Ok(());
-        }
-        let is_folder = entry.file_type()?.is_dir();
-        Ok(self.add_path(rt, entry.path().as_str(), is_folder)?)
-    }
-
-    /// Adds a file, or a folder that isn't read yet. A link to a folder isn't followed.
-    fn add_path(
-        &mut self,
-        rt: &HostRuntime,
-        path: &str,
-        is_waiting: bool,
-    ) -> Result<(), AllocError> {
-        if is_waiting {
-            self.waiting.push(String::from_str(rt.alloc(), path)?)?;
-        } else if !is_folder(rt, path) {
-            self.files.push(String::from_str(rt.alloc(), path)?)?;
+    /// Adds a file, or a folder that isn't read yet. A link to a folder isn't followed. What has a path that isn't
+    /// UTF-8 counts as a file, which then can't be read.
+    fn add(&mut self, rt: &HostRuntime, path: String) -> io::Result<()> {
+        if is_plain(path.as_str()) && fs::symlink_metadata(rt, path.as_str())?.is_dir() {
+            self.waiting.push(path)?;
+        } else if !is_folder(rt, path.as_str()) {
+            self.files.push(path)?;
         }
         Ok(())
     }
+}
+
+/// The path of a folder with a slash after it, so that a link is followed.
+fn with_slash(alloc: Global, folder: &str) -> Result<String, AllocError> {
+    let mut path = String::from_str(alloc, folder)?;
+    if !folder.is_empty() && !folder.ends_with('/') {
+        path.push('/')?;
+    }
+    Ok(path)
+}
+
+/// The names of what lies in a folder, each with a zero byte after it.
+fn names_in(rt: &HostRuntime, folder: &str) -> io::Result<Vec<u8>> {
+    let mut names = Vec::new(rt.alloc());
+    let mut room = vec![in rt.alloc(); 0; NAMES_ROOM]?;
+    let mut folder = rt.open_dir(folder)?;
+    for _ in 0..MOST_READS {
+        let len = folder.read(&mut room)?;
+        if len == 0 {
+            break;
+        }
+        names.extend_from_slice(&room[..len])?;
+    }
+    Ok(names)
+}
+
+/// The path of what has this name in a folder, whose path ends with a slash.
+fn path_in(alloc: Global, folder: &str, name: &[u8]) -> Result<String, AllocError> {
+    let mut path = String::from_str(alloc, folder)?;
+    path.push_str(path_text(alloc, name)?.as_str())?;
+    Ok(path)
 }
 
 /// The last part of a path.

@@ -37,6 +37,26 @@ fn push_byte(alloc: Global, text: &mut String, byte: u8) -> Result<(), AllocErro
     text.push_str(byte_digits(alloc, &[byte])?.as_str())
 }
 
+/// The bytes of the path of this text.
+pub fn path_bytes(alloc: Global, text: &str) -> Result<Vec<u8>, AllocError> {
+    let mut path = Vec::new(alloc);
+    let mut parts = text.split(MARK);
+    if let Some(front) = parts.next() {
+        path.extend_from_slice(front.as_bytes())?;
+    }
+    for part in parts {
+        push_part(&mut path, part)?;
+    }
+    Ok(path)
+}
+
+/// Adds the byte whose digits follow a mark, and what follows these.
+fn push_part(path: &mut Vec<u8>, part: &str) -> Result<(), AllocError> {
+    let (digits, rest) = part.split_at_checked(2).unwrap_or((part, ""));
+    path.push(u8::from_str_radix(digits, 16).unwrap_or(0))?;
+    path.extend_from_slice(rest.as_bytes())
+}
+
 /// Adds a path, escaped: a byte with a mark as `\xHH`.
 pub fn push_path(out: &mut String, path: &str) -> Result<(), AllocError> {
     for character in path.chars() {
