@@ -6,7 +6,7 @@ use Rattle.cmap_queries.proofs.input.read_all.Goals as goal
 use Rattle.cmap_queries.proofs.input.read_all.Goals.{in-Ok+in_ok-extend_from_slice-in-Ok, in-Err}
 
 pub loop-init : goal.loop-init
-loop-init g c = (c.in_ok-piece.ensures.len, subst (Consumes _ _) (sym c.new-bytes.ensures.items) (Consumes-nil _))
+loop-init g c = (c.in_ok-piece.ensures.len, subst (Consumes _ _) (sym c.in_ok-bytes.ensures.items) (Consumes-nil _))
 
 pub returns-in-Ok-eq0 : goal.returns-in-Ok-eq0
 returns-in-Ok-eq0 g c =
