@@ -64,6 +64,9 @@ class Extractor:
         self._rooms: List[Room] = []
         self._known: Dict[bytes, Character] = {}
 
+    def __repr__(self) -> str:
+        return f"<Extractor of {self._maps[0]!r}>"
+
     def characters(self, string: Buffer) -> List[Character]:
         """The codes of a string, one after another, each with its CID and its text.
 

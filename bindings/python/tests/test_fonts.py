@@ -94,6 +94,11 @@ class Texts(unittest.TestCase):
 class Uses(unittest.TestCase):
     """Closing, and several threads."""
 
+    def test_repr(self):
+        with identity_font() as font:
+            self.assertEqual(repr(font), "<Extractor of <CMap b'Identity-H', layers: 1>>")
+        self.assertEqual(repr(font), "<Extractor of <CMap, closed>>")
+
     def test_use_after_close(self):
         font = identity_font()
         self.assertEqual([font.text(b"\0A"), font.encode("a")], ["a", b"\0A"])
