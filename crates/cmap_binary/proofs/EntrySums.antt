@@ -3,7 +3,7 @@ use Rattle.std.proofs.Common.{◌≡◌, ◌≢◌, ℕ, zero, suc, ◌+◌, ◌
 use Rattle.std.specs.Prelude.{sum_by}
 use Rattle.std.proofs.lemmas.List.Sums.{sum_by-cons}
 use Rattle.cmap_values.specs.Files.{CidEntry}
-use Rattle.cmap_runs.specs.Ranges.{Span}
+use Rattle.cmap_values.specs.Spans.{Span}
 use Rattle.cmap_binary.specs.BinaryEntries.{CidColumns, Columns, CidEntryAt, SymbolAt, WidthAt, cid_from}
 use Rattle.cmap_packed.specs.Bundles.{PrefixTables}
 use Rattle.cmap_packed.specs.Fronts.{FieldAt, RowOf}

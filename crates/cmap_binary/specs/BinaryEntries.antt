@@ -1,7 +1,7 @@
 -- The entries of a segment of a binary file, each by what the one before leaves.
 use Rattle.std.specs.Prelude.{ℕ, zero, suc, ◌+◌, ◌-◌, ◌<◌, ◌^◌, List, [], Option, Some, None}
 use Rattle.cmap_packed.specs.PrefixWords.{CodeWord, Decodes, bits}
-use Rattle.cmap_runs.specs.Ranges.{Span}
+use Rattle.cmap_values.specs.Spans.{Span}
 use Rattle.cmap_values.specs.Files.{CidEntry, BfEntry}
 use Rattle.cmap_packed.specs.Bundles.{PrefixTables}
 use Rattle.cmap_packed.specs.Fronts.{Then, Gives, GivesIf, RowOf, ListOf, ByteAt, FieldAt, SizedAt}

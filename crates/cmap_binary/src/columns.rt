@@ -13,8 +13,8 @@ use cmap_packed::Tables;
 use cmap_packed::bit_queue::BitQueue;
 use cmap_packed::pieces::take_sized;
 use cmap_packed::prefix::{PrefixTable, take_symbol};
-use cmap_runs::runs::Range;
 use cmap_values::fault::{Fault, Reason, Segment};
+use cmap_values::range::Range;
 
 /// Whether the entries of a segment are ranges, or single codes.
 #[derive(Clone, Copy)]

@@ -10,12 +10,12 @@ ghost use Rattle.cmap_values.specs.DeclarationsSeen.{cid_entry_seen, codespace_s
 ghost use Rattle.cmap_values.specs.FilesSeen.{file_seen};
 
 use cmap_packed::pieces::{take_byte, take_code, take_terminated, take_u16};
-use cmap_runs::runs::Range;
 use cmap_values::character_collection::{CharacterCollection, CidFamily};
 use cmap_values::code_length::CodeLength;
 use cmap_values::declarations::{CidRange, Codespace, Lists};
 use cmap_values::fault::{Fault, Reason, Segment};
 use cmap_values::file::File;
+use cmap_values::range::Range;
 use std::alloc::Global;
 
 /// Adds the notdef declarations of a segment with this payload: the width of their codes, their

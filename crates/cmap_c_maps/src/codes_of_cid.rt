@@ -11,8 +11,8 @@ use cmap_handles::ranges::CodeRange;
 use cmap_handles::room::put_items;
 use cmap_handles::status::Status;
 use cmap_layers::layers::Layers;
-use cmap_runs::runs::Range;
 use cmap_values::code_length::CodeLength;
+use cmap_values::range::Range;
 use std::alloc::{AllocError, Global};
 
 /// The codes of `byte_len` bytes that have a CID over all layers, as ranges in order.

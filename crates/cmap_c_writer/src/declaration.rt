@@ -11,9 +11,9 @@ ghost use Rattle.cmap_c_writer.specs.Given.{declared_by, kind_numbered};
 use crate::code_lengths::code_length;
 use crate::units::units_of;
 use crate::written::NoText;
-use cmap_runs::runs::Range;
 use cmap_values::declarations::{BfRange, CidRange, Codespace, Lists};
 use cmap_values::fault::Fault;
+use cmap_values::range::Range;
 use std::alloc::Global;
 
 /// What a declaration gives its codes.

@@ -13,12 +13,12 @@ ghost use Rattle.cmap_chains.specs.Opened.{IsIdentity, IsNoIdentity};
 use crate::chain::layer_over;
 use cmap_layers::layer::Layer;
 use cmap_layers::layers::Layers;
-use cmap_runs::runs::Range;
 use cmap_values::character_collection::{CharacterCollection, CidFamily};
 use cmap_values::code_length::CodeLength;
 use cmap_values::declarations::{CidRange, Codespace, Lists};
 use cmap_values::memory::{after, both};
 use cmap_values::metadata::Metadata;
+use cmap_values::range::Range;
 use cmap_values::writing_mode::WritingMode;
 use std::alloc::{AllocError, Global};
 

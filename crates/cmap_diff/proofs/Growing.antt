@@ -5,7 +5,7 @@ use Rattle.std.proofs.lemmas.Bool.{cases_lt}
 use Rattle.std.proofs.lemmas.List.Elements.{All-nil, All-push, All-pop, All-weaker, Contains-push_cases}
 use Rattle.std.proofs.lemmas.List.{get_or_append_left, get_or_push, length_push}
 use Rattle.std.proofs.lemmas.List.Quantifiers.{Any-push, all_pairs_push}
-use Rattle.cmap_runs.specs.declared.runs.Range.{Range}
+use Rattle.cmap_values.specs.declared.range.Range.{Range}
 use Rattle.cmap_runs.proofs.MaximalRuns.{Any-old}
 use Rattle.cmap_layers.specs.CodeRanges.{IsIn}
 use Rattle.cmap_diff.specs.Differences.{AreDifferences}

@@ -8,8 +8,8 @@ use crate::parts::{CODE_COUNT, cid_part};
 use crate::whole::whole;
 use cmap_layers::layers::Layers;
 use cmap_layers::stretches::Cids;
-use cmap_runs::runs::Range;
 use cmap_values::code_length::CodeLength;
+use cmap_values::range::Range;
 use std::alloc::{AllocError, Global};
 
 /// Codes in a row, at each of which two maps give another CID.

@@ -8,8 +8,8 @@ ghost use Rattle.cmap_diff.specs.Differences.{AreTextDifferences, AreTextDiffere
 use crate::parts::CODE_COUNT;
 use crate::text_parts::text_part;
 use cmap_layers::layers::Layers;
-use cmap_runs::runs::Range;
 use cmap_values::declarations::BfRange;
+use cmap_values::range::Range;
 use std::alloc::{AllocError, Global};
 
 /// Codes in a row, at each of which two maps give another text, or only one gives a text.

@@ -7,8 +7,8 @@ ghost use Rattle.cmap_layers.specs.declared.stretches.Cids.{Cids};
 
 use crate::compared::first_of;
 use cmap_layers::stretches::Cids;
-use cmap_runs::runs::Range;
 use cmap_values::names::Cid;
+use cmap_values::range::Range;
 
 /// The CIDs of the codes of two ranges, of which the second begins just after the first, if they
 /// are CIDs of codes in a row.

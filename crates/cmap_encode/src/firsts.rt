@@ -6,7 +6,8 @@ ghost use Rattle.cmap_values.specs.CodeLengths.{length_of};
 ghost use Rattle.cmap_encode.specs.FirstsSeen.{AreFirsts, IsCodeRun, IsKeyStretch, code_at, first_at, rank_of};
 
 use crate::code::Code;
-use cmap_runs::runs::{HasRange, Looks, Range, Table};
+use cmap_runs::runs::{Looks, Table};
+use cmap_values::range::{HasRange, Range};
 use std::alloc::{AllocError, Global};
 use std::marker::Model;
 

@@ -7,7 +7,7 @@ use Rattle.std.proofs.lemmas.Bool.{cases_lt}
 use Rattle.std.proofs.lemmas.List.Elements.{All-nil}
 use Rattle.cmap_runs.specs.Ranges.{last_of}
 use Rattle.cmap_runs.specs.Stretches.{IsStretch}
-use Rattle.cmap_runs.specs.declared.runs.Range.{Range}
+use Rattle.cmap_values.specs.declared.range.Range.{Range}
 use Rattle.cmap_values.specs.Files.{CidEntry}
 use Rattle.cmap_layers.specs.Layers.{Layer}
 use Rattle.cmap_tidy.specs.Tidy.{AreTidyCids, AreTidyNotdefs, notdef_said}

@@ -4,7 +4,7 @@ use Rattle.std.specs.Prelude.{All, OnOk, Result, IsSome, unwrap_or}
 use Rattle.std.proofs.lemmas.Bool.{cases_lt, cond-false, cond-true}
 use Rattle.std.proofs.lemmas.List.Elements.{All-weaker}
 use Rattle.cmap_runs.specs.Ranges.{Span}
-use Rattle.cmap_runs.specs.declared.runs.Range.{Range}
+use Rattle.cmap_values.specs.declared.range.Range.{Range}
 use Rattle.cmap_values.specs.Files.{CidEntry}
 use Rattle.cmap_layers.specs.Lookups.{cid_at, cid_span}
 use Rattle.cmap_tidy.specs.Tidy.{AreTidyCids, AreTidyNotdefs, cid_said, notdef_at, notdef_said, said, said_with}

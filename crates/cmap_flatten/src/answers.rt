@@ -14,10 +14,11 @@ use crate::texts::declare_texts;
 use cmap_layers::layer::Layer;
 use cmap_layers::layers::Layers;
 use cmap_layers::stretches::Cids;
-use cmap_runs::runs::{Looks, Range, Table};
+use cmap_runs::runs::{Looks, Table};
 use cmap_values::code_length::CodeLength;
 use cmap_values::metadata::Metadata;
 use cmap_values::names::Cid;
+use cmap_values::range::Range;
 use std::alloc::{AllocError, Global};
 
 /// A code whose CID no tidy file can give beside its text and the CID that is declared for it. In the layers

@@ -9,11 +9,12 @@ ghost use Rattle.cmap_flatten.specs.Parts.{AreDeclared, AreDeclaredBelow, IsAdde
 use crate::codes::{Codes, codes_of_length};
 use cmap_layers::layers::Layers;
 use cmap_layers::stretches::Cids;
-use cmap_runs::runs::{Looks, Range, Table};
+use cmap_runs::runs::{Looks, Table};
 use cmap_tidy::{push_cids, push_notdefs};
 use cmap_unicode::declared_stretch;
 use cmap_values::code_length::CodeLength;
 use cmap_values::declarations::CidRange;
+use cmap_values::range::Range;
 use std::alloc::{AllocError, Global};
 
 /// Declarations for codes of one length.

@@ -5,8 +5,9 @@ ghost use Rattle.cmap_runs.specs.Ranges.{last_of};
 ghost use Rattle.cmap_values.specs.CodeLengths.{IsCodeLength, length_of};
 ghost use Rattle.cmap_flatten.specs.Chosen.{Chosen, ChosenNumber, codes_span};
 
-use cmap_runs::runs::{HasRange, Range, Table};
+use cmap_runs::runs::Table;
 use cmap_values::code_length::CodeLength;
+use cmap_values::range::{HasRange, Range};
 use std::alloc::{AllocError, Global};
 
 /// Codes of one length, from a first to a last one.

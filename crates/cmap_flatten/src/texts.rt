@@ -8,9 +8,10 @@ ghost use Rattle.cmap_flatten.specs.Parts.{AreTexts, AreTextsAdded, AreTextsBelo
 
 use crate::codes::{Codes, numbers_of};
 use cmap_layers::layers::Layers;
-use cmap_runs::runs::{Looks, Range, Table};
+use cmap_runs::runs::{Looks, Table};
 use cmap_tidy::push_texts;
 use cmap_values::declarations::BfRange;
+use cmap_values::range::Range;
 use std::alloc::{AllocError, Global};
 
 /// The declarations for the numbers of the chosen codes: they give to each the text that the layers give.

@@ -1,6 +1,6 @@
 -- What a layer declares for its codes, and the codes of a CID, as C sees them.
 use Rattle.std.specs.Prelude.{ℕ, List, Option, length, map, option_and_then, slice_get}
-use Rattle.cmap_runs.specs.declared.runs.Range.{Range}
+use Rattle.cmap_values.specs.declared.range.Range.{Range}
 use Rattle.cmap_values.specs.Files.{BfEntry, CidEntry, of_length}
 use Rattle.cmap_layers.specs.CodeStretches.{AreCodesOfCid}
 use Rattle.cmap_layers.specs.Layers.{Layer}

@@ -1,8 +1,9 @@
 //! Ranges of codes and declarations, as C has them.
 
 use crate::room::Items;
-use cmap_runs::runs::{Looks, Range, Table};
+use cmap_runs::runs::{Looks, Table};
 use cmap_values::declarations::{BfRange, CidRange, Codespace};
+use cmap_values::range::Range;
 
 /// A codespace range: codes of `byte_len` bytes, each byte between those of `low` and `high`.
 #[repr(C)]

@@ -1,6 +1,6 @@
 -- The codes of a CID, stretch by stretch.
 use Rattle.std.proofs.Common.{◌≡◌, ℕ, ◌+◌, ◌≤◌, List, Some, None, sym, ◌∙◌, arith}
-use Rattle.cmap_runs.specs.declared.runs.Range.{Range}
+use Rattle.cmap_values.specs.declared.range.Range.{Range}
 use Rattle.cmap_layers.specs.CodeRanges.{joined}
 use Rattle.cmap_layers.specs.CodeStretches.{AreCodesAmong, AreCodesBelow, IsCidStretch}
 use Rattle.cmap_layers.specs.Layers.{Layer}

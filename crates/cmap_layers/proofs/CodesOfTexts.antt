@@ -2,7 +2,7 @@
 use Rattle.std.proofs.Common.{◌≡◌, ℕ, ◌+◌, ◌≤◌, List, Option, Some, None, sym, ◌∙◌, arith}
 use Rattle.std.specs.Prelude.{◌↔◌, option_and_then}
 use Rattle.std.proofs.lemmas.Option.{none-some, same_Some}
-use Rattle.cmap_runs.specs.declared.runs.Range.{Range}
+use Rattle.cmap_values.specs.declared.range.Range.{Range}
 use Rattle.cmap_values.specs.Files.{BfEntry}
 use Rattle.cmap_layers.specs.CodeRanges.{AreRangesOf, joined}
 use Rattle.cmap_layers.specs.CodeStretches.{IsTextStretch}

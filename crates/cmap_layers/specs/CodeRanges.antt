@@ -1,6 +1,6 @@
 -- Codes as ranges, each as long as can be.
 use Rattle.std.specs.Prelude.{◌↔◌, ℕ, ◌+◌, ◌-◌, ◌<◌, ◌≤◌, Bool, false, List, [], ◌∷◌, ◌++◌, length, get_or, set, Option, Some, None, All, AllPairs, Any, slice_get, ◌==◌, if◌then◌else◌}
-use Rattle.cmap_runs.specs.declared.runs.Range.{Range}
+use Rattle.cmap_values.specs.declared.range.Range.{Range}
 
 -- the code lies in the range
 abbrev pub IsIn : ℕ → Range → Type 0

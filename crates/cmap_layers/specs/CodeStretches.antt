@@ -2,7 +2,7 @@
 use Rattle.std.specs.Prelude.{◌≡◌, ◌↔◌, ◌⊎◌, ℕ, ◌+◌, ◌-◌, ◌%◌, ◌<◌, ◌≤◌, ◌^◌, IsTrue, List, ◌∷◌, ◌++◌, All, Option, Some, None, IsSomeAnd, MatchOption, flat_map, length, map, option_and_then, option_map, slice_index_or}
 use Rattle.std.specs.Char.Escape.{encode_utf16}
 use Rattle.std.specs.Str.{all_scalars}
-use Rattle.cmap_runs.specs.declared.runs.Range.{Range}
+use Rattle.cmap_values.specs.declared.range.Range.{Range}
 use Rattle.cmap_values.specs.Files.{BfEntry, of_length}
 use Rattle.cmap_layers.specs.CodeRanges.{AreRangesOf, IsIn}
 use Rattle.cmap_layers.specs.Layers.{Layer}

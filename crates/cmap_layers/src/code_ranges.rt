@@ -3,7 +3,7 @@
 ghost use Rattle.std.specs.Prelude.{◌≡◌, ◌-◌, ◌<◌, ℕ, OnOk, length, slice_get, true};
 ghost use Rattle.cmap_layers.specs.CodeRanges.{goes_on, joined};
 
-use cmap_runs::runs::Range;
+use cmap_values::range::Range;
 use std::alloc::AllocError;
 
 /// Adds a range at the end. Where it begins just after the last one, the two are one.

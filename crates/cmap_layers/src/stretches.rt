@@ -18,11 +18,12 @@ use crate::code_ranges::add_range;
 use crate::layer::Layer;
 use crate::layers::Layers;
 use crate::text_codes::CODE_COUNT;
-use cmap_runs::runs::{HasRange, Looks, Range, Stretch, Table};
+use cmap_runs::runs::{Looks, Stretch, Table};
 use cmap_tokens::utf16::one_char;
 use cmap_values::code_length::CodeLength;
 use cmap_values::declarations::{BfRange, CidRange};
 use cmap_values::names::Cid;
+use cmap_values::range::{HasRange, Range};
 use std::alloc::{AllocError, Global};
 
 /// The CIDs that codes in a row have.

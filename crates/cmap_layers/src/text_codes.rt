@@ -11,8 +11,8 @@ ghost use Rattle.cmap_layers.specs.Lookups.{bf_at};
 use crate::code_ranges::add_range;
 use crate::layers::Layers;
 use crate::stretches::TextStretch;
-use cmap_runs::runs::Range;
 use cmap_values::declarations::BfRange;
+use cmap_values::range::Range;
 use std::alloc::{AllocError, Global};
 
 /// How many codes have 32 bits.

@@ -7,13 +7,14 @@ use cmap_escape::digits::push_code;
 use cmap_escape::escape::push_text;
 use cmap_flatten::{Codes, Contradiction, flatten, subset};
 use cmap_queries::code_lengths::LENGTHS;
-use cmap_runs::runs::{HasRange, Looks, Range, Table};
+use cmap_runs::runs::{Looks, Table};
 use cmap_sources::failure::Failure;
 use cmap_tidy::tidy;
 use cmap_values::code_length::CodeLength;
 use cmap_values::declarations::{ByLength, CidRange, Lists};
 use cmap_values::fault::Fault;
 use cmap_values::file::File;
+use cmap_values::range::{HasRange, Range};
 use hayro_cmap::{CMap, Layer};
 use std::alloc::{AllocError, Global};
 

@@ -1,8 +1,8 @@
 //! Ranges of texts that lie within codespace ranges, or outside of them. MuPDF drops a range of which a single code
 //! lies in none; numbers of codes count there, and not their lengths.
 
-use cmap_runs::runs::Range;
 use cmap_values::declarations::{BfRange, Codespace};
+use cmap_values::range::Range;
 use cmap_values::units::Units;
 use std::alloc::{AllocError, Global};
 

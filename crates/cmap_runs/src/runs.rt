@@ -1,8 +1,5 @@
 //! Tables of declarations by code: the last declaration that contains a code decides it.
 
-ghost use Rattle.std.specs.Prelude.{◌≡◌};
-ghost use Rattle.cmap_runs.specs.Ranges.{Span};
-
 mod block_maker;
 mod blocks;
 mod held;
@@ -15,27 +12,7 @@ mod stretch;
 mod sweep;
 mod table;
 
+pub use cmap_values::range::{HasRange, Range};
 pub use looks::Looks;
 pub use stretch::{Stretch, Stretches};
 pub use table::Table;
-
-/// The codes from `start` to `end`, both among them; none where `start` is above `end`.
-#[derive(Clone, Copy, Debug)]
-pub struct Range {
-    /// The first code.
-    pub start: u32,
-    /// The last code.
-    pub end: u32,
-}
-
-/// A declaration for the codes of a range, as the ranges and single characters of a CMap are
-/// (ISO 32000, CMap files).
-pub trait HasRange: Drop {
-    // The value alone says which range it has.
-    ghost span: { Self → Span };
-
-    /// The codes that the declaration contains.
-    fn range(&self) -> &Range
-        ensures start { result.now.start ≡ (span self.now).start }
-        ensures end { result.now.end ≡ (span self.now).end };
-}

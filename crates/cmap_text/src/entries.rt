@@ -23,12 +23,12 @@ ghost use Rattle.cmap_tokens.specs.TokensLeft.{Left};
 
 use crate::tokens::{Code, TokenReader, is_executable};
 use crate::wrong_token::{WrongToken, wrong};
-use cmap_runs::runs::Range;
 use cmap_tokens::token::Token;
 use cmap_values::code_length::CodeLength;
 use cmap_values::declarations::{BfRange, CidRange, Codespace, Lists};
 use cmap_values::fault::{Fault, Reason};
 use cmap_values::names::Cid;
+use cmap_values::range::Range;
 use cmap_values::units::Units;
 
 /// Which CIDs an entry declares: those of its codes, or the fallback CID of codes that have no other.

@@ -1,6 +1,6 @@
 -- What no text says of a file.
 use Rattle.std.specs.Prelude.{◌≡◌, ◌⊎◌, ℕ, ◌≤◌, ◌^◌, List, Any, IsSomeAnd, length}
-use Rattle.cmap_runs.specs.declared.runs.Range.{Range}
+use Rattle.cmap_values.specs.declared.range.Range.{Range}
 use Rattle.cmap_values.specs.Files.{BfEntry, ByLength, CidEntry, Codespace, File, Lists, of_length}
 use Rattle.cmap_text.specs.TextFiles.{IsTextFile}
 use Rattle.cmap_text_writer.specs.Fits.{AllBytes, HasOwnFamily, IsName, IsSayableName}

@@ -13,10 +13,10 @@ ghost use Rattle.cmap_text_writer.specs.Told.{HasLines};
 use crate::digits::{fitting, push_code, push_next_units, push_number, push_units};
 use crate::runs::count_line;
 use crate::text_lengths::TextLengths;
-use cmap_runs::runs::Range;
 use cmap_text::Extent;
 use cmap_values::code_length::CodeLength;
 use cmap_values::declarations::{BfRange, CidRange, Codespace};
+use cmap_values::range::Range;
 use std::alloc::AllocError;
 
 /// Writes codespace ranges.

@@ -7,10 +7,10 @@ ghost use Rattle.cmap_text.specs.TextSeen.{extent_seen};
 
 use crate::text_lengths::TextLengths;
 use crate::walk::Walk;
-use cmap_runs::runs::{HasRange, Range};
 use cmap_text::Extent;
 use cmap_values::code_length::CodeLength;
 use cmap_values::declarations::{BfRange, CidRange};
+use cmap_values::range::{HasRange, Range};
 
 /// The most declarations of a section.
 pub(crate) const MOST: usize = 100;

@@ -9,9 +9,9 @@ ghost use Rattle.cmap_text_writer.specs.Lengths.{AreBounds, is_within, length_ar
 ghost use Rattle.cmap_text_writer.specs.Spelled.{end_length};
 
 use crate::digits::fitting;
-use cmap_runs::runs::Range;
 use cmap_values::code_length::CodeLength;
 use cmap_values::declarations::Codespace;
+use cmap_values::range::Range;
 
 /// No codes.
 const NONE: Range = Range {

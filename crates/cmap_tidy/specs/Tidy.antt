@@ -1,7 +1,7 @@
 -- What a list of declarations says of codes, and the tidy lists, which say it in the fewest declarations.
 use Rattle.std.specs.Prelude.{◌≡◌, ℕ, ◌+◌, ◌-◌, ◌/◌, ◌%◌, ◌<◌, ◌≤◌, ◌^◌, List, All, AllPairs, Option, Some, length, option_map, slice_index_or, if◌then◌else◌}
 use Rattle.cmap_runs.specs.Ranges.{Span, contains, last_of}
-use Rattle.cmap_runs.specs.declared.runs.Range.{Range}
+use Rattle.cmap_values.specs.declared.range.Range.{Range}
 use Rattle.cmap_tokens.specs.Texts.{shifted}
 use Rattle.cmap_values.specs.Files.{BfEntry, CidEntry}
 use Rattle.cmap_layers.specs.Lookups.{bf_span, cid_at, cid_span}

@@ -1,7 +1,7 @@
 -- Private aid: a tidy list to which a declaration was added.
 use Rattle.std.specs.Prelude.{◌≡◌, ℕ, ◌+◌, ◌-◌, ◌<◌, ◌≤◌, ◌^◌, List, All, Option, Some, ◌&&◌, length, nat_le, nat_lt, if◌then◌else◌}
 use Rattle.cmap_runs.specs.Ranges.{Span, contains}
-use Rattle.cmap_runs.specs.declared.runs.Range.{Range}
+use Rattle.cmap_values.specs.declared.range.Range.{Range}
 use Rattle.cmap_tokens.specs.Texts.{shifted}
 use Rattle.cmap_values.specs.Files.{BfEntry, CidEntry}
 use Rattle.cmap_layers.specs.Lookups.{bf_span, cid_at, cid_span}

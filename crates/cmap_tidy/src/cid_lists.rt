@@ -9,9 +9,10 @@ ghost use Rattle.cmap_tidy.specs.TidyAdded.{GivesCids};
 
 use crate::cids::push_cids;
 use crate::copies::copied_cids;
-use cmap_runs::runs::{Looks, Range, Table};
+use cmap_runs::runs::{Looks, Table};
 use cmap_values::declarations::CidRange;
 use cmap_values::names::Cid;
+use cmap_values::range::Range;
 use std::alloc::{AllocError, Global};
 
 /// The tidy list that says the same; or, where a CID passes 32 bits, the list as it is.

@@ -6,9 +6,9 @@ ghost use Rattle.cmap_tidy.specs.Tidy.{AreTidyCids, CouldBeOneCid, IsCidRow, cid
 ghost use Rattle.cmap_tidy.specs.TidyAdded.{AddsCidRow};
 
 use crate::rows::row_end;
-use cmap_runs::runs::Range;
 use cmap_values::declarations::CidRange;
 use cmap_values::names::Cid;
+use cmap_values::range::Range;
 use std::alloc::AllocError;
 
 /// Adds codes, with CIDs that count on from `cid`, to a tidy list all of whose codes come before them.

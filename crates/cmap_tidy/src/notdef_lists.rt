@@ -6,8 +6,9 @@ ghost use Rattle.cmap_tidy.specs.Tidied.{AreTidiedNotdefs};
 
 use crate::copies::copied_cids;
 use crate::notdefs::push_notdefs;
-use cmap_runs::runs::{Looks, Range, Table};
+use cmap_runs::runs::{Looks, Table};
 use cmap_values::declarations::CidRange;
+use cmap_values::range::Range;
 use std::alloc::{AllocError, Global};
 
 /// The tidy list that says the same.

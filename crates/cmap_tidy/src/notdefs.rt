@@ -6,9 +6,9 @@ ghost use Rattle.cmap_tidy.specs.Tidy.{AreTidyNotdefs, CouldBeOneNotdef, IsNotde
 ghost use Rattle.cmap_tidy.specs.TidyAdded.{AddsNotdefRow};
 
 use crate::rows::row_end;
-use cmap_runs::runs::Range;
 use cmap_values::declarations::CidRange;
 use cmap_values::names::Cid;
+use cmap_values::range::Range;
 use std::alloc::AllocError;
 
 /// Adds codes that all have the CID to a tidy list all of whose codes come before them.

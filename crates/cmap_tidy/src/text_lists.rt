@@ -9,8 +9,9 @@ ghost use Rattle.cmap_tidy.specs.TidyAdded.{AddsTexts, GivesTexts};
 
 use crate::copies::copied_texts;
 use crate::texts::{counted_on, push_texts};
-use cmap_runs::runs::{Looks, Range, Table};
+use cmap_runs::runs::{Looks, Table};
 use cmap_values::declarations::BfRange;
+use cmap_values::range::Range;
 use cmap_values::units::Units;
 use std::alloc::{AllocError, Global};
 

@@ -8,8 +8,8 @@ ghost use Rattle.cmap_tidy.specs.Tidy.{AreTidyTexts, CouldBeOneText, IsTextRow, 
 ghost use Rattle.cmap_tidy.specs.TidyAdded.{AddsTextRow};
 
 use crate::rows::row_end;
-use cmap_runs::runs::Range;
 use cmap_values::declarations::BfRange;
+use cmap_values::range::Range;
 use cmap_values::units::Units;
 use std::alloc::{AllocError, Global};
 

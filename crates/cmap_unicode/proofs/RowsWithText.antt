@@ -8,7 +8,7 @@ use Rattle.std.proofs.lemmas.Bool.{cases_Bool, cases_lt, false≢true}
 use Rattle.std.proofs.lemmas.List.{same_from_push, take_all, take_more}
 use Rattle.std.proofs.lemmas.Option.{none-some, same_Some}
 use Rattle.std.proofs.lemmas.Slice.Eq.{bytes_eq-Decides}
-use Rattle.cmap_runs.specs.declared.runs.Range.{Range}
+use Rattle.cmap_values.specs.declared.range.Range.{Range}
 use Rattle.cmap_tokens.specs.Texts.{Text, more, one}
 use Rattle.cmap_tokens.specs.TextSeen.{text_seen}
 use Rattle.cmap_tokens.specs.declared.utf16.BfString.{BfString}

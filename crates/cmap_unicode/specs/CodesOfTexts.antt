@@ -1,6 +1,6 @@
 -- The codes of a font that have a text.
 use Rattle.std.specs.Prelude.{◌≡◌, ◌↔◌, ℕ, ◌^◌, ◌≤◌, List, [], Option, Some, MatchOption}
-use Rattle.cmap_runs.specs.declared.runs.Range.{Range}
+use Rattle.cmap_values.specs.declared.range.Range.{Range}
 use Rattle.cmap_tokens.specs.Texts.{Text}
 use Rattle.cmap_layers.specs.CodeRanges.{AreRangesOf, IsIn}
 use Rattle.cmap_unicode.specs.Characters.{characters_of}

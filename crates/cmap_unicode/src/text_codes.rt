@@ -12,9 +12,9 @@ ghost use Rattle.cmap_unicode.specs.TextRows.{AreTexts};
 use crate::extractor::Extractor;
 use crate::rows::TextRow;
 use cmap_layers::code_ranges::add_range;
-use cmap_runs::runs::Range;
 use cmap_tokens::utf16::BfString;
 use cmap_values::code_length::CodeLength;
+use cmap_values::range::Range;
 use std::alloc::{AllocError, Global};
 
 impl Extractor<'_> {

@@ -1,7 +1,7 @@
 -- What contracts see of declarations.
 use Rattle.std.specs.Prelude.{List, map}
 use Rattle.std.specs.Global.{Vec}
-use Rattle.cmap_runs.specs.Ranges.{Span}
+use Rattle.cmap_values.specs.Spans.{Span}
 use Rattle.cmap_values.specs.CodeLengths.{length_of}
 use Rattle.cmap_values.specs.Files as files
 use Rattle.cmap_values.specs.declared.code_length.CodeLength.{CodeLength}

@@ -3,6 +3,7 @@ pub mod Outcomes
 pub mod Faults
 pub mod UnitsSeen
 pub mod BigEndian
+pub mod Spans
 pub mod CodeLengths
 pub mod Names
 pub mod CMapNames

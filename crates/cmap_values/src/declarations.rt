@@ -8,8 +8,8 @@ ghost use Rattle.cmap_values.specs.ListsAppended.{no_lists, append_lists};
 
 use crate::code_length::CodeLength;
 use crate::names::Cid;
+use crate::range::{HasRange, Range};
 use crate::units::Units;
-use cmap_runs::runs::{HasRange, Range};
 use std::alloc::{AllocError, Global};
 
 /// Codes from a start to an end, with their CIDs.

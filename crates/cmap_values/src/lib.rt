@@ -11,5 +11,6 @@ pub mod file;
 pub mod memory;
 pub mod metadata;
 pub mod names;
+pub mod range;
 pub mod units;
 pub mod writing_mode;

@@ -1,7 +1,7 @@
 -- Why a file can't be written in the binary form.
 use Rattle.std.specs.Prelude.{◌≡◌, ◌≢◌, ◌⊎◌, ℕ, ℤ, pos, ◌+◌, ◌≤◌, ◌<◌, ◌^◌, List, Any, Contains, Option, Some, None, IsSomeAnd, length, map}
 use Rattle.cmap_runs.specs.Ranges.{runs_of}
-use Rattle.cmap_runs.specs.declared.runs.Range.{Range}
+use Rattle.cmap_values.specs.declared.range.Range.{Range}
 use Rattle.cmap_values.specs.Files.{BfEntry, ByLength, CidEntry, Codespace, File, of_length}
 use Rattle.cmap_values.specs.Metadata.{Collection, FileMetadata}
 use Rattle.cmap_values.specs.Names.{Family, family_of, ordering_of, registry_of}

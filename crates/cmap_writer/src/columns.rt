@@ -16,9 +16,9 @@ use crate::obstacle::Obstacle;
 use crate::pieces::push_sized;
 use crate::segments::Segment;
 use crate::words::Encoder;
-use cmap_runs::runs::{HasRange, Range};
 use cmap_values::code_length::CodeLength;
 use cmap_values::fault::Fault;
+use cmap_values::range::{HasRange, Range};
 use std::alloc::{AllocError, Global};
 
 /// The code words of a bundle: of deltas and of counts.

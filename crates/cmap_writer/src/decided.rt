@@ -13,9 +13,10 @@ ghost use Rattle.cmap_writer.specs.Pieces.{CanBeSplit, SayTheSame, Takes};
 ghost use Rattle.cmap_writer.specs.Weights.{cids_weight, span_weight, weight_of};
 
 use crate::obstacle::Obstacle;
-use cmap_runs::runs::{Looks, Range, Table};
+use cmap_runs::runs::{Looks, Table};
 use cmap_values::declarations::CidRange;
 use cmap_values::fault::Fault;
+use cmap_values::range::Range;
 use std::alloc::{AllocError, Global};
 
 /// The largest CID.

@@ -1,6 +1,6 @@
 //! What a bundle can't say.
 
-use cmap_runs::runs::Range;
+use cmap_values::range::Range;
 
 /// What a binary file or a bundle can't say.
 #[derive(Clone, Copy, Debug)]

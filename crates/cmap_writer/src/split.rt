@@ -7,8 +7,8 @@ ghost use Rattle.cmap_writer.specs.Arranged.{AreCut, PushesCut};
 ghost use Rattle.cmap_writer.specs.Pieces.{ArePieces, CanBeSplit, IsShort, PushesPieces};
 ghost use Rattle.cmap_writer.specs.Weights.{cids_weight, span_weight};
 
-use cmap_runs::runs::Range;
 use cmap_values::declarations::CidRange;
+use cmap_values::range::Range;
 use std::alloc::{AllocError, Global};
 
 /// How many codes the last one of a short range may be after its first.

@@ -17,9 +17,10 @@ ghost use Rattle.cmap_writer.specs.Weights.{run_span, span_weight, texts_weight,
 use crate::decided::last_code;
 use crate::obstacle::Obstacle;
 use crate::split::MOST_AFTER;
-use cmap_runs::runs::{Looks, Range, Table};
+use cmap_runs::runs::{Looks, Table};
 use cmap_values::declarations::BfRange;
 use cmap_values::fault::Fault;
+use cmap_values::range::Range;
 use cmap_values::units::Units;
 use std::alloc::{AllocError, Global};
 

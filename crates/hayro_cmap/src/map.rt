@@ -35,12 +35,13 @@ use cmap_chains::{
 use cmap_layers::layers::Layers;
 use cmap_layers::string_codes::StringCode;
 use cmap_packed::Bundle;
-use cmap_runs::runs::{Looks, Range};
+use cmap_runs::runs::Looks;
 use cmap_tokens::utf16::BfString;
 use cmap_values::code_length::CodeLength;
 use cmap_values::fault::Fault;
 use cmap_values::metadata::Metadata;
 use cmap_values::names::{CMapName, Cid};
+use cmap_values::range::Range;
 use std::alloc::{AllocError, Global};
 use std::marker::{Model, PhantomData};
 

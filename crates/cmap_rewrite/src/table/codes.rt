@@ -1,7 +1,7 @@
 //! Codes in a table.
 
-use cmap_runs::runs::Range;
 use cmap_values::code_length::CodeLength;
+use cmap_values::range::Range;
 
 /// A code, and how many bytes it has.
 #[derive(Clone, Copy)]

@@ -19,11 +19,11 @@ use super::states::{Entry, Parts, State, TextList};
 use crate::entries::{CidKind, Extent};
 use crate::sections::Section;
 use crate::tokens::{Code, cid_of, code_fault, is_executable};
-use cmap_runs::runs::Range;
 use cmap_tokens::token::{Piece, Token};
 use cmap_values::declarations::{BfRange, CidRange, Codespace};
 use cmap_values::fault::{Fault, Reason, Stop};
 use cmap_values::names::Cid;
+use cmap_values::range::Range;
 use cmap_values::units::Units;
 use std::alloc::AllocError;
 

@@ -1,7 +1,7 @@
 use Rattle.std.proofs.Common.{◌+◌, None, map, refl, sym, subst, arith}
 use Rattle.std.specs.Prelude.{option_map}
 use Rattle.std.specs.Option.{option_copied}
-use Rattle.cmap_runs.specs.declared.runs.Range.{Range}
+use Rattle.cmap_values.specs.declared.range.Range.{Range}
 use Rattle.cmap_values.specs.DeclarationsSeen.{bf_entry_seen}
 use Rattle.cmap_layers.specs.CodeStretches.{IsTextStretch}
 use Rattle.cmap_layers.specs.Lookups.{bf_of}
