@@ -1,7 +1,7 @@
 //! The subcommands: the one that the arguments name, and how it is run.
 
 use crate::bundle::bundle_options;
-use crate::check::{CheckOptions, check};
+use crate::check::Checking;
 use crate::decode::decode;
 use crate::diff::{DiffOptions, diff};
 use crate::encode::{EncodeOptions, encode};
@@ -28,7 +28,7 @@ pub(crate) enum Subcommand<'m, 'w> {
     List(ListOptions<'m, 'w>),
     Find(StringOptions<'m, 'w>),
     Diff(DiffOptions<'m, 'w>),
-    Check(CheckOptions<'m, 'w>),
+    Check(Checking<'m, 'w>),
     Decode(StringOptions<'m, 'w>),
     Text(StringOptions<'m, 'w>),
     Encode(EncodeOptions<'m, 'w>),
@@ -47,7 +47,7 @@ impl<'m, 'w> Subcommand<'m, 'w> {
             "list" => Subcommand::List(ListOptions::of(arguments)),
             "find" => Subcommand::Find(StringOptions::of(arguments)),
             "diff" => Subcommand::Diff(DiffOptions::of(arguments)),
-            "check" => Subcommand::Check(CheckOptions::of(arguments)),
+            "check" => Subcommand::Check(Checking::of(arguments)),
             "decode" => Subcommand::Decode(StringOptions::of(arguments)),
             "text" => Subcommand::Text(StringOptions::of(arguments)),
             "encode" => Subcommand::Encode(EncodeOptions::of(arguments)),
@@ -68,7 +68,7 @@ impl<'m, 'w> Subcommand<'m, 'w> {
             Subcommand::List(options) => options.sources,
             Subcommand::Find(options) => options.sources,
             Subcommand::Diff(options) => options.sources,
-            Subcommand::Check(options) => options.sources,
+            Subcommand::Check(checking) => checking.sources,
             Subcommand::Decode(options) => options.sources,
             Subcommand::Text(options) => options.sources,
             Subcommand::Encode(options) => options.of_texts.sources,
@@ -86,7 +86,7 @@ impl<'m, 'w> Subcommand<'m, 'w> {
             Subcommand::List(options) => list(rt, options, bases),
             Subcommand::Find(options) => find(rt, options, bases),
             Subcommand::Diff(options) => diff(rt, options, bases),
-            Subcommand::Check(options) => check(rt, options, bases),
+            Subcommand::Check(checking) => checking.run(rt, bases),
             Subcommand::Decode(options) => decode(rt, options, bases),
             Subcommand::Text(options) => text(rt, options, bases),
             Subcommand::Encode(options) => encode(rt, options, bases),

@@ -1,9 +1,10 @@
 //! The files that arguments ask to be put in a bundle.
 
 use cmap_escape::count::Count;
-use cmap_sources::failure::{Failure, fault};
+use cmap_sources::failure::{Failure, fault, report};
 use cmap_sources::folders::{files_in, is_folder, name_of};
 use cmap_sources::inputs::{STANDARD_INPUT, needed};
+use cmap_sources::path_text::is_plain;
 use hayro_cmap::CMapName;
 
 /// A file that is asked for.
@@ -22,6 +23,8 @@ pub struct Candidates {
     pub files: Vec<Candidate>,
     /// How many files of folders have none of the known names. They aren't read.
     pub passed_over: Count,
+    /// How many paths in folders aren't UTF-8. Each is reported.
+    pub left_out: Count,
 }
 
 /// The files of arguments `NAME=FILE`, and then those of paths.
@@ -33,6 +36,7 @@ pub fn candidates_of(
     let mut candidates = Candidates {
         files: Vec::new(rt.alloc()),
         passed_over: Count::of(0),
+        left_out: Count::of(0),
     };
     for argument in named {
         candidates.add_named(rt, argument)?;
@@ -70,9 +74,17 @@ impl Candidates {
         for path in &found.files {
             match known_file_name(path.as_str()) {
                 Some(name) => self.add_file(rt, Some(name), path.as_str())?,
-                None => self.passed_over.add_one(),
+                None if is_plain(path.as_str()) => self.passed_over.add_one(),
+                None => self.leave_out(rt, path.as_str())?,
             }
         }
+        Ok(())
+    }
+
+    /// Leaves out what has a path that isn't UTF-8, and reports it: it may be a folder.
+    fn leave_out(&mut self, rt: &HostRuntime, path: &str) -> Result<(), Failure> {
+        report(rt, &fault(rt, path, "left out: its path isn't UTF-8"))?;
+        self.left_out.add_one();
         Ok(())
     }
 

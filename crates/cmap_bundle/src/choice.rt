@@ -1,6 +1,6 @@
 //! The files that are put in the bundle.
 
-use crate::candidates::{Candidate, is_known};
+use crate::candidates::{Candidate, Candidates, is_known};
 use cmap_binary::is_marked_binary;
 use cmap_escape::count::Count;
 use cmap_escape::escape::{push_name, push_text};
@@ -44,17 +44,17 @@ impl<'c> Chosen<'c> {
 #[derive(Drop)]
 pub struct Choice<'c> {
     pub files: Vec<Chosen<'c>>,
-    /// How many files are left out. Each is reported.
+    /// How many files are left out, those of the candidates among them. Each is reported.
     pub left_out: Count,
 }
 
 /// Chooses the files that are put in the bundle, and reports why each other one is left out.
-pub fn choose<'c>(rt: &HostRuntime, candidates: &'c [Candidate]) -> Result<Choice<'c>, Failure> {
+pub fn choose<'c>(rt: &HostRuntime, candidates: &'c Candidates) -> Result<Choice<'c>, Failure> {
     let mut choice = Choice {
         files: Vec::new(rt.alloc()),
-        left_out: Count::of(0),
+        left_out: Count::of(candidates.left_out.get()),
     };
-    for candidate in candidates {
+    for candidate in &candidates.files {
         choice.add(rt, candidate)?;
     }
     Ok(choice)

@@ -31,7 +31,7 @@ pub fn bundle(rt: &HostRuntime, options: &BundleOptions<'_, '_>) -> Result<u8, F
         return Err(fault(rt, output, "a bundle is written to a file"));
     }
     let candidates = candidates_of(rt, options.named, options.paths)?;
-    let choice = choose(rt, &candidates.files)?;
+    let choice = choose(rt, &candidates)?;
     bundle_of_choice(rt, options, &choice, candidates.passed_over.get())
 }
 

@@ -9,10 +9,10 @@ use std::fs::{self, Files};
 use std::io::{self, ErrorKind, Read};
 
 /// The most folders that are read. The loop over folders ends because each is read once and links aren't followed, but
-/// no clause says how many a file system has: so it has this bound, which no run reaches.
+/// no clause says how many a file system has: so it has this bound, which no run reaches, and past it fails.
 const MOST_FOLDERS: u32 = u32::MAX;
 
-/// The most reads of the names in a folder, which no run reaches.
+/// The most reads of the names in a folder, which no run reaches. A folder with more can't be read.
 const MOST_READS: u32 = u32::MAX;
 
 /// How many bytes of names a read has room for. A name has up to 255.
@@ -109,11 +109,11 @@ impl Found {
         self.waiting.push(String::from_str(rt.alloc(), folder)?)?;
         for _ in 0..MOST_FOLDERS {
             let Some(next) = self.waiting.pop() else {
-                break;
+                return Ok(self.files.sort()?);
             };
             self.add_folder(rt, next.as_str())?;
         }
-        Ok(self.files.sort()?)
+        Err(Failure::from(too_large()))
     }
 
     /// Adds what lies in a folder, or reports that it can't be read.
@@ -166,11 +166,16 @@ fn names_in(rt: &HostRuntime, folder: &str) -> io::Result<Vec<u8>> {
     for _ in 0..MOST_READS {
         let len = folder.read(&mut room)?;
         if len == 0 {
-            break;
+            return Ok(names);
         }
         names.extend_from_slice(&room[..len])?;
     }
-    Ok(names)
+    Err(too_large())
+}
+
+/// Why a folder past these bounds isn't read.
+fn too_large() -> io::Error {
+    io::Error::from(ErrorKind::FileTooLarge)
 }
 
 /// The path of what has this name in a folder, whose path ends with a slash.

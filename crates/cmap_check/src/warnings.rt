@@ -1,7 +1,5 @@
 //! `cmap check --lint`: what looks wrong in a file that is accepted.
 
-use crate::command_line::flags::{DENY, LINT, LINT_TO_UNICODE};
-use clap::ArgMatches;
 use cmap_binary::is_marked_binary;
 use cmap_lint::finding::Finding;
 use cmap_lint::lint::{Subject, findings_of, nothing_declared};
@@ -19,26 +17,16 @@ const ALL: &str = "all";
 
 /// Which warnings are asked for.
 #[derive(Clone, Copy)]
-pub(crate) struct LintOptions<'m, 'w> {
+pub struct LintOptions<'m, 'w> {
     /// Whether all warnings are asked for, and not only `nothing-declared`.
-    is_asked: bool,
+    pub is_asked: bool,
     /// Whether the files are meant as maps to Unicode.
-    to_unicode: bool,
+    pub to_unicode: bool,
     /// The names of warnings for which the status is 1.
-    denied: &'m [&'w str],
+    pub denied: &'m [&'w str],
 }
 
 impl<'m, 'w> LintOptions<'m, 'w> {
-    pub(crate) fn of(arguments: &'m ArgMatches<'w>) -> LintOptions<'m, 'w> {
-        let to_unicode = LINT_TO_UNICODE.is_given(arguments);
-        let denied = DENY.texts(arguments);
-        LintOptions {
-            is_asked: LINT.is_given(arguments) || to_unicode || !denied.is_empty(),
-            to_unicode,
-            denied,
-        }
-    }
-
     /// Refuses a name after `--deny` that no warning has.
     pub(crate) fn check_names(&self, rt: &HostRuntime) -> Result<(), Failure> {
         for name in self.denied {

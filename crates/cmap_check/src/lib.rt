@@ -1,0 +1,7 @@
+//! `cmap check`: which files are refused, and what looks wrong in the others.
+#![tactic(auto)]
+
+pub mod command;
+mod progress;
+mod tally;
+pub mod warnings;
