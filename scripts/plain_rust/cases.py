@@ -111,6 +111,13 @@ use std::marker::Model;
 #[derive(Drop)]
 pub struct Pair<T: Drop + Copy>(T, T);
 
+// A call drops it.
+impl<T: Drop + Copy> Drop for Pair<T> {
+    fn drop(self) {
+        let Pair { 0: _, 1: _ } = self;
+    }
+}
+
 #[cycle(pairs)]
 #[inline(always)]
 fn both<T: Copy + Drop, U: Drop>(t: T, u: U) -> (T, U) {
@@ -190,7 +197,9 @@ const BYTE: u8 = b'"';
 
 # what it shows, a source, the line of the fault, and what is said
 REFUSED = [
-    ("a destructor", "struct S;\n\nimpl Drop for S {}\n", 3, "a `Drop` that is no bound"),
+    ("a destructor", "struct S;\n\nimpl Drop for S {\n    fn drop(self) {\n        f(&self);\n        let S {} = self;\n"
+     "    }\n}\n", 3, "a `drop` that does more than to name the fields"),
+    ("a `Drop` elsewhere", "use std::Drop;\n", 1, "a `Drop` that is no bound"),
     ("unsafe code", "fn f() {\n    unsafe { g() }\n}\n", 2, "an unknown construct: unsafe"),
     ("an unknown attribute", "\n#[repr(C)]\nstruct S;\n", 2, "an unknown attribute: repr"),
     ("an unknown macro", "fn f() {\n    let v = vec![in alloc; 1]?;\n}\n", 2, "an unknown macro: vec!"),

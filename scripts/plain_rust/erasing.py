@@ -26,8 +26,8 @@ BARE_METHODS = {"split_off_first": ("TakeFront", "take_one")}
 def erased(path, text, paths):
     """The text of a source file as Rust. `paths` says where a crate's items are in Rust, those of `crate` and `std` too."""
     source = Source(path, text)
-    for rule in (erase_models, erase_ghosts, erase_clauses, erase_attributes, erase_drop_bounds, erase_writers,
-                 erase_imports, plain_lists):
+    for rule in (erase_models, erase_ghosts, erase_clauses, erase_attributes, erase_drops, erase_drop_bounds,
+                 erase_writers, erase_imports, plain_lists):
         rule(source)
     refuse_unknown(source)
     plain_paths(source, paths)
@@ -122,6 +122,23 @@ def erase_names(source, bracket, name):
             source.erase(at - 1, at + 1)
             source.tokens[at - 1].lead = lead
         return
+
+
+def erase_drops(source):
+    """`impl Drop for T { fn drop(self) { let T { a: _, b: _ } = self; } }`: Rust drops the fields of a value by itself."""
+    for at in source.indices("Drop"):
+        if not source.words(at, "Drop", "for"):
+            continue
+        body = source.find(at, "{")
+        end = source.closing(body) + 1
+        fields = body + 9
+        if not (
+            source.words(body + 1, "fn", "drop", "(", "self", ")", "{", "let")
+            and source.words(source.closing(fields), "}", "=", "self", ";", "}", "}")
+            and all(source.words(field + 1, ":", "_") for field in range(fields + 1, source.closing(fields), 4))
+        ):
+            source.refuse(at, "a `drop` that does more than to name the fields")
+        source.erase_item(source.find_back(at, "impl"), end)
 
 
 def erase_drop_bounds(source):

@@ -8,9 +8,9 @@ use crate::options::Sources;
 use clap::ArgMatches;
 use cmap_check::command::{CheckOptions, check};
 use cmap_check::warnings::LintOptions;
+use cmap_files::failure::Failure;
+use cmap_files::paths::PathList;
 use cmap_sources::bases::Bases;
-use cmap_sources::failure::Failure;
-use cmap_sources::paths::PathList;
 use cmap_sources::reading::{Faults, Form, Manner};
 
 /// What the arguments of `check` ask for, and where files are looked up by their names.
@@ -27,8 +27,11 @@ impl<'m, 'w> Checking<'m, 'w> {
                 paths: files_of(arguments),
                 list: list_of(arguments),
                 manner: manner_of(arguments),
-                lint: lint_options(arguments),
-                json: JSON.is_given(arguments),
+                lint: LintOptions::new(
+                    LINT.is_given(arguments),
+                    LINT_TO_UNICODE.is_given(arguments),
+                    DENY.texts(arguments),
+                ),
                 is_quiet: QUIET.is_given(arguments),
             },
             sources: Sources::of(arguments),
@@ -62,16 +65,5 @@ fn manner_of(arguments: &ArgMatches<'_>) -> Manner {
         } else {
             Form::Text
         },
-    }
-}
-
-/// Which warnings are asked for.
-fn lint_options<'m, 'w>(arguments: &'m ArgMatches<'w>) -> LintOptions<'m, 'w> {
-    let to_unicode = LINT_TO_UNICODE.is_given(arguments);
-    let denied = DENY.texts(arguments);
-    LintOptions {
-        is_asked: LINT.is_given(arguments) || to_unicode || !denied.is_empty(),
-        to_unicode,
-        denied,
     }
 }

@@ -8,7 +8,7 @@ use self::flags::{
     OUTPUT, QUIET, TEXT_OUTPUT, TIDY, TO_UNICODE, USE, VERIFY, VERTICAL, values_of,
 };
 use clap::{Arg, ArgAction, ArgMatches, Command};
-use cmap_sources::inputs::STANDARD_INPUT;
+use cmap_files::inputs::STANDARD_INPUT;
 use std::alloc::{AllocError, Global};
 
 /// The id of files and folders.

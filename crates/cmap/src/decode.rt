@@ -1,10 +1,10 @@
 //! `cmap decode`: the codes of strings, and what they stand for.
 
 use crate::font::{StringOptions, font_and_strings};
+use cmap_files::failure::Failure;
+use cmap_files::status::ACCEPTED;
 use cmap_report::decode::{push_codes, push_json};
 use cmap_sources::bases::Bases;
-use cmap_sources::failure::Failure;
-use cmap_sources::status::ACCEPTED;
 use cmap_unicode::Extractor;
 
 /// Prints the codes of each string, and gives the status.

@@ -4,12 +4,13 @@ use crate::command_line::flags::JSON;
 use crate::command_line::{file_of, other_of};
 use crate::options::{Sources, manner_of};
 use clap::ArgMatches;
+use cmap_files::failure::Failure;
+use cmap_files::inputs::STANDARD_INPUT;
+use cmap_files::status::{ACCEPTED, DIFFERENT, FAILED};
 use cmap_report::diff::{DiffLine, diff_lines, push_diff_json, push_diff_line};
 use cmap_sources::bases::Bases;
-use cmap_sources::failure::Failure;
-use cmap_sources::inputs::{STANDARD_INPUT, map_needed};
+use cmap_sources::maps::map_needed;
 use cmap_sources::reading::Manner;
-use cmap_sources::status::{ACCEPTED, DIFFERENT, FAILED};
 use hayro_cmap::CMap;
 use std::alloc::{AllocError, Global};
 

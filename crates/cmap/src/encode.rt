@@ -5,11 +5,11 @@ use crate::font::{StringOptions, font_and_texts};
 use crate::strings::spelled;
 use clap::ArgMatches;
 use cmap_encode::Encoder;
+use cmap_files::failure::Failure;
+use cmap_files::path_text::push_path;
+use cmap_files::status::{ACCEPTED, REFUSED};
 use cmap_report::encode::{push_string_json, push_string_line, string_of};
 use cmap_sources::bases::Bases;
-use cmap_sources::failure::Failure;
-use cmap_sources::path_text::push_path;
-use cmap_sources::status::{ACCEPTED, REFUSED};
 
 /// What the arguments of `encode` ask for.
 #[derive(Clone, Copy)]

@@ -1,10 +1,10 @@
 //! `cmap find`: the codes that have a CID or a text.
 
 use crate::font::{StringOptions, font_of};
+use cmap_files::failure::{Failure, fault};
+use cmap_files::status::{ACCEPTED, REFUSED};
 use cmap_report::find::{Wanted, fault_of, is_found, push_codes, push_json};
 use cmap_sources::bases::Bases;
-use cmap_sources::failure::{Failure, fault};
-use cmap_sources::status::{ACCEPTED, REFUSED};
 use cmap_unicode::Extractor;
 use std::alloc::{AllocError, Global};
 

@@ -5,13 +5,13 @@ use crate::command_line::flags::JSON;
 use crate::options::{Sources, manner_of};
 use clap::ArgMatches;
 use cmap_bundle::contents::print_contents;
+use cmap_files::failure::{Failure, report};
+use cmap_files::status::{ACCEPTED, FAILED, REFUSED};
 use cmap_report::info::{push_info, push_json};
-use cmap_report::uses::uses_by_layer;
 use cmap_sources::bases::{Bases, Files};
-use cmap_sources::failure::{Failure, report};
-use cmap_sources::inputs::{Opened, open};
+use cmap_sources::maps::{Opened, open};
 use cmap_sources::reading::{Input, Manner, faults_of};
-use cmap_sources::status::{ACCEPTED, FAILED, REFUSED};
+use cmap_sources::uses::uses_by_layer;
 use hayro_cmap::CMap;
 use std::alloc::{AllocError, Global};
 

@@ -4,14 +4,14 @@ use crate::command_line::file_of;
 use crate::command_line::flags::{EFFECTIVE, JSON};
 use crate::options::{Sources, manner_of};
 use clap::ArgMatches;
+use cmap_files::failure::Failure;
+use cmap_files::status::ACCEPTED;
 use cmap_report::list::effective::effective_lines;
 use cmap_report::list::line::{Line, Place, push_json, push_line};
 use cmap_report::list::lines_by_layer;
 use cmap_sources::bases::Bases;
-use cmap_sources::failure::Failure;
-use cmap_sources::inputs::map_needed;
+use cmap_sources::maps::map_needed;
 use cmap_sources::reading::Manner;
-use cmap_sources::status::ACCEPTED;
 use hayro_cmap::CMap;
 use std::alloc::{AllocError, Global};
 

@@ -7,11 +7,11 @@ use clap::ArgMatches;
 use cmap_escape::escape::push_text;
 use cmap_escape::json;
 use cmap_escape::object::Object;
+use cmap_files::failure::{Failure, report};
+use cmap_files::folders::is_file;
+use cmap_files::status::{ACCEPTED, REFUSED};
 use cmap_sources::bases::Bases;
-use cmap_sources::failure::{Failure, report};
-use cmap_sources::folders::is_file;
-use cmap_sources::inputs::unknown_name;
-use cmap_sources::status::{ACCEPTED, REFUSED};
+use cmap_sources::maps::unknown_name;
 use std::alloc::{AllocError, Global};
 
 /// What the arguments of `where` ask for.

@@ -4,13 +4,13 @@ use crate::command_line::flags::JSON;
 use crate::command_line::{arguments_of, file_of};
 use crate::options::{Sources, manner_of};
 use clap::ArgMatches;
+use cmap_files::failure::{Failure, fault};
+use cmap_files::status::ACCEPTED;
 use cmap_queries::query::Query;
 use cmap_report::lookup::{push_answer, push_json};
 use cmap_sources::bases::Bases;
-use cmap_sources::failure::{Failure, fault};
-use cmap_sources::inputs::map_needed;
+use cmap_sources::maps::map_needed;
 use cmap_sources::reading::Manner;
-use cmap_sources::status::ACCEPTED;
 use hayro_cmap::CMap;
 use std::alloc::{AllocError, Global};
 

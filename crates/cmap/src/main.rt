@@ -26,11 +26,11 @@ use crate::options::{Sources, asks_twice_for_standard_input};
 use crate::subcommands::Subcommand;
 use crate::usage::print_usage;
 use clap::ArgMatches;
-use cmap_sources::arguments::arguments;
+use cmap_files::arguments::arguments;
+use cmap_files::failure::{Failure, fault, report};
+use cmap_files::inputs::needed;
+use cmap_files::status::{FAILED, REFUSED};
 use cmap_sources::bases::Bases;
-use cmap_sources::failure::{Failure, fault, report};
-use cmap_sources::inputs::needed;
-use cmap_sources::status::{FAILED, REFUSED};
 use hayro_cmap::Bundle;
 use std::process::ExitCode;
 

@@ -5,9 +5,9 @@ use crate::command_line::flags::{BINARY, BUDGET, CMAP_NAME, CODES, FLATTEN, TEXT
 use crate::options::Sources;
 use crate::strings::listed_strings;
 use clap::ArgMatches;
+use cmap_files::failure::Failure;
 use cmap_rewrite::command::{Change, RewriteOptions, rewrite};
 use cmap_sources::bases::Bases;
-use cmap_sources::failure::Failure;
 use cmap_sources::reading::{Faults, Form, Manner};
 
 /// What the arguments ask for, and where files are looked up by their names. `clap` refuses them without a path for

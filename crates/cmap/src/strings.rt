@@ -1,7 +1,7 @@
 //! Strings in hexadecimal digits, and texts.
 
-use cmap_sources::failure::{Failure, fault};
-use cmap_sources::inputs::{STANDARD_INPUT, needed};
+use cmap_files::failure::{Failure, fault};
+use cmap_files::inputs::{STANDARD_INPUT, needed};
 
 /// The strings of the arguments; `-` stands for those of the standard input.
 pub(crate) fn strings_of(rt: &HostRuntime, arguments: &[&str]) -> Result<Vec<Vec<u8>>, Failure> {

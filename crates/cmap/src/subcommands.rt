@@ -17,9 +17,9 @@ use crate::rewrite::Rewriting;
 use crate::text::text;
 use clap::ArgMatches;
 use cmap_bundle::command::{BundleOptions, bundle};
+use cmap_files::failure::Failure;
 use cmap_rewrite::make::{MakeOptions, make};
 use cmap_sources::bases::Bases;
-use cmap_sources::failure::Failure;
 
 /// A subcommand, with what its arguments ask for.
 #[derive(Clone, Copy)]

@@ -1,10 +1,10 @@
 //! `cmap text`: the texts of strings.
 
 use crate::font::{StringOptions, font_and_strings};
+use cmap_files::failure::Failure;
+use cmap_files::status::{ACCEPTED, REFUSED};
 use cmap_report::decode::{push_text_json, push_text_line};
 use cmap_sources::bases::Bases;
-use cmap_sources::failure::Failure;
-use cmap_sources::status::{ACCEPTED, REFUSED};
 use cmap_unicode::Extractor;
 
 /// Prints the text of each string. The status says whether each code has a text.

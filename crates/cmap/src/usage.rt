@@ -1,8 +1,8 @@
 //! The help, and errors of arguments. Arguments are untrusted, so they are escaped.
 
 use clap::Error;
-use cmap_sources::failure::Failure;
-use cmap_sources::path_text::push_path;
+use cmap_files::failure::Failure;
+use cmap_files::path_text::push_path;
 
 /// Prints the help, the version, or the error of the arguments with the usage, and gives the status.
 pub(crate) fn print_usage(rt: &HostRuntime, error: &Error) -> Result<u8, Failure> {

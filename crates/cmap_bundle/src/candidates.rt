@@ -1,10 +1,10 @@
 //! The files that arguments ask to be put in a bundle.
 
 use cmap_escape::count::Count;
-use cmap_sources::failure::{Failure, fault, report};
-use cmap_sources::folders::{files_in, is_folder, name_of};
-use cmap_sources::inputs::{STANDARD_INPUT, needed};
-use cmap_sources::path_text::is_plain;
+use cmap_files::failure::{Failure, fault, report};
+use cmap_files::folders::{files_in, is_folder, name_of};
+use cmap_files::inputs::{STANDARD_INPUT, needed};
+use cmap_files::path_text::is_plain;
 use hayro_cmap::CMapName;
 
 /// A file that is asked for.
@@ -83,9 +83,8 @@ impl Candidates {
 
     /// Leaves out what has a path that isn't UTF-8, and reports it: it may be a folder.
     fn leave_out(&mut self, rt: &HostRuntime, path: &str) -> Result<(), Failure> {
-        report(rt, &fault(rt, path, "left out: its path isn't UTF-8"))?;
         self.left_out.add_one();
-        Ok(())
+        report_left_out(rt, path, "its path isn't UTF-8")
     }
 
     /// Adds the file of a path, with this name.
@@ -104,6 +103,13 @@ impl Candidates {
         self.files.push(Candidate { path, name, bytes })?;
         Ok(())
     }
+}
+
+/// Reports that a file is left out, and why.
+pub(crate) fn report_left_out(rt: &HostRuntime, path: &str, reason: &str) -> Result<(), Failure> {
+    let mut wrong = String::from_str(rt.alloc(), "left out: ")?;
+    wrong.push_str(reason)?;
+    Ok(report(rt, &fault(rt, path, wrong.as_str()))?)
 }
 
 /// The last part of a path, if it is a known name.

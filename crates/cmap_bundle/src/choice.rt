@@ -1,10 +1,10 @@
 //! The files that are put in the bundle.
 
-use crate::candidates::{Candidate, Candidates, is_known};
+use crate::candidates::{Candidate, Candidates, is_known, report_left_out};
 use cmap_binary::is_marked_binary;
 use cmap_escape::count::Count;
 use cmap_escape::escape::{push_name, push_text};
-use cmap_sources::failure::Failure;
+use cmap_files::failure::Failure;
 use cmap_sources::fault_line::LineCounter;
 use cmap_sources::refused::stop_line;
 use cmap_text::read_text;
@@ -119,11 +119,8 @@ impl<'c> Choice<'c> {
         candidate: &Candidate,
         reason: &str,
     ) -> Result<(), Failure> {
-        let mut line = String::new(rt.alloc());
-        push_text(&mut line, candidate.path.as_str())?;
-        eprintln!(rt; "cmap: {line}: left out: {reason}")?;
         self.left_out.add_one();
-        Ok(())
+        report_left_out(rt, candidate.path.as_str(), reason)
     }
 
     /// Leaves out a malformed file, and reports its first fault.

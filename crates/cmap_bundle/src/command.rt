@@ -5,10 +5,10 @@ use crate::choice::{Choice, Chosen, choose};
 use crate::making::bundle_of;
 use crate::summary::push_summary;
 use crate::verify::differences;
-use cmap_sources::beside::Beside;
-use cmap_sources::failure::{Failure, fault};
-use cmap_sources::inputs::{STANDARD_INPUT, needed};
-use cmap_sources::status::{ACCEPTED, REFUSED};
+use cmap_files::beside::Beside;
+use cmap_files::failure::{Failure, fault};
+use cmap_files::inputs::{STANDARD_INPUT, needed};
+use cmap_files::status::{ACCEPTED, REFUSED};
 use hayro_cmap::Bundle;
 
 /// What the arguments of `bundle` ask for.

@@ -2,9 +2,8 @@
 
 use crate::choice::Chosen;
 use cmap_escape::escape::push_text;
+use cmap_files::failure::Failure;
 use cmap_maker::{Source, Unwritable, make_named_bundle};
-use cmap_report::obstacle::push_obstacle;
-use cmap_sources::failure::Failure;
 use cmap_values::fault::Fault;
 use std::alloc::{AllocError, Global};
 
@@ -48,6 +47,6 @@ fn line_of(
         push_text(&mut line, chosen.candidate.path.as_str())?;
         line.push_str(": ")?;
     }
-    push_obstacle(&mut line, unwritable.obstacle)?;
+    write!(line, "{}", unwritable.obstacle)?;
     Ok(line)
 }

@@ -5,12 +5,12 @@ use crate::tally::Tally;
 use crate::warnings::{LintOptions, push_warnings, subject_of};
 use cmap_escape::object::Object;
 use cmap_escape::{escape, json};
+use cmap_files::failure::{Failure, fault, report};
+use cmap_files::inputs::{read, report_unreadable};
+use cmap_files::paths::{PathList, Paths, paths_of};
 use cmap_sources::bases::Bases;
-use cmap_sources::failure::{Failure, fault, report};
 use cmap_sources::format::format_of;
-use cmap_sources::inputs::{read, report_unreadable};
-use cmap_sources::paths::{PathList, Paths, paths_of};
-use cmap_sources::reading::{Input, Manner, Reading, read_over};
+use cmap_sources::reading::{Form, Input, Manner, Reading, read_over};
 use serde_json::Value;
 use std::alloc::{AllocError, Global};
 use std::io;
@@ -26,8 +26,6 @@ pub struct CheckOptions<'m, 'w> {
     pub manner: Manner,
     /// Which warnings are asked for.
     pub lint: LintOptions<'m, 'w>,
-    /// Whether each line is an object of JSON.
-    pub json: bool,
     /// Whether the last line, with the number of files, is left out.
     pub is_quiet: bool,
 }
@@ -141,9 +139,9 @@ impl Run<'_, '_, '_> {
         reading: &Reading,
         bases: &Bases<'_>,
     ) -> Result<(), AllocError> {
-        push_reading(alloc, lines, input.path, self.options.json, reading)?;
+        push_reading(alloc, lines, input.path, self.options.manner.form, reading)?;
         let is_denied = push_lint(alloc, lines, input, reading, self.options, bases)?;
-        self.tally.count(reading, is_denied);
+        self.tally.count(!reading.faults.is_empty(), is_denied);
         Ok(())
     }
 }
@@ -166,7 +164,7 @@ fn push_lint(
                 &subject,
                 options.lint,
                 input.path,
-                options.json,
+                options.manner.form,
             )
         }
         _ => Ok(false),
@@ -178,11 +176,11 @@ fn push_reading(
     alloc: Global,
     lines: &mut String,
     path: &str,
-    json: bool,
+    form: Form,
     reading: &Reading,
 ) -> Result<(), AllocError> {
     if reading.faults.is_empty() {
-        return push_accepted(alloc, lines, path, json);
+        return push_accepted(alloc, lines, path, form);
     }
     for fault in &reading.faults {
         lines.push_str(fault.as_str())?;
@@ -196,11 +194,15 @@ fn push_accepted(
     alloc: Global,
     lines: &mut String,
     path: &str,
-    json: bool,
+    form: Form,
 ) -> Result<(), AllocError> {
-    if json {
-        return push_accepted_json(alloc, lines, path);
+    match form {
+        Form::Text => push_accepted_text(lines, path),
+        Form::Json => push_accepted_json(alloc, lines, path),
     }
+}
+
+fn push_accepted_text(lines: &mut String, path: &str) -> Result<(), AllocError> {
     escape::push_text(lines, path)?;
     lines.push_str(": ok\n")
 }

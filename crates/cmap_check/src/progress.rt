@@ -1,7 +1,7 @@
 //! How far a run over many files has come.
 
 use cmap_escape::count::Count;
-use cmap_sources::failure::Failure;
+use cmap_files::failure::Failure;
 use std::io::{self, IsTerminal};
 
 /// How many characters the bar has.

@@ -1,8 +1,11 @@
 //! How many files a run checks, and what is wrong with them.
 
+ghost use Rattle.std.specs.Prelude.{◌≡◌};
+ghost use Rattle.cmap_escape.specs.Counts.{number_seen};
+ghost use Rattle.cmap_check.specs.Tallies.{IsStatus, none_but, tally_seen, with_file, with_unreadable};
+
 use cmap_escape::count::Count;
-use cmap_sources::reading::Reading;
-use cmap_sources::status::{ACCEPTED, FAILED, REFUSED};
+use cmap_files::status::{ACCEPTED, FAILED, REFUSED};
 use std::io;
 
 /// What a run over many files finds.
@@ -18,7 +21,9 @@ pub(crate) struct Tally {
 
 impl Tally {
     /// No file yet; this many paths can't be read.
-    pub(crate) fn new(unreadable: Count) -> Tally {
+    pub(crate) fn new(unreadable: Count) -> Tally
+        ensures { tally_seen result ≡ none_but (number_seen unreadable) }
+    {
         Tally {
             checked: Count::of(0),
             refused: Count::of(0),
@@ -28,14 +33,18 @@ impl Tally {
     }
 
     /// Counts one more path that can't be read.
-    pub(crate) fn add_unreadable(&mut self) {
+    pub(crate) fn add_unreadable(&mut self)
+        ensures { tally_seen self.new ≡ with_unreadable (tally_seen self.old) }
+    {
         self.unreadable.add_one();
     }
 
-    /// Counts a file that was read. A warning about it may be denied.
-    pub(crate) fn count(&mut self, reading: &Reading, is_denied: bool) {
+    /// Counts a file that was read. It may be refused, or a warning about it denied.
+    pub(crate) fn count(&mut self, is_refused: bool, is_denied: bool)
+        ensures { tally_seen self.new ≡ with_file is_refused is_denied (tally_seen self.old) }
+    {
         self.checked.add_one();
-        if !reading.faults.is_empty() {
+        if is_refused {
             self.refused.add_one();
         }
         if is_denied {
@@ -44,7 +53,9 @@ impl Tally {
     }
 
     /// The status of the command.
-    pub(crate) fn status(&self) -> u8 {
+    pub(crate) fn status(&self) -> u8
+        ensures { IsStatus (tally_seen self.now) result }
+    {
         if self.unreadable.get() > 0 {
             FAILED
         } else if self.refused.get() > 0 || self.denied.get() > 0 {

@@ -1,14 +1,14 @@
 //! `cmap check --lint`: what looks wrong in a file that is accepted.
 
 use cmap_binary::is_marked_binary;
+use cmap_files::failure::{Failure, fault};
+use cmap_files::inputs::STANDARD_INPUT;
 use cmap_lint::finding::Finding;
 use cmap_lint::lint::{Subject, findings_of, nothing_declared};
 use cmap_lint::printed::{push_finding, push_json};
 use cmap_lint::warning::Warning;
 use cmap_sources::bases::Bases;
-use cmap_sources::failure::{Failure, fault};
-use cmap_sources::inputs::STANDARD_INPUT;
-use cmap_sources::reading::Input;
+use cmap_sources::reading::{Form, Input};
 use hayro_cmap::CMap;
 use std::alloc::{AllocError, Global};
 
@@ -19,14 +19,23 @@ const ALL: &str = "all";
 #[derive(Clone, Copy)]
 pub struct LintOptions<'m, 'w> {
     /// Whether all warnings are asked for, and not only `nothing-declared`.
-    pub is_asked: bool,
-    /// Whether the files are meant as maps to Unicode.
-    pub to_unicode: bool,
-    /// The names of warnings for which the status is 1.
-    pub denied: &'m [&'w str],
+    is_asked: bool,
+    to_unicode: bool,
+    denied: &'m [&'w str],
 }
 
 impl<'m, 'w> LintOptions<'m, 'w> {
+    /// All warnings, where they are asked for, where the files are meant as maps to Unicode (`to_unicode`), or where
+    /// `denied` has a name; else only `nothing-declared`. A warning makes the status 1 where `denied` has its name or
+    /// `all`.
+    pub fn new(is_asked: bool, to_unicode: bool, denied: &'m [&'w str]) -> LintOptions<'m, 'w> {
+        LintOptions {
+            is_asked: is_asked || to_unicode || !denied.is_empty(),
+            to_unicode,
+            denied,
+        }
+    }
+
     /// Refuses a name after `--deny` that no warning has.
     pub(crate) fn check_names(&self, rt: &HostRuntime) -> Result<(), Failure> {
         for name in self.denied {
@@ -55,18 +64,18 @@ pub(crate) fn push_warnings(
     subject: &Subject<'_>,
     options: LintOptions<'_, '_>,
     path: &str,
-    json: bool,
+    form: Form,
 ) -> Result<bool, AllocError> {
     if !options.is_asked {
         let finding = nothing_declared(subject.map);
         if finding.count > 0 {
-            push_line(alloc, lines, path, &finding, json)?;
+            push_line(alloc, lines, path, &finding, form)?;
         }
         return Ok(false);
     }
     let mut is_denied = false;
     for finding in &findings_of(alloc, subject)? {
-        push_line(alloc, lines, path, finding, json)?;
+        push_line(alloc, lines, path, finding, form)?;
         if options.denies(finding.warning) {
             is_denied = true;
         }
@@ -79,12 +88,12 @@ fn push_line(
     lines: &mut String,
     path: &str,
     finding: &Finding<'_>,
-    json: bool,
+    form: Form,
 ) -> Result<(), AllocError> {
-    if json {
-        return push_json(alloc, lines, path, finding);
+    match form {
+        Form::Text => push_finding(lines, path, finding),
+        Form::Json => push_json(alloc, lines, path, finding),
     }
-    push_finding(lines, path, finding)
 }
 
 /// What is asked for warnings: a file with its map.

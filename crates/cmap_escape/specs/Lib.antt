@@ -1,3 +1,4 @@
+pub mod Counts
 pub mod Escapes
 pub mod Json
 pub mod Shown

@@ -14,9 +14,16 @@ use std::marker::Model;
 /// that it is based on, and so on.
 ///
 /// What codes stand for is decided by the first layer that says something of them.
-#[derive(Debug, Drop)]
+#[derive(Debug)]
 pub struct Layers {
     list: Vec<Layer>,
+}
+
+// A crate that drops them calls this, and proves nothing of their parts.
+impl Drop for Layers {
+    fn drop(self) {
+        let Layers { list: _ } = self;
+    }
 }
 
 // A clause sees the list of them.

@@ -15,10 +15,20 @@ use std::alloc::{AllocError, Global};
 use std::marker::Model;
 
 /// A bundle with copies of its files, so that it outlives the bytes that were parsed.
-#[derive(Debug, Drop)]
+#[derive(Debug)]
 pub struct OwnedBundle {
     without_files: Bundle<'static>,
     files: Vec<Vec<u8>>,
+}
+
+// A crate that drops a bundle calls this, and proves nothing of the bundle's parts.
+impl Drop for OwnedBundle {
+    fn drop(self) {
+        let OwnedBundle {
+            without_files: _,
+            files: _,
+        } = self;
+    }
 }
 
 // A clause sees its tables and its files.

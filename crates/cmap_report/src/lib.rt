@@ -8,5 +8,3 @@ pub mod find;
 pub mod info;
 pub mod list;
 pub mod lookup;
-pub mod obstacle;
-pub mod uses;

@@ -1,9 +1,8 @@
 //! A file in the binary form, by the tables of a bundle.
 
 use cmap_escape::escape::push_text;
+use cmap_files::failure::{Failure, fault};
 use cmap_packed::Bundle;
-use cmap_report::obstacle::push_obstacle;
-use cmap_sources::failure::{Failure, fault};
 use cmap_values::fault::Fault;
 use cmap_values::file::File;
 use cmap_writer::{Encoders, Obstacle, write_file};
@@ -40,7 +39,6 @@ pub(crate) fn binary_of(
 fn obstacle_line(alloc: Global, path: &str, obstacle: Obstacle) -> Result<String, AllocError> {
     let mut line = String::new(alloc);
     push_text(&mut line, path)?;
-    line.push_str(": the binary form can't say ")?;
-    push_obstacle(&mut line, obstacle)?;
+    write!(line, ": the binary form can't say {obstacle}")?;
     Ok(line)
 }

@@ -2,10 +2,10 @@
 
 use crate::command::{check_output, text_of};
 use crate::table::{TableFault, declared_by};
-use cmap_sources::beside::Beside;
-use cmap_sources::failure::{Failure, fault};
-use cmap_sources::inputs::needed;
-use cmap_sources::status::ACCEPTED;
+use cmap_files::beside::Beside;
+use cmap_files::failure::{Failure, fault};
+use cmap_files::inputs::needed;
+use cmap_files::status::ACCEPTED;
 use cmap_values::character_collection::{CharacterCollection, CidFamily};
 use cmap_values::fault::Fault;
 use cmap_values::file::File;

@@ -1,3 +1,1 @@
-pub mod BytesSeen
-pub mod FileNames
 pub mod LineEnds

@@ -1,12 +1,12 @@
 //! What one file says by itself, whatever files it uses.
 
 use crate::bases::Bases;
-use crate::failure::Failure;
 use crate::fault_line::LineCounter;
 use crate::format::report_format;
 use crate::reading::{Faults, Input};
 use crate::refused::stop_line;
 use cmap_binary::{is_marked_binary, read_binary, salvage_binary};
+use cmap_files::failure::Failure;
 use cmap_text::{read_text, salvage_text};
 use cmap_values::fault::{Fault, Stop};
 use cmap_values::file::{File, Salvaged};

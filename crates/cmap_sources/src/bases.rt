@@ -1,15 +1,15 @@
 //! Bases: the files that others use, by their names. A base is read only if a file uses it.
 
-ghost use Rattle.cmap_sources.specs.BytesSeen.{bytes_seen};
+ghost use Rattle.cmap_files.specs.BytesSeen.{bytes_seen};
 
-use crate::failure::Failure;
-use crate::file_bytes::FileBytes;
-use crate::file_names::file_name;
-use crate::folders::{files_in, is_folder, name_of, why_no_folder};
-use crate::inputs::{read, report_unreadable, unreadable};
-use crate::path_text::path_bytes;
 use crate::search::Search;
-use crate::status::{ACCEPTED, FAILED};
+use cmap_files::failure::Failure;
+use cmap_files::file_bytes::FileBytes;
+use cmap_files::file_names::file_name;
+use cmap_files::folders::{files_in, is_folder, name_of, why_no_folder};
+use cmap_files::inputs::{read, report_unreadable, unreadable};
+use cmap_files::path_text::path_bytes;
+use cmap_files::status::{ACCEPTED, FAILED};
 use hayro_cmap::{Bundle, BundleFiles, CMap, NamedFile, NamedFiles, Source, identity_text};
 use std::alloc::{AllocError, Global};
 use std::collections::BTreeMap;

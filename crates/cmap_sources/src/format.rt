@@ -1,6 +1,6 @@
 //! Files of other formats, by their first bytes.
 
-use crate::failure::{Failure, fault, report};
+use cmap_files::failure::{Failure, fault, report};
 use hayro_cmap::Bundle;
 use std::alloc::{AllocError, Global};
 

@@ -1,9 +1,9 @@
 //! A file is parsed over the bases that were read. If one is missing, it is read, and the file is parsed again.
 
 use crate::bases::{Bases, Files, ReadBases};
-use crate::failure::Failure;
 use crate::fault_line::LineCounter;
 use crate::refused::{push_refusal_json, push_refusal_line};
+use cmap_files::failure::Failure;
 use hayro_cmap::{CMap, Cause, Fault, Refusal, SalvagedMap};
 use std::alloc::{AllocError, Global};
 

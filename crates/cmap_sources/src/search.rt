@@ -1,8 +1,8 @@
 //! Folders in which a name is looked up that neither a base nor a file of the bundle has.
 
-use crate::failure::{Failure, fault};
-use crate::file_names::file_name;
-use crate::folders::{add_with_subfolders, is_file};
+use cmap_files::failure::{Failure, fault};
+use cmap_files::file_names::file_name;
+use cmap_files::folders::{add_with_subfolders, is_file};
 use std::alloc::{AllocError, Global};
 use std::collections::BTreeSet;
 use std::env::{self, VarError};

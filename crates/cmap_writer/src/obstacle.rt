@@ -1,6 +1,7 @@
 //! What a bundle can't say.
 
 use cmap_values::range::Range;
+use std::fmt::{self, Display, Formatter, Write};
 
 /// What a binary file or a bundle can't say.
 #[derive(Clone, Copy, Debug)]
@@ -25,4 +26,37 @@ pub enum Obstacle {
     TooLong,
     /// The name of the file is none of the known ones, so a bundle has no place for it.
     NoPlace,
+}
+
+impl Display for Obstacle {
+    fn fmt<W: Write>(&self, f: &mut Formatter<W>) -> fmt::Result {
+        f.write_str(match self {
+            Obstacle::LargeCid(range) => return write_codes(f, "CID above 65535", range),
+            Obstacle::LargeCode(code) => {
+                return write!(f, "the code {code:X} has more bytes than its length");
+            }
+            Obstacle::ZeroByte => "a registry or an ordering holds a zero byte",
+            Obstacle::CustomFamily => "a custom collection has the name of a known one",
+            Obstacle::Supplement(number) => {
+                return write!(f, "the supplement {number} isn't 0 to 65535");
+            }
+            Obstacle::Text(range) => {
+                return write_codes(f, "more than 255 units or 65536 texts", range);
+            }
+            Obstacle::NoWord => "more different numbers than a table holds",
+            Obstacle::TooLong => "2^32 bytes or more",
+            Obstacle::NoPlace => "none of the known names",
+        })
+    }
+}
+
+/// Writes what is wrong with the codes of a range, each code with as many bytes as the range needs.
+fn write_codes<W: Write>(f: &mut Formatter<W>, what: &str, range: &Range) -> fmt::Result {
+    let Range { start, end } = range;
+    match *start.max(end) {
+        0..0x100 => write!(f, "{what} for the codes <{start:02X}> to <{end:02X}>"),
+        0x100..0x1_0000 => write!(f, "{what} for the codes <{start:04X}> to <{end:04X}>"),
+        0x1_0000..0x100_0000 => write!(f, "{what} for the codes <{start:06X}> to <{end:06X}>"),
+        _ => write!(f, "{what} for the codes <{start:08X}> to <{end:08X}>"),
+    }
 }

@@ -2,7 +2,7 @@
 
 ghost use Rattle.std.specs.Prelude.{◌≡◌, ◌↔◌, IsTrue, MatchOption};
 ghost use Rattle.std.specs.Str.{IsUtf8};
-ghost use Rattle.cmap_sources.specs.FileNames.{IsFileName};
+ghost use Rattle.cmap_files.specs.FileNames.{IsFileName};
 
 /// The name of a file in a folder that isn't hidden. Names come from untrusted files, so a name that leads to
 /// another folder gives `None`.

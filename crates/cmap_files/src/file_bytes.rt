@@ -1,7 +1,7 @@
 //! The bytes of files, which are shared and not copied.
 
 ghost use Rattle.std.specs.Prelude.{◌≡◌, IfOk};
-ghost use Rattle.cmap_sources.specs.BytesSeen.{bytes_seen};
+ghost use Rattle.cmap_files.specs.BytesSeen.{bytes_seen};
 
 use std::alloc::AllocError;
 use std::rc::RcSlice;

@@ -1,0 +1,2 @@
+pub mod BytesSeen
+pub mod FileNames
