@@ -5,7 +5,7 @@ use crate::command_line::flags::JSON;
 use crate::options::{Sources, manner_of};
 use clap::ArgMatches;
 use cmap_bundle::contents::print_contents;
-use cmap_files::failure::{Failure, report};
+use cmap_files::failure::{Failure, report_message};
 use cmap_files::status::{ACCEPTED, FAILED, REFUSED};
 use cmap_report::info::{push_info, push_json};
 use cmap_sources::bases::{Bases, Files};
@@ -88,11 +88,10 @@ fn info_of(
     match open(rt, path, options.manner, bases) {
         Ok(opened) => print_info(rt, path, &opened, options, bases),
         Err(Failure::Refused) => Ok(REFUSED),
-        Err(Failure::Message(line)) => {
-            report(rt, &Failure::Message(line))?;
+        Err(failure) => {
+            report_message(rt, failure)?;
             Ok(FAILED)
         }
-        Err(failure) => Err(failure),
     }
 }
 

@@ -7,7 +7,7 @@ use clap::ArgMatches;
 use cmap_escape::escape::push_text;
 use cmap_escape::json;
 use cmap_escape::object::Object;
-use cmap_files::failure::{Failure, report};
+use cmap_files::failure::{Failure, report_message};
 use cmap_files::folders::is_file;
 use cmap_files::status::{ACCEPTED, REFUSED};
 use cmap_sources::bases::Bases;
@@ -43,7 +43,7 @@ pub(crate) fn locate(
         match path_of(rt, argument, options, bases)? {
             Some(path) => print_path(rt, argument, path.as_str(), options.json)?,
             None => {
-                report(rt, &unknown_name(rt, argument, bases))?;
+                report_message(rt, unknown_name(rt, argument, bases))?;
                 status = REFUSED;
             }
         }

@@ -1,7 +1,7 @@
 //! The files that arguments ask to be put in a bundle.
 
 use cmap_escape::count::Count;
-use cmap_files::failure::{Failure, fault, report};
+use cmap_files::failure::{Failure, fault, report_message};
 use cmap_files::folders::{files_in, is_folder, name_of};
 use cmap_files::inputs::{STANDARD_INPUT, needed};
 use cmap_files::path_text::is_plain;
@@ -109,7 +109,7 @@ impl Candidates {
 pub(crate) fn report_left_out(rt: &HostRuntime, path: &str, reason: &str) -> Result<(), Failure> {
     let mut wrong = String::from_str(rt.alloc(), "left out: ")?;
     wrong.push_str(reason)?;
-    Ok(report(rt, &fault(rt, path, wrong.as_str()))?)
+    report_message(rt, fault(rt, path, wrong.as_str()))
 }
 
 /// The last part of a path, if it is a known name.

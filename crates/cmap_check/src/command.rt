@@ -5,7 +5,7 @@ use crate::tally::Tally;
 use crate::warnings::{LintOptions, push_warnings, subject_of};
 use cmap_escape::object::Object;
 use cmap_escape::{escape, json};
-use cmap_files::failure::{Failure, fault, report};
+use cmap_files::failure::{Failure, fault, report_message};
 use cmap_files::inputs::{read, report_unreadable};
 use cmap_files::paths::{PathList, Paths, paths_of};
 use cmap_sources::bases::Bases;
@@ -108,7 +108,7 @@ impl Run<'_, '_, '_> {
     fn report_format(&mut self, rt: &HostRuntime, input: Input<'_>) -> Result<(), Failure> {
         if let Some(format) = format_of(rt.alloc(), input.bytes)? {
             self.progress.clear(rt)?;
-            report(rt, &fault(rt, input.path, format))?;
+            report_message(rt, fault(rt, input.path, format))?;
         }
         Ok(())
     }

@@ -77,3 +77,14 @@ pub fn report(rt: &HostRuntime, failure: &Failure) -> io::Result<()> {
         Failure::Message(line) => eprintln!(rt; "cmap: {line}"),
     }
 }
+
+/// Reports a failure with a message, after which the run goes on. Any other failure ends it.
+pub fn report_message(rt: &HostRuntime, failure: Failure) -> Result<(), Failure> {
+    match failure {
+        Failure::Message(line) => {
+            eprintln!(rt; "cmap: {line}")?;
+            Ok(())
+        }
+        other => Err(other),
+    }
+}

@@ -1,6 +1,6 @@
 //! The bytes of the files that arguments ask for.
 
-use crate::failure::{Failure, report};
+use crate::failure::{Failure, report_message};
 use crate::path_text::{is_plain, push_path};
 use std::alloc::{AllocError, Global};
 use std::fs;
@@ -83,6 +83,5 @@ fn words_of<'r>(path: &str, reason: &'r str) -> &'r str {
 
 /// Reports that a path can't be read, and why.
 pub fn report_unreadable(rt: &HostRuntime, path: &str, error: &io::Error) -> Result<(), Failure> {
-    report(rt, &unreadable(rt, path, error))?;
-    Ok(())
+    report_message(rt, unreadable(rt, path, error))
 }

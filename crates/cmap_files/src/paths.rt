@@ -1,6 +1,6 @@
 //! The files that `check` reads.
 
-use crate::failure::{Failure, fault, report};
+use crate::failure::{Failure, fault, report_message};
 use crate::folders::{files_in, is_folder};
 use crate::inputs::{STANDARD_INPUT, needed};
 use crate::path_text::path_text;
@@ -69,9 +69,8 @@ impl Paths {
         if path.as_str() != STANDARD_INPUT {
             return self.add(rt, path.as_str());
         }
-        report(rt, &fault(rt, STANDARD_INPUT, "can't be read by a list"))?;
         self.unreadable.add_one();
-        Ok(())
+        report_message(rt, fault(rt, STANDARD_INPUT, "can't be read by a list"))
     }
 
     /// Adds a file, or each file in a folder.

@@ -1,13 +1,13 @@
 //! Files of other formats, by their first bytes.
 
-use cmap_files::failure::{Failure, fault, report};
+use cmap_files::failure::{Failure, fault, report_message};
 use hayro_cmap::Bundle;
 use std::alloc::{AllocError, Global};
 
 /// Reports a file that is a PDF file, a font or a bundle.
 pub fn report_format(rt: &HostRuntime, path: &str, bytes: &[u8]) -> Result<(), Failure> {
     if let Some(format) = format_of(rt.alloc(), bytes)? {
-        report(rt, &fault(rt, path, format))?;
+        report_message(rt, fault(rt, path, format))?;
     }
     Ok(())
 }
