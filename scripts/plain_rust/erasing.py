@@ -125,7 +125,7 @@ def erase_names(source, bracket, name):
 
 
 def erase_drops(source):
-    """`impl Drop for T { fn drop(self) { let T { a: _, b: _ } = self; } }`: Rust drops the fields of a value by itself."""
+    """`impl Drop for T { fn drop(self) { let T { a: _, b: _ } = self; } }`: Rust drops fields by itself."""
     for at in source.indices("Drop"):
         if not source.words(at, "Drop", "for"):
             continue
