@@ -197,8 +197,8 @@ const BYTE: u8 = b'"';
 
 # what it shows, a source, the line of the fault, and what is said
 REFUSED = [
-    ("a destructor", "struct S;\n\nimpl Drop for S {\n    fn drop(self) {\n        f(&self);\n        let S {} = self;\n"
-     "    }\n}\n", 3, "a `drop` that does more than to name the fields"),
+    ("a destructor", "struct S;\n\nimpl Drop for S {\n    fn drop(self) {\n        f(&self);\n"
+     "        let S {} = self;\n    }\n}\n", 3, "a `drop` that does more than to name the fields"),
     ("a `Drop` elsewhere", "use std::Drop;\n", 1, "a `Drop` that is no bound"),
     ("unsafe code", "fn f() {\n    unsafe { g() }\n}\n", 2, "an unknown construct: unsafe"),
     ("an unknown attribute", "\n#[repr(C)]\nstruct S;\n", 2, "an unknown attribute: repr"),
