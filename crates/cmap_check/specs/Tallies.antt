@@ -1,6 +1,7 @@
 -- What a run over many files counts.
 use Rattle.std.specs.Prelude.{◌≡◌, ◌⊎◌, Bool, true, false, ℕ, ◌<◌}
 use Rattle.cmap_escape.specs.Counts.{counted, number_seen}
+use Rattle.cmap_files.specs.Statuses as statuses
 use Rattle.cmap_check.specs.declared.tally.Tally.{Tally}
 
 pub record Counts : Type 0 where
@@ -28,8 +29,8 @@ with_file is_refused is_denied counts = record { checked = counted counts.checke
 abbrev pub with_unreadable : Counts → Counts
 with_unreadable counts = record { checked = counts.checked; refused = counts.refused; denied = counts.denied; unreadable = counted counts.unreadable 1 }
 
--- 2 where a path can't be read, else 1 where a file is refused or a warning denied, else 0
+-- failed where a path can't be read, else refused where a file is refused or a warning denied, else accepted
 abbrev pub IsStatus : Counts → ℕ → Type 0
-IsStatus counts status = ((0 < counts.unreadable) × (status ≡ 2))
-    ⊎ ((counts.unreadable ≡ 0) × ((0 < counts.refused) ⊎ (0 < counts.denied)) × (status ≡ 1))
-    ⊎ ((counts.unreadable ≡ 0) × (counts.refused ≡ 0) × (counts.denied ≡ 0) × (status ≡ 0))
+IsStatus counts status = ((0 < counts.unreadable) × (status ≡ statuses.failed))
+    ⊎ ((counts.unreadable ≡ 0) × ((0 < counts.refused) ⊎ (0 < counts.denied)) × (status ≡ statuses.refused))
+    ⊎ ((counts.unreadable ≡ 0) × (counts.refused ≡ 0) × (counts.denied ≡ 0) × (status ≡ statuses.accepted))

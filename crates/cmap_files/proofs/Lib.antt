@@ -1,1 +1,2 @@
 mod Absent
+mod PathsTaken

@@ -1,2 +1,5 @@
 pub mod BytesSeen
+pub mod Failures
 pub mod FileNames
+pub mod PathTexts
+pub mod Statuses

@@ -1,6 +1,9 @@
 //! Messages on the standard error, and why a run ends early. Arguments and paths are untrusted, so they
 //! are escaped.
 
+ghost use Rattle.std.specs.Prelude.{◌≡◌, Err};
+ghost use Rattle.cmap_files.specs.Failures.{IsMessage, status_of};
+
 use crate::path_text::push_path;
 use crate::status::{FAILED, READER_GONE, REFUSED};
 use std::alloc::{AllocError, AllocFailed, Global};
@@ -22,7 +25,9 @@ pub enum Failure {
 
 impl Failure {
     /// The status of the run.
-    pub fn status(&self) -> u8 {
+    pub fn status(&self) -> u8
+        ensures { result ≡ status_of self.now }
+    {
         match self {
             Failure::ReaderGone => READER_GONE,
             Failure::Refused => REFUSED,
@@ -79,7 +84,9 @@ pub fn report(rt: &HostRuntime, failure: &Failure) -> io::Result<()> {
 }
 
 /// Reports a failure with a message, after which the run goes on. Any other failure ends it.
-pub fn report_message(rt: &HostRuntime, failure: Failure) -> Result<(), Failure> {
+pub fn report_message(rt: &HostRuntime, failure: Failure) -> Result<(), Failure>
+    ensures others { ¬ (IsMessage failure) → result ≡ Err failure }
+{
     match failure {
         Failure::Message(line) => {
             eprintln!(rt; "cmap: {line}")?;
