@@ -43,6 +43,11 @@ impl Count {
 }
 
 impl Display for Count {
+    ghost use Rattle.std.specs.Prelude.{Some};
+    ghost use Rattle.std.specs.Fmt.{decimal};
+
+    ghost output = { λ count. Some (decimal (number_seen count)) };
+
     fn fmt<W: Write>(&self, f: &mut Formatter<W>) -> fmt::Result {
         write!(f, "{}", self.number)
     }
