@@ -5,7 +5,17 @@ use Rattle.std.specs.Char.{is_digit}
 use Rattle.std.specs.List.{list_any}
 use Rattle.std.proofs.lemmas.Bool.{cases_Bool, ne_eqb}
 use Rattle.std.proofs.lemmas.List.{take_more}
+use Rattle.cmap_tokens.specs.Bytes.{begins}
 use Rattle.cmap_tokens.specs.Malformed.{blank_after, ends_line, is_line_blank, last_digits, hex_left}
+
+-- ---- the first byte
+pub begins_first : (p : ℕ → Bool) (text : List ℕ) → 1 ≤ length text → begins p text ≡ p (get_or text 0 0)
+begins_first p [] some = absurd (omega (arith, some))
+begins_first p (b ∷ text) some = refl
+
+pub begins_none : (p : ℕ → Bool) (text : List ℕ) → length text < 1 → begins p text ≡ false
+begins_none p [] none = refl
+begins_none p (b ∷ text) none = absurd (omega (arith, none))
 
 -- ---- digits at the end
 digits_append : (count : ℕ) (text : List ℕ) (b : ℕ) → last_digits count (text ++ b ∷ []) ≡ (if is_digit b 16 then last_digits count text + 1 else 0)
