@@ -7,7 +7,7 @@ use Rattle.cmap_text.specs.TextSeen.{code_seen}
 use Rattle.cmap_text.specs.TokenParsers.{run}
 use Rattle.cmap_text.proofs.EntriesRead.{code_starts, entry_wrong}
 use Rattle.cmap_text.proofs.EntrySteps.{char_text}
-use Rattle.cmap_text.proofs.Refusals.{passed_on}
+use Rattle.cmap_text.proofs.Refusals.{no_memory, passed_on}
 use Rattle.cmap_text.proofs.entries.add_longer_text.Goals as goal
 
 pub returns-in_ok-add_text-in-Some-longer_destination : goal.returns-in_ok-add_text-in-Some-longer_destination
@@ -36,3 +36,17 @@ returns-in_err-add_bf_char-in-None c =
     let result = c.from_residual-in_err-add_bf_char-in-None in
     passed_on result.result _ _ c.add_bf_char.new.reader _ _ result.ensures.1 c.in_err-add_bf_char-in-None.ensures.adds.1
     (λ e wrong. entry_wrong bf_char lists c.args.reader.now mid code starts e (ap (run (entry_after bf_char code lists)) (sym c.in-None.ensures) ∙ wrong))
+
+pub returns-in_err-add_text-in-Some-longer_destination : goal.returns-in_err-add_text-in-Some-longer_destination
+returns-in_err-add_text-in-Some-longer_destination c =
+    let fault = c.in_err-add_text-in-Some-longer_destination.ensures.fails in
+    no_memory c.from_residual.result _ _ _ (rw fault at c.from_residual.ensures.1)
+
+pub returns-in_ok-add_bf_char-in-None : goal.returns-in_ok-add_bf_char-in-None
+returns-in_ok-add_bf_char-in-None c =
+    let code = code_seen c.in-Some.code in
+    let mid = c.two_byte_code.new.self in
+    let (piece, reads, is) = c.in-Some.ensures in
+    let same = ap (run (entry_after bf_char code (lists_seen c.args.lists.now))) (sym c.in-None.ensures) in
+    let starts = code_starts bf_char c.args.reader.now mid piece code reads is in
+    ((code, mid, starts, same ∙ c.in_ok-add_bf_char-in-None.ensures.adds.0), tt)
