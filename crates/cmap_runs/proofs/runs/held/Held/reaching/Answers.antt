@@ -57,3 +57,34 @@ returns-clause-some g c =
           let found = slice_get_read list _ w.run.inside.index w.index-in-Swept.result.now refl inside w.index-in-Swept.ensures in
           rw (w.declaration-is, ← same) (record { run = _; at = at; reaches = omega (arith, w.if-run-code.false, ap (λ (run : Run). run.high) w.run.view_is); decides = ap (λ (run : Run). slice_get list run.index) (sym w.run.view_is) ∙ found })
     ]
+
+pub index-requires : goal.index-requires
+index-requires g c =
+    let spans = map g.T.HasRange.span c.self.inside.declarations.items in let indices = c.in-Ranges.indices in
+    let are = ap (λ held. held.runs) (sym c.self.view_is) ∙ ap (runs_held spans) c.in-Ranges.is in
+    omega (arith, c.requires.run, ap length are, length-map indices.items (range_at spans), indices.ok.0)
+
+pub index-declaration-requires : goal.index-declaration-requires
+index-declaration-requires g c =
+    let list = c.self.inside.declarations in let indices = c.in-Ranges.indices.items in
+    let spans = map g.T.HasRange.span list.items in
+    let are = ap (λ held. held.runs) (sym c.self.view_is) ∙ ap (runs_held spans) c.in-Ranges.is in
+    let inside : c.args.i < length indices =
+    omega (arith, c.requires.run, ap length are, length-map indices (range_at spans)) in
+    let all = subst (indices_within (length list.items)) c.in-Ranges.is c.self.invariant in
+    omega (arith, all c.args.i c.index.result.now inside, c.index.ensures, list.ok.0)
+
+pub index-run-requires : goal.index-run-requires
+index-run-requires g c =
+    let spans = map g.T.HasRange.span c.self.inside.declarations.items in
+    let held = ap (λ held. held.runs) (sym c.self.view_is) ∙ ap (runs_held spans) c.in-Swept.is in
+    omega (arith, c.requires.run, ap length (held ∙ sym c.runs.view_is), c.runs.inside.list.ok.0)
+
+pub index-requires-in-Swept : goal.index-requires-in-Swept
+index-requires-in-Swept g c =
+    let list = c.self.inside.declarations in let i = c.args.i in let run = c.index-run.result.now in
+    let spans = map g.T.HasRange.span list.items in
+    let held = ap (λ held. held.runs) (sym c.self.view_is) ∙ ap (runs_held spans) c.in-Swept.is in
+    let at = ap (λ runs. get_or runs i run) (held ∙ sym c.runs.view_is) ∙ sym c.index-run.ensures ∙ sym c.run.view_is in
+    let same = ap (λ held. length held.declarations) c.self.view_is in
+    omega (arith, c.requires.within i run c.requires.run, ap (λ (run : Run). run.index) at, same, list.ok.0)

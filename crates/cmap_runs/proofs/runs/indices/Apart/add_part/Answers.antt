@@ -32,3 +32,53 @@ add_to_block-requires g c =
       merged = c.end_blocks.ensures.merged (map g.T.HasRange.span c.args.declarations.now) old.merged;
       limit = λ more. omega (arith, c.min-bound.ensures, c.end_blocks.new.self.blocks.ends (omega (arith, more, c.end_blocks.new.self.blocks.list.ok.0)), c.end_blocks.new.self.blocks.list.ok.0);
     }
+
+pub loop-index-init : goal.loop-index-init
+loop-index-init g c = record {
+  begin = omega arith;
+  within = c.requires.first;
+  len = omega arith;
+  capacity = omega arith;
+  merged = c.requires.merged;
+}
+
+pub returns-in_err-next : goal.returns-in_err-next
+returns-in_err-next g c =
+    let old = c.loop-index.invariant in let same = ap vec_capacity c.end_blocks.ensures.indices in
+    rw c.from_residual.ensures (record {
+      within = tt;
+      len = tt;
+      capacity = omega (arith, old.capacity, c.add_to_block.ensures.capacity, same);
+      merged = tt;
+    })
+
+pub returns-then-next-index : goal.returns-then-next-index
+returns-then-next-index g c =
+    let old = c.loop-index.invariant in let same = ap vec_capacity c.end_blocks.ensures.indices in
+    record {
+      within = tt;
+      len = tt;
+      capacity = omega (arith, old.capacity, c.add_to_block.ensures.capacity, same);
+      merged = tt;
+    }
+
+pub returns-then-bound-limit : goal.returns-then-bound-limit
+returns-then-bound-limit g c =
+    let old = c.loop-index.invariant in let now = c.in_ok-next.ensures in
+    let len = ap vec_len c.end_blocks.ensures.indices in let capacity = ap vec_capacity c.end_blocks.ensures.indices in
+    record {
+      within = (omega (arith, old.begin, now.within.0), now.within.1);
+      len = omega (arith, old.len, now.len, len, old.begin, now.within.0);
+      capacity = omega (arith, old.capacity, c.add_to_block.ensures.capacity, capacity);
+      merged = now.merged;
+    }
+
+pub returns-after-loop-index : goal.returns-after-loop-index
+returns-after-loop-index g c =
+    let at = c.loop-index.invariant in
+    record { within = (at.begin, at.within); len = at.len; capacity = at.capacity; merged = at.merged }
+
+pub returns-then-limit-low : goal.returns-then-limit-low
+returns-then-limit-low g c =
+    let at = c.loop-index.invariant in
+    record { within = (at.begin, at.within); len = at.len; capacity = at.capacity; merged = at.merged }
