@@ -2,7 +2,7 @@ use Rattle.std.proofs.Common.{◌≡◌, ◌<◌, get_or, length, ap, sym, ◌�
 use Rattle.std.specs.Int.{bit_at}
 use Rattle.std.proofs.lemmas.Bool.{eqb-false}
 use Rattle.cmap_codespaces.specs.CodesWithin.{IsLeast}
-use Rattle.cmap_codespaces.specs.SpaceBits.{IsInsideWithin, row_of_front}
+use Rattle.cmap_codespaces.specs.SpaceBits.{HaveRows, IsInsideWithin, row_of_front}
 use Rattle.cmap_codespaces.proofs.FrontRows.{NoBitBelow, bit_fits, first_bit_inside, no_bit_inside, none_before_bit}
 use Rattle.cmap_codespaces.proofs.SpacesFound.{least_ranges, NoneBelow}
 use Rattle.cmap_codespaces.proofs.spaces.Spaces.shortest_of_all.Goals as goal
@@ -69,3 +69,36 @@ returns-then-is_empty-2 c =
     let is : c.deref-then-is_empty-2.result.now ≡ c.self.inside.blocks.items = c.deref-then-is_empty-2.ensures.value in
     rw (← c.self.view_is)
     (least_ranges c.self.inside.list.items c.self.inside.blocks.items text found (λ k. omega (arith, c.type_inv.text k)) c.self.invariant.by_blocks (subst (λ blocks. IsLeast (IsInsideWithin text blocks 0 (length blocks)) found) is c.shortest_among_groups.ensures))
+
+pub shortest_among_blocks-requires : goal.shortest_among_blocks-requires
+shortest_among_blocks-requires c =
+    subst HaveRows (sym c.deref.ensures.value) (λ b d within. (c.self.invariant.by_blocks.each b d within).size)
+
+pub shortest_among_groups-requires-clause-groups : goal.shortest_among_groups-requires-clause-groups
+shortest_among_groups-requires-clause-groups c =
+    let some : 0 < length c.self.inside.groups.items = omega (arith, eqb-false _ 0 (sym c.if-is_empty.ensures)) in
+    let blocks = c.deref-then-is_empty-2.ensures.value in let groups = c.deref-then-is_empty-2-2.ensures.value in
+    rw (blocks, groups) (c.self.invariant.by_groups some)
+
+pub shortest_among_groups-requires-clause-tops : goal.shortest_among_groups-requires-clause-tops
+shortest_among_groups-requires-clause-tops c =
+    rw (c.deref-then-is_empty-2-2.ensures.value, c.deref-then-is_empty-2-3.ensures.value) c.self.invariant.by_tops
+
+pub shortest_among_groups-requires-clause-rows : goal.shortest_among_groups-requires-clause-rows
+shortest_among_groups-requires-clause-rows c =
+    let blocks = c.deref-then-is_empty-2.ensures.value in
+    subst HaveRows (sym blocks) (λ b d within. (c.self.invariant.by_blocks.each b d within).size)
+
+pub shortest_among_groups-requires-2-clause-groups : goal.shortest_among_groups-requires-2-clause-groups
+shortest_among_groups-requires-2-clause-groups c =
+    let some : 0 < length c.self.inside.groups.items = omega (arith, eqb-false _ 0 (sym c.if-is_empty.ensures)) in
+    rw (c.deref-3.ensures.value, c.deref-4.ensures.value) (c.self.invariant.by_groups some)
+
+pub shortest_among_groups-requires-2-clause-tops : goal.shortest_among_groups-requires-2-clause-tops
+shortest_among_groups-requires-2-clause-tops c =
+    rw (c.deref-4.ensures.value, c.deref-5.ensures.value) c.self.invariant.by_tops
+
+pub shortest_among_groups-requires-2-clause-rows : goal.shortest_among_groups-requires-2-clause-rows
+shortest_among_groups-requires-2-clause-rows c =
+    let blocks = c.deref-3.ensures.value in
+    subst HaveRows (sym blocks) (λ b d within. (c.self.invariant.by_blocks.each b d within).size)
