@@ -1,8 +1,8 @@
 """Prints the codes of strings, with their CIDs and texts.
 
 FILE is the path of a CMap file, or the name of one in the folders of --base or in the bundle, or of a predefined CMap:
-one in the folders of the environment variable CMAP_PATH, else in those of the system. A code without a text of its own has that of its CID in the CMap to Unicode of its collection, as
-Adobe-Japan1-UCS2, if that is there.
+one in the folders of the environment variable CMAP_PATH, else in those of the system. A code without a text of its own
+has that of its CID in the CMap to Unicode of its collection, as Adobe-Japan1-UCS2, if that is there.
 """
 
 import argparse
@@ -22,12 +22,26 @@ def arguments():
         prog="python3 -m hayro_cmap", description=__doc__, formatter_class=argparse.RawDescriptionHelpFormatter
     )
     parser.add_argument("file", metavar="FILE", type=os.fsencode)
-    parser.add_argument("strings", metavar="HEX", nargs="+", type=bytes.fromhex, help="two digits for each byte")
+    parser.add_argument("strings", metavar="HEX", nargs="+", type=string_of, help="two digits for each byte")
     parser.add_argument("--base", metavar="FOLDER", action="append", default=[], help="where used files are")
     parser.add_argument("--bundle", metavar="FILE", help="a bundle, for files in binary form and for used files")
     parser.add_argument("--budget", metavar="N", type=int, help="the most bytes that all files may have together")
     parser.add_argument("--version", action="version", version=f"hayro_cmap {__version__}")
     return parser.parse_args()
+
+
+def string_of(digits):
+    try:
+        return bytes.fromhex(digits)
+    except ValueError as fault:
+        raise argparse.ArgumentTypeError(f"not two digits for each byte: {digits!r}") from fault
+
+
+def message_of(fault):
+    """What a fault says; a path in it as a text."""
+    if isinstance(fault, OSError) and isinstance(fault.filename, bytes):
+        return f"{ascii(os.fsdecode(fault.filename))[1:-1]}: {fault.strerror}"
+    return fault
 
 
 def read(path):
@@ -96,7 +110,7 @@ def main():
         print(f"hayro_cmap: {ascii(name)[1:-1]}: {fault}", file=sys.stderr)
         return 1
     except (OSError, NotABundle, ValueError) as fault:
-        print(f"hayro_cmap: {fault}", file=sys.stderr)
+        print(f"hayro_cmap: {message_of(fault)}", file=sys.stderr)
         return 2
     return 0
 

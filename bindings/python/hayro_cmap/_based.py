@@ -24,7 +24,7 @@ class Base:
         return self.data
 
 
-def parsed(kind: Type, data, base, files: Files = NO_FILES, bundle: Optional[Bundle] = None, budget=None):
+def parsed(kind: Type, data, base, files: Optional[Files] = NO_FILES, bundle: Optional[Bundle] = None, budget=None):
     """The map of a file over a base, which is a map or the bytes of a file."""
     given = Base(strict_file(kind, base, files, bundle, budget))
     cmap = kind.parse(data, given, bundle, budget)
@@ -33,7 +33,7 @@ def parsed(kind: Type, data, base, files: Files = NO_FILES, bundle: Optional[Bun
     return kind.parse(over_base(cmap, bytes_of(data), bundle), given, bundle, with_use(budget))
 
 
-def strict_file(kind: Type, base, files: Files, bundle: Optional[Bundle], budget) -> bytes:
+def strict_file(kind: Type, base, files: Optional[Files], bundle: Optional[Bundle], budget) -> bytes:
     """The base as one file that uses no other."""
     if isinstance(base, kind):
         return base.write()
@@ -41,22 +41,27 @@ def strict_file(kind: Type, base, files: Files, bundle: Optional[Bundle], budget
     return kind.parse(base, files, bundle, budget).write() if names_in(base, bundle) else base
 
 
-def salvaged(kind: Type, data, base, files: Files = NO_FILES, bundle: Optional[Bundle] = None, budget=None):
-    """The map of a file over a base, read past the faults of both, and these."""
-    file, of_base = salvaged_file(kind, base, files, bundle, budget)
+def salvaged(
+    kind: Type, data, base, files: Optional[Files] = NO_FILES, bundle: Optional[Bundle] = None, budget=None, most=None
+):
+    """The map of a file over a base, read past the faults of both, and these, at most so many of each."""
+    file, of_base = salvaged_file(kind, base, files, bundle, budget, most)
     given = Base(file)
-    cmap, faults = kind.salvage(data, given, bundle, budget)
+    cmap, faults = kind.salvage(data, given, bundle, budget, most_faults=most)
     name = given.asked or NAME
     if given.asked is None:
-        cmap, _ = kind.salvage(over_base(cmap, bytes_of(data), bundle), given, bundle, with_use(budget))
+        whole = over_base(cmap, bytes_of(data), bundle)
+        cmap, _ = kind.salvage(whole, given, bundle, with_use(budget), most_faults=most)
     return cmap, faults + [below(name, fault) for fault in of_base]
 
 
-def salvaged_file(kind: Type, base, files: Files, bundle: Optional[Bundle], budget) -> Tuple[bytes, List[Refused]]:
+def salvaged_file(
+    kind: Type, base, files: Optional[Files], bundle: Optional[Bundle], budget, most
+) -> Tuple[bytes, List[Refused]]:
     """The base as one file that uses no other, read past its faults, and these."""
     if isinstance(base, kind):
         return base.write(), []
-    cmap, faults = kind.salvage(base, files, bundle, budget)
+    cmap, faults = kind.salvage(base, files, bundle, budget, most_faults=most)
     is_alone = not faults and not names_in(bytes_of(base), bundle)
     return bytes_of(base) if is_alone else cmap.write(), faults
 

@@ -55,6 +55,9 @@ class Extractor:
         files: Optional[Files] = None,
         bundle: Optional[Bundle] = None,
     ):
+        for cmap in (encoding, to_unicode, collection):
+            if not isinstance(cmap, (CMap, type(None))):
+                raise TypeError(f"an Extractor is made of CMaps, and not of {type(cmap).__name__}")
         if encoding is None:
             encoding = CMap.parse(SINGLE_BYTES)
         if collection is None and (files is not None or bundle is not None):
@@ -77,6 +80,8 @@ class Extractor:
 
     def text(self, string: Buffer, missing: str = "\N{REPLACEMENT CHARACTER}") -> str:
         """The text of a string, with `missing` for each code that has none."""
+        if not isinstance(missing, str):
+            raise TypeError(f"missing is a text, and not {type(missing).__name__}")
         return "".join(self._parts(string, Room.text, missing))
 
     def _parts(self, string: Buffer, taken_from: Callable[..., Any], *options: Any) -> List[Any]:
@@ -118,6 +123,8 @@ class Extractor:
 
         What is needed for it is made of all codes of the font when it is first called, and kept.
         """
+        if not isinstance(text, str):
+            raise TypeError(f"a text is encoded, and not {type(text).__name__}")
         return self._encoder.encode(text, None if missing is None else bytes_of(missing))
 
     @functools.cached_property
@@ -165,11 +172,14 @@ class Extractor:
         if encoder is not None:
             encoder.close()
 
-    def __enter__(self):
+    def __enter__(self) -> "Extractor":
         return self
 
-    def __exit__(self, *_):
+    def __exit__(self, *_) -> None:
         self.close()
+
+    def __reduce__(self):
+        raise TypeError("the extractor can't be copied or pickled: another is made of the same maps")
 
 
 def character_of(code: bytes, has_text: int, text: bytes) -> Character:

@@ -1,5 +1,6 @@
 """Why a file gives no map."""
 
+import bisect
 import enum
 import re
 from typing import Optional, Tuple
@@ -58,6 +59,17 @@ class Segment(enum.IntEnum):
 LINE_END = re.compile(rb"\r\n?|\n")
 
 
+class Lines:
+    """Where the lines of a text end. A binary file has none."""
+
+    def __init__(self, data: bytes):
+        self._ends = None if data[:5] == b"bcmap" else [it.start() for it in LINE_END.finditer(data)]
+
+    def line(self, offset: Optional[int]) -> Optional[int]:
+        """The line of an offset: one more than the line ends before it."""
+        return None if offset is None or self._ends is None else 1 + bisect.bisect_left(self._ends, offset)
+
+
 class Refused(ValueError):
     """A file, or one that it uses, is malformed or missing, or passes a limit. Its text says which and why."""
 
@@ -98,10 +110,7 @@ class Refused(ValueError):
 
         A line ends with LF, CR or CRLF. None for a binary file, and for one that isn't malformed.
         """
-        data = bytes_of(data)
-        if self.offset is None or data[:5] == b"bcmap":
-            return None
-        return 1 + len(LINE_END.findall(data[: self.offset]))
+        return Lines(bytes_of(data)).line(self.offset)
 
     def __str__(self) -> str:
         at_fault = self.names[-1] if self.names else self.opened

@@ -3,10 +3,12 @@
 import os
 from typing import Callable, Dict, Optional, Union
 
+from ._values import Name, name_of
+
 Path = Union[str, "os.PathLike[str]"]
 
 
-def folder(*paths: Path) -> Callable[[bytes], Optional[bytes]]:
+def folder(*paths: Path) -> Callable[[Name], Optional[bytes]]:
     """Gives the files in these folders and their subfolders, each when it is asked for by its name.
 
     A name stands for a file that was there when the folders were gone through, and for nothing outside of them. The
@@ -17,10 +19,11 @@ def folder(*paths: Path) -> Callable[[bytes], Optional[bytes]]:
         for file in sorted(files_below(os.fsencode(path))):
             found.setdefault(os.path.basename(file), file)
 
-    def file_of(name: bytes) -> Optional[bytes]:
-        if name not in found:
+    def file_of(name: Name) -> Optional[bytes]:
+        path = found.get(name_of(name))
+        if path is None:
             return None
-        with open(found[name], "rb") as file:
+        with open(path, "rb") as file:
             return file.read()
 
     return file_of

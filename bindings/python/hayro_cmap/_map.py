@@ -34,6 +34,7 @@ from ._reading import (
     explained_over,
     gathered,
     no_file,
+    past_budget,
     salvaged_over,
     table_of,
 )
@@ -205,7 +206,7 @@ class CMap(Owned):
     def parse(
         cls,
         data: Buffer,
-        files: Files = NO_FILES,
+        files: Optional[Files] = NO_FILES,
         bundle: Optional[Bundle] = None,
         budget: Optional[int] = None,
         base: Union["CMap", Buffer, None] = None,
@@ -215,7 +216,7 @@ class CMap(Owned):
         A file that it uses is that of `files` with the name, else that of the bundle. `files` is a mapping, or a
         callable that is asked for the file of a name, once for each name, and gives None where there is none. The
         files that are read may have no more bytes than `budget` together, and no callable is asked for more than one
-        file past it; the bytes of the bundle don't count.
+        file past it. Files of the bundle count where they are read, and the bundle itself doesn't.
 
         `base` is what the file is based on, whatever name it uses, and also where it uses none, as the entry UseCMap of
         a stream in a PDF file says: a map, or the bytes of a file, which itself may use those of `files`. Its name in
@@ -233,22 +234,26 @@ class CMap(Owned):
     def salvage(
         cls,
         data: Buffer,
-        files: Files = NO_FILES,
+        files: Optional[Files] = NO_FILES,
         bundle: Optional[Bundle] = None,
         budget: Optional[int] = None,
         base: Union["CMap", Buffer, None] = None,
+        most_faults: Optional[int] = None,
     ) -> "Salvaged":
         """Reads a CMap file, and those that it uses, past their faults: the map of what they say, and each fault.
 
         The faults of a file come once, however often it is used. Of a file that `parse` reads it gives the same map,
         and no fault; of another one the first fault is one for which it is refused. The parameters are those of
         `parse`; a callable isn't asked for a name that only a file at fault uses, where the bundle has it
-        or it needs no file. The faults of a `base` come last.
+        or it needs no file. The faults of a `base` come last. With `most_faults` only the first ones are given, so many
+        of the file and those that it uses, and of a `base`: a file of a megabyte may have a million.
         """
+        if most_faults is not None:
+            most_faults = number(most_faults, 0, 2**32, "most_faults")
         if base is not None:
-            return Salvaged(*_based.salvaged(cls, data, base, files, bundle, budget))
+            return Salvaged(*_based.salvaged(cls, data, base, files, bundle, budget, most_faults))
         data, most = bytes_of(data), budget_of(budget)
-        handle, faults = salvaged_over(data, files, bundle, most)
+        handle, faults = salvaged_over(data, files, bundle, most, most_faults)
         return Salvaged(cls(handle), faults)
 
     @classmethod
@@ -283,8 +288,8 @@ class CMap(Owned):
         handle = Handle()
         with held(None) as over:
             status = checked(library.hayro_cmap_open(handle, name, len(name), over, table_of({}), 0, most))
-        if status == ABSENT:
-            raise no_file(name)
+        if status != OK:
+            raise no_file(name) if status == ABSENT else past_budget(name)
         return cls(handle)
 
     @classmethod
@@ -390,7 +395,8 @@ class CMap(Owned):
         the fewest that write it, and no fewer than the shortest codes have.
         """
         layers = self.layers
-        ranges = [it for layer in layers for it in layer.codespaces] if codespaces is None else list(codespaces)
+        given = None if codespaces is None else [codespace_of(it) for it in codespaces]
+        ranges = [it for layer in layers for it in layer.codespaces] if given is None else given
         return effective([it for layer in layers for it in reversed(layer.texts)], ranges)
 
     def items(self, codespaces: Optional[Iterable[Codespace]] = None) -> Iterator[Tuple[bytes, str]]:
@@ -436,6 +442,13 @@ class CMap(Owned):
 def code_of_fields(code, cid, byte_len, in_codespace, has_cid, cut_short):
     """The code of the fields of a hayro_cmap_code."""
     return Code(code, byte_len, cid if has_cid else None, bool(in_codespace), bool(cut_short))
+
+
+def codespace_of(given):
+    """A codespace range of three integers."""
+    low, high, byte_len = given
+    most = 256 ** code_length(byte_len) - 1
+    return Codespace(number(low, 0, most, "the low code"), number(high, 0, most, "the high code"), byte_len)
 
 
 def opened_or_none(name, files, bundle):

@@ -3,10 +3,13 @@
 import contextlib
 import ctypes
 import threading
+from typing import Optional, TypeVar
 
 from ._library import NO_MEMORY, NO_ROOM, OK, Handle, load
 
 library = load()
+
+Self = TypeVar("Self", bound="Owned")
 
 
 def checked(status):
@@ -33,7 +36,7 @@ class Owned:
     _free = None
     _share = None
 
-    def __init__(self, handle: Handle):
+    def __init__(self, handle: Optional[Handle] = None):
         if not isinstance(handle, Handle):
             raise TypeError(f"{self._what} is made by {self._made_by}")
         self._handle = handle
@@ -79,11 +82,11 @@ class Owned:
         if handle is not None:
             type(self)._free(handle)
 
-    def __enter__(self):
+    def __enter__(self: Self) -> Self:
         with self._held():
             return self
 
-    def __exit__(self, *_):
+    def __exit__(self, *_) -> None:
         self.close()
 
     def __del__(self):

@@ -5,18 +5,20 @@ import os
 import threading
 from typing import Any, Callable, Dict, Iterator, List, NamedTuple, Optional, Tuple
 
+from ._values import Name, name_of
+
 #: Where poppler-data, Ghostscript and the packages cmap-adobe-* put the files, also in subfolders.
 SYSTEM_FOLDERS = ("/usr/share/poppler/cMap", "/var/lib/ghostscript/CMap", "/usr/share/fonts/cmap")
 
 
-def predefined(name: bytes) -> Optional[bytes]:
+def predefined(name: Name) -> Optional[bytes]:
     """The predefined CMap file of a name, as 90ms-RKSJ-H; None where the system has none.
 
     It is looked up in the folders of the environment variable CMAP_PATH, with colons between them, and without the
     variable where packages of Linux put these files. A folder's own file counts before those of its subfolders. A name
     stands for nothing outside of the folders, and for no hidden file. OSError where a file is there and can't be read.
     """
-    path = path_of(name)
+    path = path_of(name_of(name))
     if path is None:
         return None
     with open(path, "rb") as file:
@@ -53,7 +55,8 @@ class Kept:
 
     def __init__(self):
         self._opened: "collections.OrderedDict[bytes, Opened]" = collections.OrderedDict()
-        self._lock = threading.Lock()
+        # a handler of signals may open a map while its thread has the lock
+        self._lock = threading.RLock()
 
     def of(self, name: bytes, opened: Callable):
         """The map of a name: another handle of the one that is kept, else what `opened` gives over the files."""
@@ -69,8 +72,8 @@ class Kept:
 
         cmap = opened(file_of)
         with self._lock:
+            self._opened.pop(name, None)
             self._opened[name] = Opened(cmap.share(), stamps)
-            self._opened.move_to_end(name)
             while len(self._opened) > self.MOST:
                 self._opened.popitem(last=False)
         return cmap

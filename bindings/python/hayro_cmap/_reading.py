@@ -3,9 +3,10 @@
 import contextlib
 import ctypes
 import functools
+import itertools
 from ctypes import c_size_t
 from types import MappingProxyType
-from typing import Callable, Dict, List, Mapping, Optional, Tuple, Union
+from typing import Callable, Dict, Iterable, Iterator, List, Mapping, Optional, Tuple, Union
 
 from ._bundle import Bundle, held
 from ._faults import Cause, Reason, Refused, Segment
@@ -14,7 +15,9 @@ from ._owned import checked, library, put
 from ._values import Buffer, Name, bytes_of, name_of, number
 
 #: Files by their names, or what gives the file of a name, and None where there is none.
-Files = Union[Mapping[Name, Buffer], Callable[[bytes], Optional[Buffer]]]
+Files = Union[
+    Mapping[bytes, Buffer], Mapping[str, Buffer], Mapping[Name, Buffer], Callable[[bytes], Optional[Buffer]]
+]
 
 NO_FILES: Files = MappingProxyType({})
 
@@ -51,7 +54,7 @@ def explained(data: bytes, files: Dict[bytes, bytes], bundle: Optional[Bundle], 
     return handle
 
 
-def explained_over(data: bytes, files: Files, bundle: Optional[Bundle], budget: int, opened=None) -> Handle:
+def explained_over(data: bytes, files: Optional[Files], bundle: Optional[Bundle], budget: int, opened=None) -> Handle:
     """The same over all files of a mapping, or those that a callable gives. Each name is asked for once."""
     if not callable(files):
         return explained(data, gathered(files), bundle, budget, opened)
@@ -83,11 +86,9 @@ def explain_to(handle: Handle, data: bytes, files, bundle: Optional[Bundle], bud
     raise refusal(fault, room.raw, opened)
 
 
-def salvage_to(
-    handle: Handle, data: bytes, files: Dict[bytes, bytes], bundle: Optional[Bundle], budget: int
-) -> List[Refused]:
+def salvage_to(handle: Handle, data: bytes, files: Dict[bytes, bytes], bundle: Optional[Bundle], budget: int):
     """Puts the map of a file that is read past its faults into a handle, in the place of the one there, and gives the
-    faults."""
+    faults as the library has them, with their names, which stand one after another."""
     table, found, needed, faults, room = table_of(files), c_size_t(8), c_size_t(256), [], b""
     while found.value > len(faults) or needed.value > len(room):
         faults, room = (Fault * (found.value + 1))(), ctypes.create_string_buffer(needed.value + 1)
@@ -98,38 +99,48 @@ def salvage_to(
                     *(faults, len(faults), found, room, len(room), needed),
                 )
             )
-    return refusals(faults[: found.value], room.raw)
+    return itertools.islice(faults, found.value), room.raw
 
 
-def refusals(faults: List[Fault], names: bytes) -> List[Refused]:
-    """What the library says of faults, whose names stand one after another."""
-    found, start = [], 0
+def with_names(faults: Iterable[Fault], names: bytes) -> Iterator[Tuple[Fault, bytes]]:
+    """Faults, each with its names, which stand one after another."""
+    start = 0
     for fault in faults:
         end = start + sum(fault.name_lens[: fault.names])
-        found.append(refusal(fault, names[start:end], None))
+        yield fault, names[start:end]
         start = end
-    return found
 
 
-def salvaged_over(data: bytes, files: Files, bundle: Optional[Bundle], budget: int) -> Tuple[Handle, List[Refused]]:
+def salvaged_over(
+    data: bytes, files: Optional[Files], bundle: Optional[Bundle], budget: int, most_faults: Optional[int]
+) -> Tuple[Handle, List[Refused]]:
     """The handle of the map of a file that is read past its faults, and the faults, over all files of a mapping, or
     those that a callable gives. Each name is asked for once."""
     with filled() as handle:
-        return handle, salvage_over_to(handle, data, files, bundle, budget)
+        return handle, salvage_over_to(handle, data, files, bundle, budget, most_faults)
 
 
-def salvage_over_to(handle: Handle, data: bytes, files: Files, bundle: Optional[Bundle], budget: int) -> List[Refused]:
+def salvage_over_to(
+    handle: Handle, data: bytes, files: Optional[Files], bundle: Optional[Bundle], budget: int, most_faults
+) -> List[Refused]:
     """Puts this map into a handle, and gives the faults."""
     if not callable(files):
-        return salvage_to(handle, data, gathered(files), bundle, budget)
+        faults, names = salvage_to(handle, data, gathered(files), bundle, budget)
+        return [refusal(*it, None) for it in itertools.islice(with_names(faults, names), most_faults)]
     ask = functools.lru_cache(maxsize=None)(files)
     found = fetched(names_in(data, bundle), MOST_IN_CHAIN - 1, ask, bundle, budget - len(data))
     while True:
-        faults = salvage_to(handle, data, found, bundle, budget)
-        answers = {name: ask(name) for name in (fault.names[-1] for fault in faults if fault.cause == Cause.NO_FILE)}
+        faults, names = salvage_to(handle, data, found, bundle, budget)
+        first, missing = [], []
+        for fault, of_fault in with_names(faults, names):
+            if most_faults is None or len(first) < most_faults:
+                first.append(refusal(fault, of_fault, None))
+            if fault.cause == Cause.NO_FILE:
+                missing.append(pieces(of_fault, fault.name_lens[: fault.names])[-1])
+        answers = {name: ask(name) for name in missing}
         new = {name: bytes_of(file) for name, file in answers.items() if file is not None}
         if not new:
-            return faults
+            return first
         found.update(new)
 
 
@@ -153,6 +164,11 @@ def no_file(name: bytes) -> Refused:
     fault = Fault(cause=Cause.NO_FILE, names=1)
     fault.name_lens[0] = len(name)
     return refusal(fault, name, None)
+
+
+def past_budget(name: bytes) -> Refused:
+    """That the file of this name has more bytes than the budget."""
+    return refusal(Fault(cause=Cause.PAST_BUDGET, names=0), b"", name)
 
 
 def pieces(text: bytes, lens: List[int]) -> List[bytes]:
@@ -180,10 +196,10 @@ def uses(data: Buffer, bundle: Optional[Bundle] = None) -> List[bytes]:
     return pieces(room.raw, lens[: names.value])
 
 
-def gathered(files: Mapping[Name, Buffer]) -> Dict[bytes, bytes]:
-    """All files of a mapping."""
+def gathered(files: Optional[Mapping]) -> Dict[bytes, bytes]:
+    """All files of a mapping; none without one."""
     found: Dict[bytes, bytes] = {}
-    for name, file in files.items():
+    for name, file in ({} if files is None else files).items():
         found.setdefault(name_of(name), bytes_of(file))
     return found
 

@@ -2,6 +2,7 @@
 
 from typing import Iterable, List, Mapping, Optional, Tuple, Union
 
+from ._effective import LOW_SURROGATES, SINGLE_UNITS
 from ._faults import NotWritable
 from ._library import CID_RANGE, CODESPACE_RANGE, NO_MODE, NOTDEF_RANGE, TEXT_RANGE, Declaration, Facts
 from ._map import WritingMode
@@ -59,12 +60,18 @@ class CMapWriter:
     def text(self, first: CodeOf, last: CodeOf, text: str) -> None:
         """Texts: the first code has this one, whose last unit of UTF-16 counts on from code to code.
 
-        ValueError where it is empty, or has a surrogate that stands alone.
+        ValueError where it is empty, has a surrogate that stands alone, or counts on to units that are no text.
         """
         data = str.encode(text)
         if not data:
             raise ValueError("the text is empty")
+        (low, _), (high, _) = (code_of(code, self._code_len) for code in (first, last))
+        if high >= low and not counts_on(text, high - low):
+            raise ValueError("the text of the last code isn't Unicode")
         self._declare(TEXT_RANGE, first, last, text=data)
+
+    def __reduce__(self):
+        raise TypeError("the writer can't be copied or pickled")
 
     def write(self) -> bytes:
         """The text of the file, in the fewest declarations that give each code the same.
@@ -86,6 +93,14 @@ class CMapWriter:
         self._declarations.append(Declaration(kind, byte_len, low, high, cid_number(cid), text, len(text)))
 
 
+def counts_on(text: str, further: int) -> bool:
+    """Whether the last unit of a text, in UTF-16, may be greater by up to so much: it stays a low surrogate, or on its
+    side of all surrogates."""
+    unit = int.from_bytes(text[-1].encode("utf-16-be")[-2:], "big")
+    most = next(last for first, last in [*SINGLE_UNITS, *LOW_SURROGATES] if first <= unit <= last)
+    return unit + further <= most
+
+
 def facts_of(name, collection, writing_mode):
     """What a file says of itself, as the library takes it."""
     data = b"" if name is None else name_of(name)
@@ -101,7 +116,7 @@ def facts_of(name, collection, writing_mode):
 
 
 def to_unicode(
-    texts: Mapping[CodeOf, str],
+    texts: Union[Mapping[int, str], Mapping[bytes, str], Mapping[CodeOf, str]],
     code_len: int = 2,
     name: Optional[Name] = "Adobe-Identity-UCS",
     collection: Optional[Collection] = ("Adobe", "UCS", 0),

@@ -1,5 +1,6 @@
 """What is said of the fonts of a file, and of the codes that it shows."""
 
+import time
 import unittest
 
 from pikepdf import Name
@@ -49,6 +50,15 @@ class Counts(unittest.TestCase):
                 f"font {font.font.number}: in no codespace range: 1 codes, 1 different: <8181>",
             ],
         )
+
+    def test_more_faults_than_are_kept(self):
+        """A line for each, up to a number, and no time that grows with its square."""
+        file = showing(b"A", GOOD + b" endbfchar" + b"\n)" * 50_000)
+        start = time.monotonic()
+        [font] = pdf.check(file.pdf).fonts
+        self.assertLess(time.monotonic() - start, 20)
+        self.assertEqual([it.line for it in font.font.faults[:3]], [2, 3, 4])
+        self.assertEqual((len(font.font.faults), font.font.faults[-1].reason), (1001, "more than 1,000 faults"))
 
     def test_faults(self):
         file = showing(b"\1AC", BAD.replace(b"<41>", b"<01>").replace(b"<43>", b"<02>"))

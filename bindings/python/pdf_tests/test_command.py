@@ -106,6 +106,7 @@ class Command(Folder):
         self.assertEqual(
             list(pdf.check_files([str(self.path("bad.pdf")), str(self.path("none.pdf"))])), out.splitlines()
         )
+        self.assertEqual(list(pdf.check_files(str(self.path("none.pdf")))), out.splitlines()[2:])
 
     def test_fonts_and_text(self):
         self.assertRegex(

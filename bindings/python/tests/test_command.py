@@ -60,6 +60,8 @@ class Command(unittest.TestCase):
             ran = self.decode(*words)
             self.assertEqual((ran.returncode, ran.stdout), (2, ""), ran.stderr)
             self.assertNotIn("Traceback", ran.stderr)
+            self.assertNotIn("b'", ran.stderr)
+        self.assertIn("not two digits for each byte: '93F'", self.decode("Identity-H", "93F").stderr)
 
     @needs_resources
     def test_predefined(self):
@@ -72,7 +74,7 @@ class Constructors(unittest.TestCase):
     """Maps and bundles are made by class methods, and a call of the class says by which."""
 
     def test_word(self):
-        for made, word in [("CMap('x')", "CMap.parse, CMap.open"), ("Bundle(b'x')", "Bundle.open")]:
+        for made, word in [("CMap('x')", "CMap.parse, CMap.open"), ("CMap()", "CMap.parse"), ("Bundle(b'x')", "Bundle.open")]:
             ran = run("-c", f"import hayro_cmap; hayro_cmap.{made}")
             self.assertEqual(ran.returncode, 1)
             self.assertIn(f"is made by {word}", ran.stderr)

@@ -60,7 +60,7 @@ class Predefined(unittest.TestCase):
     def test_nothing_outside(self):
         with self.path(self.folder + "/Small"):
             self.assertEqual([predefined(name) for name in [b"../Secret", b"..", b"", b"Small-H\0", b"Else"]], [None] * 5)
-            self.assertEqual(predefined(b"Small-H"), SMALL)
+            self.assertEqual((predefined(b"Small-H"), predefined("Small-H")), (SMALL, SMALL))
         with self.path(), self.assertRaises(Refused):
             CMap.open("Small-V")
 
@@ -70,6 +70,13 @@ class Predefined(unittest.TestCase):
             os.environ.pop("CMAP_PATH", None)
             with CMap.open("90ms-RKSJ-V") as cmap:
                 self.assertEqual([code.cid for code in cmap.decode(b"\x93\xfa")], [3284])
+
+
+class NoFiles(unittest.TestCase):
+    def test_none_is_no_file(self):
+        with CMap.parse(SMALL, None) as cmap, CMap.salvage(SMALL, None).cmap as salvaged:
+            self.assertEqual([cmap.cid(0x41, 1), salvaged.cid(0x41, 1)], [34, 34])
+        self.assertRaises(Refused, CMap.parse, uses(b"A"), None)
 
 
 class Callables(unittest.TestCase):
@@ -180,7 +187,7 @@ class Folders(unittest.TestCase):
                 (top / path).parent.mkdir(parents=True, exist_ok=True)
                 (top / path).write_bytes(data)
             files = folder(top / "a", os.fsencode(top / "b").decode())
-            self.assertEqual([files(b"Small-H"), files(b"Small-V")], [SMALL, SMALL_V])
+            self.assertEqual([files(b"Small-H"), files("Small-V")], [SMALL, SMALL_V])
             for outside in [b"../Outside", b"Outside", b"deep/Small-H", b"", b".", b"..", b"a\0"]:
                 self.assertIsNone(files(outside))
             self.assertRaises(OSError, folder, top / "nowhere")

@@ -1,6 +1,8 @@
 """The maps of a font: the texts of its strings, and the strings of texts."""
 
+import copy
 import itertools
+import pickle
 import random
 import subprocess
 import tempfile
@@ -98,6 +100,15 @@ class Uses(unittest.TestCase):
         with identity_font() as font:
             self.assertEqual(repr(font), "<Extractor of <CMap b'Identity-H', layers: 1>>")
         self.assertEqual(repr(font), "<Extractor of <CMap, closed>>")
+
+    def test_wrong_values(self):
+        with identity_font() as font:
+            self.assertRaises(TypeError, font.text, b"\0A", missing=5)
+            self.assertRaises(TypeError, font.encode, b"A")
+            self.assertRaises(TypeError, copy.copy, font)
+            self.assertRaises(TypeError, pickle.dumps, font)
+        for encoding in ["Identity-H", b"", font]:
+            self.assertRaises(TypeError, Extractor, encoding)
 
     def test_use_after_close(self):
         font = identity_font()

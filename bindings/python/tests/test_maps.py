@@ -245,6 +245,12 @@ class EffectiveTexts(unittest.TestCase):
 
 
 class Values(unittest.TestCase):
+    def test_wrong_codespaces(self):
+        with CMap.parse(SMALL) as cmap:
+            self.assertEqual(cmap.texts([(0, 0xFF, 1)]), cmap.texts([Codespace(0, 0xFF, 1)]))
+            for wrong in [(0, 0xFF, 9), (-5, 0xFF, 1), (0, 0x100, 1)]:
+                self.assertRaises(ValueError, cmap.texts, [wrong])
+
     """Integers out of range are refused, and bytes are taken in any form."""
 
     def setUp(self):

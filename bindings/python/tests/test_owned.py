@@ -4,6 +4,7 @@ import contextlib
 import copy
 import gc
 import pickle
+import signal
 import threading
 import unittest
 import unittest.mock
@@ -80,6 +81,21 @@ class Closing(unittest.TestCase):
                 self.assertRaises(RuntimeError, cmap.close)
             self.assertEqual(cmap.cid(0x41, 1), 34)
 
+    @unittest.skipUnless(hasattr(signal, "setitimer"), "there are no timers")
+    def test_a_map_is_opened_by_a_handler_of_signals(self):
+        """Also where it interrupts the same call: it is no deadlock."""
+        opened = []
+        before = signal.signal(signal.SIGALRM, lambda *_: opened.append(CMap.open("Identity-H")))
+        try:
+            while len(opened) < 50:
+                signal.setitimer(signal.ITIMER_REAL, 1e-5 * (1 + len(opened) % 9))
+                for _ in range(20):
+                    CMap.open("Identity-H").close()
+        finally:
+            signal.setitimer(signal.ITIMER_REAL, 0)
+            signal.signal(signal.SIGALRM, before)
+        self.assertEqual({it.cid(5, 2) for it in opened}, {5})
+
     def test_a_callable_that_raises(self):
         def files(name):
             if name == b"B":
@@ -104,7 +120,7 @@ class Closing(unittest.TestCase):
         self.assertEqual(sum(were_full), 1)
 
     def test_faults_that_cannot_be_told(self):
-        with freed_handles() as were_full, unittest.mock.patch.object(_reading, "refusals", side_effect=MemoryError):
+        with freed_handles() as were_full, unittest.mock.patch.object(_reading, "refusal", side_effect=MemoryError):
             self.assertRaises(MemoryError, CMap.salvage, WRONG)
         self.assertEqual(sum(were_full), 1)
 

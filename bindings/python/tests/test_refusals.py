@@ -6,6 +6,7 @@ import re
 import unittest
 
 from hayro_cmap import Bundle, Cause, CMap, NotABundle, Reason, Refused, Segment
+from hayro_cmap._faults import Lines
 
 from .files import BINARY, BROKEN, BUNDLE, FIRST, SMALL, needs_resources, predefined, uses
 
@@ -33,6 +34,9 @@ class Refusals(unittest.TestCase):
         self.assertEqual((fault.line(data), fault.line(bytearray(data))), (7, 7))
         fault = self.refusal(CMap.parse, uses(b"Nowhere"))
         self.assertEqual((fault.line(data), fault.words), (None, fault.message))
+        offsets = range(len(data) + 1)
+        ends = [len(re.findall(rb"\r\n?|\n", data[:offset])) for offset in offsets]
+        self.assertEqual([Lines(data).line(offset) for offset in offsets], [1 + count for count in ends])
 
     def test_below(self):
         fault = self.refusal(CMap.parse, uses(b"A"), {"A": uses(b"B"), "B": BROKEN})
@@ -74,8 +78,22 @@ class Refusals(unittest.TestCase):
         faults = CMap.salvage(uses(b"A") + b" begincidchar <> endcidchar " + uses(b"C"), ask).faults
         self.assertEqual(asked, [b"A", b"C", b"B"])
         self.assertEqual([fault.cause for fault in faults if fault.offset is None], [Cause.NO_FILE] * 2)
-        many = CMap.salvage(b" begincidchar <> endcidchar" * 500).faults
+        data = b" begincidchar <> endcidchar" * 500
+        many = CMap.salvage(data).faults
         self.assertEqual([fault.offset for fault in many], [27 * count + 16 for count in range(500)])
+        for most in [0, 1, 499, 500, 501]:
+            for files in [{}, {}.get]:
+                faults = CMap.salvage(data, files, most_faults=most).faults
+                self.assertEqual([it.args for it in faults], [it.args for it in many[:most]])
+            of_base = CMap.salvage(b"", base=data, most_faults=most).faults
+            self.assertEqual([it.offset for it in of_base], [it.offset for it in many[:most]])
+        self.assertRaises(ValueError, CMap.salvage, data, most_faults=-1)
+
+    def test_a_file_past_the_faults_that_are_asked_for(self):
+        """It is found though its fault isn't given."""
+        data = b"begincidchar <> endcidchar " + uses(b"A")
+        with CMap.salvage(data, {b"A": SMALL}.get, most_faults=0).cmap as cmap:
+            self.assertEqual(cmap.cid(0x41, 1), 34)
 
     def test_a_budget_bounds_what_is_asked_for(self):
         asked = []
@@ -100,6 +118,11 @@ class Refusals(unittest.TestCase):
             fault = self.refusal(CMap.parse, uses(b"A"), files, budget=budget)
             self.assertEqual((fault.cause, fault.names, fault.offset), (Cause.PAST_BUDGET, names, None))
         CMap.parse(uses(b"A"), files, budget=20 + len(SMALL)).close()
+        for bundle in [None, Bundle.open(BUNDLE)]:
+            fault = self.refusal(CMap.open, "Identity-H", {}, bundle, budget=100)
+            self.assertEqual((fault.cause, fault.names, fault.opened), (Cause.PAST_BUDGET, (), b"Identity-H"))
+            self.assertTrue(str(fault).startswith("/Identity-H: "), str(fault))
+            self.assertEqual(self.refusal(CMap.open, "None", {}, bundle, budget=100).cause, Cause.NO_FILE)
 
     def test_binary(self):
         with Bundle.open(BUNDLE) as bundle:

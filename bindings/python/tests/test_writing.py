@@ -1,5 +1,6 @@
 """Maps and declarations that are written, read again."""
 
+import copy
 import os
 import subprocess
 import sys
@@ -89,6 +90,13 @@ class Declarations(unittest.TestCase):
         for code in ["A", None, 1.0]:
             self.assertRaises(TypeError, writer.cid, code, code, 1)
 
+    def test_texts_that_count_on(self):
+        for last, text in [(1, "\ud7ff"), (2, "\ud7fe"), (2, "\ufffe"), (0x41, "\U0001f3bf")]:
+            writer = CMapWriter()
+            writer.text(1, last, text)
+            with CMap.parse(writer.write()) as cmap:
+                self.assertEqual([ord(cmap.text(code)) - ord(text) for code in (1, last)], [0, last - 1])
+
     def test_wrong_values(self):
         writer = CMapWriter()
         for cid in [-1, 2**32]:
@@ -96,7 +104,10 @@ class Declarations(unittest.TestCase):
             self.assertRaises(ValueError, writer.notdef, 1, 1, cid)
         for text in ["", "\ud800"]:
             self.assertRaises(ValueError, writer.text, 1, 1, text)
+        for last, text in [(2, "\ud7ff"), (0x10, "\ufff1"), (0x42, "\U0001f3bf"), (3, "\ud7fe")]:
+            self.assertRaises(ValueError, writer.text, 1, last, text)
         self.assertRaises(TypeError, writer.text, 1, 1, b"x")
+        self.assertRaises(TypeError, copy.copy, writer)
         self.assertRaises(ValueError, CMapWriter, code_len=5)
         self.assertRaises(ValueError, CMapWriter, writing_mode=2)
         self.assertRaises(ValueError, CMapWriter, collection=("Adobe", "Japan1", 2**31))

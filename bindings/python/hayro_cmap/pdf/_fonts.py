@@ -7,6 +7,7 @@ from typing import Any, Dict, Iterable, Iterator, List, NamedTuple, Optional, Tu
 import pikepdf
 
 from .. import CMap, Code, Extractor, NotWritable, Refused, predefined
+from .._faults import Lines
 from ._glyphs import glyph_texts
 from ._objects import (
     MALFORMED,
@@ -24,6 +25,9 @@ from ._objects import (
 
 #: How many fonts a file may have.
 MOST_FONTS = 20_000
+
+#: How many faults of a CMap are kept: a small stream may have millions.
+MOST_FAULTS = 1_000
 
 #: How many files a chain of CMaps may have.
 MOST_IN_CHAIN = 16
@@ -287,12 +291,15 @@ def read_stream(stream: pikepdf.Stream, of: str, streams: Streams, over: Tuple =
     try:
         data = streams.decoded(stream)
         below = read_base(stream.get("/UseCMap"), of, streams, (*over, stream.objgen))
-        cmap, refusals = CMap.salvage(data, predefined, base=below.lenient)
+        cmap, refusals = CMap.salvage(data, predefined, base=below.lenient, most_faults=MOST_FAULTS + 1)
     except (TooLarge, Undecodable) as fault:
         return Read(None, None, [Fault(of, number, None, None, (), str(fault))])
     except NotWritable as fault:
         return Read(None, None, [Fault(of, number, None, None, (), f"what it is based on can't be used: {fault}")])
-    faults = [fault_of(it, of, number, data) for it in refusals] + below.faults
+    lines = Lines(data)
+    faults = [fault_of(it, of, number, lines) for it in refusals[:MOST_FAULTS]] + below.faults
+    if len(refusals) > MOST_FAULTS:
+        faults.append(Fault(of, number, None, None, (), f"more than {MOST_FAULTS:,} faults"))
     return Read(None if faults else cmap, cmap, faults)
 
 
@@ -305,13 +312,13 @@ def read_base(base: Any, of: str, streams: Streams, over: Tuple) -> Read:
     try:
         cmap = CMap.open(bytes_of(base))
     except Refused as fault:
-        return Read(None, None, [fault_of(fault, of, 0, b"")])
+        return Read(None, None, [fault_of(fault, of, 0, Lines(b""))])
     return Read(cmap, cmap, [])
 
 
-def fault_of(refused: Refused, of: str, number: int, data: bytes) -> Fault:
-    """Why a CMap is refused, whose bytes are these."""
-    line = None if refused.names else refused.line(data)
+def fault_of(refused: Refused, of: str, number: int, lines: Lines) -> Fault:
+    """Why a CMap is refused, whose lines are these."""
+    line = None if refused.names else lines.line(refused.offset)
     return Fault(of, number, refused.offset, line, refused.names, refused.words)
 
 

@@ -20,11 +20,13 @@ AT_HAND = 8
 def check_files(paths: Iterable[str], **options: Any) -> Iterator[str]:
     """The lines of JSON that `python3 -m hayro_cmap.pdf check --json` prints of these files.
 
-    A file that can't be read has one line, with `unread`. It is for tools that cut a list of paths into parts, as
+    One path may stand alone. A file that can't be read has one line, with `unread`. It is for tools that cut a list of
+    paths into parts, as
 
         context.parallelize(paths, 100).mapPartitions(hayro_cmap.pdf.check_files)
     """
-    for result in results_of(paths, "check", options):
+    given = [os.fspath(paths)] if isinstance(paths, (str, os.PathLike)) else paths
+    for result in results_of(given, "check", options):
         yield from json_lines(result)
 
 
