@@ -115,6 +115,9 @@ class Command(Folder):
         self.assertEqual(self.command("text", "good.pdf")[1], "Affi\n")
         [page] = map(json.loads, self.command("text", "--json", "good.pdf")[1].splitlines())
         self.assertEqual((page["page"], page["text"]), (1, "Affi"))
+        showing(b"\1\2", BAD.replace(b"<41>", b"<01>").replace(b"<43>", b"<02>")).saved(self.path("faults.pdf"))
+        shown = [self.command("text", *words, "faults.pdf")[1] for words in [[], ["--lenient"]]]
+        self.assertEqual(shown, ["\ufffd\ufffd\n", "AC\n"])
 
     def test_what_controls_a_terminal_is_escaped(self):
         showing(b"A", GOOD.replace(b"<0041>", b"<001B>")).saved(self.path("escape.pdf"))

@@ -68,7 +68,8 @@ def arguments(words) -> argparse.Namespace:
     check.add_argument("--html", metavar="REPORT", help="also write a page with a chart of the codes of each font")
     check.add_argument("-q", "--quiet", action="store_true", help="only files with something wrong, and no last line")
     commands.add_parser("fonts", parents=[many], help="the fonts of each file")
-    commands.add_parser("text", parents=[many], help="the texts that pages show")
+    text = commands.add_parser("text", parents=[many], help="the texts that pages show")
+    text.add_argument("--lenient", action="store_true", help="also those of ToUnicode CMaps with faults")
     mend = commands.add_parser("repair", parents=[every], help="writes ToUnicode CMaps with faults anew")
     mend.add_argument("input", metavar="IN")
     mend.add_argument("output", metavar="OUT")
@@ -85,7 +86,11 @@ def results(asked: argparse.Namespace) -> Iterator[Result]:
         options = {"output": asked.output, "signed": asked.signed}
         yield run(asked.input, "repair", options)
         return
-    options = {"deny": getattr(asked, "deny", []), "charts": getattr(asked, "html", None) is not None}
+    options = {
+        "deny": getattr(asked, "deny", []),
+        "charts": getattr(asked, "html", None) is not None,
+        "lenient": getattr(asked, "lenient", False),
+    }
     count, task = len(asked.files), (asked.command, options)
     if asked.dask:
         yield from progress(by_dask(asked.files, *task, asked.dask), count, "files")

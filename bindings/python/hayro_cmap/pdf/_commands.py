@@ -76,7 +76,7 @@ def run_check(path, pdf, options, progress) -> Result:
 
 
 def run_text(path, pdf, options, progress) -> Result:
-    document, lines, objects = Document(pdf, places=True), [], []
+    document, lines, objects = Document(pdf, places=True, lenient=options.get("lenient", False)), [], []
     for number, page in enumerate(progress(document.pages), 1):
         of_page = list(document.lines(page))
         lines += of_page

@@ -78,11 +78,13 @@ class Step(NamedTuple):
 class Content:
     """What pages show, with the fonts that they name, each read once.
 
-    `places` tells where lines may begin, which `lines` needs, and takes more time.
+    `places` tells where lines may begin, which `lines` needs, and takes more time. A ToUnicode CMap with faults gives no
+    text, but with `lenient` what it says apart from them.
     """
 
-    def __init__(self, fonts: Optional[Fonts] = None, places: bool = False):
+    def __init__(self, fonts: Optional[Fonts] = None, places: bool = False, lenient: bool = False):
         self._found = Fonts() if fonts is None else fonts
+        self._is_lenient = lenient
         self._streams: Streams = self._found.streams
         #: What of the contents couldn't be read.
         self.faults: List[str] = []
@@ -101,7 +103,7 @@ class Content:
             if font is None:
                 yield from (Character(None, Code(byte, 1, None, False, False), None, Source.NONE) for byte in string)
             else:
-                yield from font.characters(string)
+                yield from font.characters(string, self._is_lenient)
 
     def lines(self, page: pikepdf.Page) -> Iterator[str]:
         """The texts that a page shows, cut where text is placed on a new line; U+FFFD for a code without a text."""
@@ -112,7 +114,10 @@ class Content:
                 line = ""
             elif separator == " " and line and not line.endswith(" "):
                 line += " "
-            line += "".join(it.text or "\ufffd" for it in font.characters(string)) if font else "\ufffd" * len(string)
+            if font is None:
+                line += "\ufffd" * len(string)
+            else:
+                line += "".join(it.text or "\ufffd" for it in font.characters(string, self._is_lenient))
         if line:
             yield line
 
@@ -300,8 +305,8 @@ def shown_appearances_of(page: pikepdf.Object) -> Iterator[pikepdf.Stream]:
 class Document(Content):
     """The fonts of a PDF file, and what its pages show."""
 
-    def __init__(self, pdf: pikepdf.Pdf, places: bool = False):
-        super().__init__(every_font(pdf), places)
+    def __init__(self, pdf: pikepdf.Pdf, places: bool = False, lenient: bool = False):
+        super().__init__(every_font(pdf), places, lenient)
         #: The pages.
         self.pages: List[pikepdf.Page] = pages_of(pdf)
 
@@ -311,6 +316,9 @@ class Document(Content):
         return list(self._found.found.values())
 
 
-def characters(page: pikepdf.Page) -> Iterator[Character]:
-    """The codes that a page shows, with their texts. For several pages of a file, `Document` reads its fonts once."""
-    return Content().characters(page)
+def characters(page: pikepdf.Page, lenient: bool = False) -> Iterator[Character]:
+    """The codes that a page shows, with their texts; with `lenient` also those of ToUnicode CMaps with faults.
+
+    For several pages of a file, `Document` reads its fonts once.
+    """
+    return Content(lenient=lenient).characters(page)
