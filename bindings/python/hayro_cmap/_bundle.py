@@ -28,6 +28,9 @@ class Bundle(Owned):
             raise NotABundle("the bytes are no bundle")
         return cls(handle)
 
+    def __repr__(self) -> str:
+        return "<Bundle, closed>" if self._handle is None else "<Bundle>"
+
     def file(self, name: Name) -> Optional[bytes]:
         """The bytes of the file of this name, or None."""
         name = name_of(name)

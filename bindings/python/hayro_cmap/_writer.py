@@ -41,9 +41,13 @@ class CMapWriter:
         writing_mode: Optional[WritingMode] = None,
         code_len: int = 2,
     ):
+        self._name = name
         self._facts = facts_of(name, collection, writing_mode)
         self._code_len = code_length(code_len)
         self._declarations: List[Declaration] = []
+
+    def __repr__(self) -> str:
+        return f"<CMapWriter {self._name!r}, declarations: {len(self._declarations)}>"
 
     def codespace(self, first: CodeOf, last: CodeOf) -> None:
         """A codespace range: codes have this length, and each of their bytes lies between those of the two."""

@@ -64,6 +64,7 @@ class Counts(unittest.TestCase):
         file = showing(b"\1AC", BAD.replace(b"<41>", b"<01>").replace(b"<43>", b"<02>"))
         report = pdf.check(file.pdf)
         [font] = report.fonts
+        self.assertEqual((repr(font), repr(font.font)), (f"<FontReport of {font.font}>", f"<{font.font}>"))
         self.assertEqual((report.refused, font.font.to_unicode.strict), (1, None))
         self.assertEqual(font.with_text_past_faults, font.with_text + 1)
         self.assertIn("the text of a code was expected", list(font.lines())[1])

@@ -176,6 +176,8 @@ class Bundles(unittest.TestCase):
         with Bundle.open(bundle_of(BROKEN)) as bundle:
             with self.assertRaises(Refused) as found:
                 CMap.open(FIRST, bundle=bundle)
+            self.assertEqual(repr(bundle), "<Bundle>")
+        self.assertEqual(repr(bundle), "<Bundle, closed>")
         self.assertEqual(str(found.exception).split(":")[0], "/83pv-RKSJ-H")
 
 

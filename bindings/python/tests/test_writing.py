@@ -108,6 +108,7 @@ class Declarations(unittest.TestCase):
             self.assertRaises(ValueError, writer.text, 1, last, text)
         self.assertRaises(TypeError, writer.text, 1, 1, b"x")
         self.assertRaises(TypeError, copy.copy, writer)
+        self.assertEqual(repr(writer), "<CMapWriter None, declarations: 0>")
         self.assertRaises(ValueError, CMapWriter, code_len=5)
         self.assertRaises(ValueError, CMapWriter, writing_mode=2)
         self.assertRaises(ValueError, CMapWriter, collection=("Adobe", "Japan1", 2**31))

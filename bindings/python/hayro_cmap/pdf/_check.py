@@ -53,6 +53,9 @@ class FontReport:
         self.with_text = self.shown - total(self.no_text)
         self.with_text_past_faults = sum(it.times for it in lenient if it.character.text is not None)
 
+    def __repr__(self) -> str:
+        return f"<FontReport of {self.font}>"
+
     @property
     def sources(self) -> Dict[str, int]:
         """How many shown codes have a text of each source."""

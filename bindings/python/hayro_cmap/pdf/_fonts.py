@@ -277,6 +277,9 @@ class Font:
             "use_cmap_object": object_number(base),
         }
 
+    def __repr__(self) -> str:
+        return f"<{self}>"
+
     def __str__(self) -> str:
         words = [self.subtype or "no Subtype", self.encoding_name or self.encoding_kind]
         words += [] if self.collection is None else [self.collection.decode("latin-1")]
