@@ -964,7 +964,11 @@ inline std::optional<Result> Map::open(Bytes name, Bundle &bundle, const Files &
     if (detail::with_memory(status) == HAYRO_CMAP_OK) return map;
     if (status == HAYRO_CMAP_ABSENT) return std::nullopt;
     if (auto data = files.find(name)) return parse(*data, bundle, files, budget);
-    return parse(bundle.file(name).value_or(""), bundle, files, budget);
+    if (auto data = bundle.file(name)) return parse(*data, bundle, files, budget);
+    // Identity-H and Identity-V have no file here. Only the budget refuses them.
+    hayro_cmap_fault fault{};
+    fault.cause = HAYRO_CMAP_PAST_BUDGET;
+    return Refusal(fault, "");
 }
 
 inline std::optional<Result> Map::open(Bytes name, const Files &files, std::uint64_t budget) {

@@ -111,6 +111,18 @@ static void refusals_say_why() {
     CHECK(opened && !*opened && opened->refusal().offset() == 12u);
 }
 
+static void an_identity_passes_a_budget() {
+    for (auto name : {"Identity-H", "Identity-V"}) {
+        CHECK(hayro::Map::open(name, {}, 177).value()->name() == name);
+        auto over = hayro::Map::open(name, {}, 176);
+        CHECK(over && !*over && over->refusal().cause() == hayro::Cause::past_budget);
+        CHECK(over->refusal().message() == "the files have more bytes than the budget");
+        CHECK(over->refusal().names().empty() && !over->refusal().offset());
+        CHECK(over->refusal().reason() == hayro::Reason::none && over->refusal().segment() == hayro::Segment::none);
+    }
+    CHECK(!hayro::Map::open("Else", {}, 0));
+}
+
 static void files_are_read_past_their_faults() {
     auto base = "begincidchar\n<> 8\n<44> 9\nendcidchar /C usecmap"s;
     auto found = hayro::Map::salvage("/AB usecmap begincidchar <41> 5 <42> /X <43> 7 endcidchar", {{"AB", base}});
@@ -520,6 +532,7 @@ int main() {
     files_use_files();
     long_texts_are_whole();
     refusals_say_why();
+    an_identity_passes_a_budget();
     files_are_read_past_their_faults();
     strings_are_cut();
     strings_have_texts();

@@ -62,7 +62,9 @@ impl ParseOptions<'_> {
         match (self.tables().ask(open), data) {
             (Opened::Map(map), _) => Ok(Some(CMap::of(map))),
             (Opened::Refused, Some(data)) => self.read(&data, &files).map(Some),
-            _ => Ok(None),
+            // Identity-H and Identity-V have no file here. Only the budget refuses them.
+            (Opened::Refused, None) => Err(Refusal::over_budget()),
+            (Opened::Absent, _) => Ok(None),
         }
     }
 

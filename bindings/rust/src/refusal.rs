@@ -46,6 +46,9 @@ const SEGMENTS: [Segment; 6] = [
 /// The number of `Cause::NoFile`.
 const NO_FILE: u32 = 2;
 
+/// The number of `Cause::OverBudget`.
+const OVER_BUDGET: u32 = 4;
+
 impl Refusal {
     pub(crate) fn of(fault: Fault) -> Refusal {
         Refusal(fault)
@@ -56,12 +59,17 @@ impl Refusal {
         Refusal(Fault { cause: NO_FILE, reason: 0, segment: 0, offset: 0, names })
     }
 
+    /// The file itself has more bytes than the budget.
+    pub(crate) fn over_budget() -> Refusal {
+        Refusal(Fault { cause: OVER_BUDGET, reason: 0, segment: 0, offset: 0, names: Vec::new() })
+    }
+
     /// What is wrong.
     pub fn cause(&self) -> Cause {
         match self.0.cause {
             NO_FILE => Cause::NoFile,
             3 => Cause::ChainLength,
-            4 => Cause::OverBudget,
+            OVER_BUDGET => Cause::OverBudget,
             _ => Cause::Malformed,
         }
     }

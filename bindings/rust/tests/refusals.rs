@@ -136,6 +136,19 @@ fn files_are_opened_by_name() {
 }
 
 #[test]
+fn an_identity_passes_a_budget() {
+    for name in [CMapName::IdentityH, CMapName::IdentityV] {
+        let open = |budget| ParseOptions::new().budget(budget).open(name, |_| None);
+        assert_eq!(open(177).unwrap().unwrap().metadata().name.as_deref(), Some(name.to_bytes()));
+        let refusal = open(176).unwrap_err();
+        assert_eq!((refusal.cause(), refusal.offset()), (Cause::OverBudget, None));
+        assert!(refusal.names().is_empty());
+        assert_eq!(refusal.to_string(), "the files have more bytes than the budget");
+    }
+    assert!(ParseOptions::new().budget(0).open(CMapName::H, |_| None).unwrap().is_none());
+}
+
+#[test]
 fn a_named_file_uses_an_identity_without_a_file() {
     let file = b"/Identity-V usecmap";
     let is_own = |name: CMapName| matches!(name, CMapName::Custom(b"Own"));
