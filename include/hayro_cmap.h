@@ -284,9 +284,11 @@ static inline uint8_t *hayro_cmap_room(void *room) {
  * A file that it uses is the first of `files` with the name, else that of the bundle; Identity-H and
  * Identity-V need none. It is refused where it or a file that it uses is outside the grammar, where a
  * use has no file, and where the sixteenth file of a chain uses another one, which would be the
- * seventeenth. A length of 0 means that there is no bundle. The files that are opened may have no more
- * bytes than `budget` together; the bytes of the bundle don't count, those of Identity-H and
- * Identity-V do: 177 each.
+ * seventeenth. A length of 0 means that there is no bundle.
+ *
+ * The files that are opened may have no more bytes than `budget` together: `data`, and each file that is
+ * used, as often as it is used. A file of the bundle that is used counts like any other; what else is in
+ * the bundle doesn't count. Where no file has their names, Identity-H and Identity-V count 177 bytes each.
  *
  * A map that the handle has is freed. With HAYRO_CMAP_OK the handle has the map, else it is empty.
  * The status is one of the first five. */

@@ -417,7 +417,9 @@ public:
 
     // Reads a CMap file over the files that it uses. A name is that of the first of `files` with it,
     // else of the bundle; Identity-H and Identity-V need no file. The files that are opened may have no
-    // more bytes than the budget together; a file counts as often as it is used.
+    // more bytes than the budget together; a file counts as often as it is used, also one of the bundle.
+    // What else is in the bundle doesn't count. Where no file has their names, Identity-H and Identity-V
+    // count 177 bytes each.
     static Result parse(Bytes data, const Files &files = {}, std::uint64_t budget = no_budget);
     static Result parse(Bytes data, Bundle &bundle, const Files &files = {},
                         std::uint64_t budget = no_budget);

@@ -156,7 +156,7 @@ static void a_bundle_has_its_files(void) {
 }
 
 // The status of a file that is read over the bytes of a bundle.
-static hayro_cmap_status status_of(const uint8_t *data, size_t len, const char *bundle, size_t bundle_len,
+static hayro_cmap_status status_of(const uint8_t *data, size_t len, const void *bundle, size_t bundle_len,
                                    uint64_t budget) {
     hayro_cmap map = HAYRO_CMAP_EMPTY;
     hayro_cmap_status status = hayro_cmap_parse(&map, data, len, hayro_cmap_bytes(bundle), bundle_len,
@@ -171,6 +171,29 @@ static void statuses_say_why_there_is_no_map(void) {
     CHECK(status_of(TEXT(FILE_TEXT), NULL, 0, 9) == HAYRO_CMAP_OVER_BUDGET);
     CHECK(status_of(TEXT(FILE_TEXT), NULL, 0, sizeof FILE_TEXT - 1) == HAYRO_CMAP_OK);
     CHECK(status_of(TEXT(FILE_TEXT), "no bundle", 9, HAYRO_CMAP_NO_BUDGET) == HAYRO_CMAP_NOT_A_BUNDLE);
+}
+
+static void a_file_of_a_bundle_counts_when_it_is_opened(void) {
+    uint64_t binary = sizeof BUNDLE - 23, both = sizeof OVER_IT - 1 + binary;
+    CHECK(status_of(TEXT(OVER_IT), BYTES(BUNDLE), both) == HAYRO_CMAP_OK);
+    CHECK(status_of(TEXT(OVER_IT), BYTES(BUNDLE), both - 1) == HAYRO_CMAP_OVER_BUDGET);
+    CHECK(status_of(BUNDLE + 23, sizeof BUNDLE - 23, BYTES(BUNDLE), binary) == HAYRO_CMAP_OK);
+    hayro_cmap_bundle bundle = opened_bundle();
+    hayro_cmap map = HAYRO_CMAP_EMPTY;
+    CHECK(hayro_cmap_open(&map, TEXT("83pv-RKSJ-H"), &bundle, hayro_cmap_files(NULL), 0, binary) == HAYRO_CMAP_OK);
+    CHECK(hayro_cmap_open(&map, TEXT("83pv-RKSJ-H"), &bundle, hayro_cmap_files(NULL), 0, binary - 1) ==
+          HAYRO_CMAP_OVER_BUDGET);
+    hayro_cmap_bundle_free(&bundle);
+    hayro_cmap_free(&map);
+}
+
+static void an_identity_counts_177_bytes(void) {
+    hayro_cmap_bundle none = HAYRO_CMAP_EMPTY;
+    hayro_cmap map = HAYRO_CMAP_EMPTY;
+    CHECK(hayro_cmap_open(&map, TEXT("Identity-V"), &none, hayro_cmap_files(NULL), 0, 177) == HAYRO_CMAP_OK);
+    CHECK(hayro_cmap_open(&map, TEXT("Identity-V"), &none, hayro_cmap_files(NULL), 0, 176) == HAYRO_CMAP_OVER_BUDGET);
+    CHECK(!map.full && status_of(TEXT("/Identity-H usecmap"), NULL, 0, 19 + 177) == HAYRO_CMAP_OK);
+    CHECK(status_of(TEXT("/Identity-H usecmap"), NULL, 0, 19 + 176) == HAYRO_CMAP_OVER_BUDGET);
 }
 
 static void an_identity_answers_the_code(void) {
@@ -792,6 +815,8 @@ int main(void) {
     bytes_that_are_no_bundle_leave_none();
     a_bundle_has_its_files();
     statuses_say_why_there_is_no_map();
+    a_file_of_a_bundle_counts_when_it_is_opened();
+    an_identity_counts_177_bytes();
     an_identity_answers_the_code();
     a_string_is_cut_up_to_the_room();
     a_string_may_end_before_its_last_code();

@@ -351,6 +351,10 @@ static void bundles_have_files() {
     CHECK(map && map->cid(0x20, 2) == 5u && map->cid(0x21, 2) == 6u);
     auto used = hayro::Map::parse("/83pv-RKSJ-H usecmap", *bundle);
     CHECK(used && used->cid(0x20, 2) == 5u);
+    // A file of the bundle counts when it is opened.
+    CHECK(hayro::Map::open("83pv-RKSJ-H", *bundle, {}, sizeof binary).value());
+    auto large = hayro::Map::open("83pv-RKSJ-H", *bundle, {}, sizeof binary - 1);
+    CHECK(large && !*large && large->refusal().cause() == hayro::Cause::past_budget);
     auto other = bundle->share();
     bundle->share();
     bundle.reset();

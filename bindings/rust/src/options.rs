@@ -35,7 +35,8 @@ impl<'b> ParseOptions<'b> {
     }
 
     /// Within a budget: the files that are opened may have no more bytes together. A file counts as
-    /// often as it is used. The bytes of the bundle don't count.
+    /// often as it is used, also one of the bundle; what else is in the bundle doesn't count. Where
+    /// they need no file and have none, Identity-H and Identity-V count 177 bytes each.
     pub fn budget(self, bytes: u64) -> ParseOptions<'b> {
         ParseOptions { budget: Some(bytes), ..self }
     }

@@ -207,6 +207,10 @@ fn a_bundle_reads_binary_files_and_has_files() {
         assert_eq!(map.lookup_cid_code(0x21, 2), Some(6));
         assert_eq!(map.lookup_cid_code(0x21, 1), None);
     }
+    // A file of the bundle counts when it is opened.
+    let open = |budget| over.budget(budget).open(CMapName::N83pvRksjH, |_| None);
+    assert!(open(BINARY.len() as u64).unwrap().is_some());
+    assert_eq!(open(BINARY.len() as u64 - 1).unwrap_err().cause(), Cause::OverBudget);
     // A file of the same name goes before that of the bundle.
     let map = over.parse(b"/83pv-RKSJ-H usecmap", |_| Some(b"")).unwrap();
     assert_eq!(map.lookup_cid_code(0x20, 2), None);
