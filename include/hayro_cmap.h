@@ -250,9 +250,17 @@ typedef struct hayro_cmap_fault {
     size_t name_lens[HAYRO_CMAP_MOST_NAMES]; /* how many bytes each of them has; the others are 0 */
 } hayro_cmap_fault;
 
+/* A pointer as one of this type, so that compilers for C++ don't warn of a cast of C. */
+#ifdef __cplusplus
+#define HAYRO_CMAP_AS(type, pointer) static_cast<type>(pointer)
+#else
+#define HAYRO_CMAP_AS(type, pointer) ((type)(pointer))
+#endif
+
 /* Pointers that aren't null: the argument, or where that is null, one to use with the length 0. */
 static inline const uint8_t *hayro_cmap_bytes(const void *bytes) {
-    return bytes ? (const uint8_t *)bytes : (const uint8_t *)"";
+    static const uint8_t none = 0;
+    return bytes ? HAYRO_CMAP_AS(const uint8_t *, bytes) : &none;
 }
 
 static inline const hayro_cmap_file *hayro_cmap_files(const hayro_cmap_file *files) {
@@ -273,8 +281,10 @@ static inline const hayro_cmap_codes *hayro_cmap_chosen(const hayro_cmap_codes *
 
 static inline uint8_t *hayro_cmap_room(void *room) {
     static uint8_t none;
-    return room ? (uint8_t *)room : &none;
+    return room ? HAYRO_CMAP_AS(uint8_t *, room) : &none;
 }
+
+#undef HAYRO_CMAP_AS
 
 /* No budget. */
 #define HAYRO_CMAP_NO_BUDGET UINT64_MAX

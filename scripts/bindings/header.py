@@ -228,6 +228,15 @@ def test_headers_compile_alone(checks, setting):
         checks.ended(f"{header} as {suffix}", run(*COMPILERS[suffix], *WARNINGS, *flags, path), "")
 
 
+@needs("clang++")
+def test_headers_compile_with_clang(checks, setting):
+    """Also where casts of C are refused in C++."""
+    path = setting.work / "clang.cc"
+    path.write_text("#include <hayro_cmap.h>\n#include <hayro_cmap.hpp>\nint main() { return 0; }\n")
+    flags = ["-std=c++17", "-Wconversion", "-Wold-style-cast", f"-I{setting.library.include}", "-fsyntax-only"]
+    checks.ended("the headers as C++ with clang++", run("clang++", *WARNINGS, *flags, path), "")
+
+
 @needs("nm")
 def test_libraries_show_the_calls_alone(checks, setting):
     """And they need little of the C library."""
