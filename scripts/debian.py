@@ -28,7 +28,7 @@ PLACES = [
     (r"usr/share/(man|bash-completion|fish)/.*", BIN, r"\g<0>"),
     (rf"usr/lib/{TRIPLET}/libhayro_cmap\.so\..*", LIBRARY, r"\g<0>"),
     (rf"usr/(include|lib/{TRIPLET})/.*", DEV, r"\g<0>"),
-    (rf"{DOCS}/(C\.md|examples/.*)", DEV, rf"usr/share/doc/{DEV}/\1"),
+    (rf"{DOCS}/(\w+\.md|examples/.*)", DEV, rf"usr/share/doc/{DEV}/\1"),
 ]
 
 

@@ -1,7 +1,10 @@
-"""The header against the crates of the C library: calls, structs, enums, version; and against the libraries."""
+"""The header against the crates of the C library: calls, structs, enums, version; against the libraries; and what is
+installed."""
 
 import ctypes
 import re
+
+from links import dead_links_under
 
 from .checks import needs, run
 from .library import C_TESTS, COMPILERS, TOP, WARNINGS
@@ -216,6 +219,13 @@ def test_installed_headers_are_those_of_the_project(checks, setting):
     for name in ["hayro_cmap.h", "hayro_cmap.hpp"]:
         is_same = (setting.library.include / name).read_bytes() == (TOP / "include" / name).read_bytes()
         checks.holds(f"the header {name} that is installed", is_same, "it isn't that of the project")
+
+
+def test_installed_pages_link_what_is_installed(checks, setting):
+    """Files, and headings of pages."""
+    folder = setting.library.prefix / "share" / "doc"
+    checks.holds("a page is installed", any(folder.rglob("*.md")), f"there is none under {folder}")
+    checks.same("dead links", dead_links_under(folder), [])
 
 
 @needs("gcc", "g++")
