@@ -44,7 +44,7 @@ def strict_file(kind: Type, base, files: Optional[Files], bundle: Optional[Bundl
 def salvaged(
     kind: Type, data, base, files: Optional[Files] = NO_FILES, bundle: Optional[Bundle] = None, budget=None, most=None
 ):
-    """The map of a file over a base, read past the faults of both, and these, at most so many of each."""
+    """The map of a file over a base, read past the faults of both, and these, at most `most` of each."""
     file, of_base = salvaged_file(kind, base, files, bundle, budget, most)
     given = Base(file)
     cmap, faults = kind.salvage(data, given, bundle, budget, most_faults=most)

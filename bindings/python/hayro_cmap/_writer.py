@@ -98,8 +98,8 @@ class CMapWriter:
 
 
 def counts_on(text: str, further: int) -> bool:
-    """Whether the last unit of a text, in UTF-16, may be greater by up to so much: it stays a low surrogate, or on its
-    side of all surrogates."""
+    """Whether the last unit of a text, in UTF-16, may be greater by up to `further`: it stays a low surrogate, or on
+    its side of all surrogates."""
     unit = int.from_bytes(text[-1].encode("utf-16-be")[-2:], "big")
     most = next(last for first, last in [*SINGLE_UNITS, *LOW_SURROGATES] if first <= unit <= last)
     return unit + further <= most
