@@ -300,9 +300,10 @@ def read_stream(stream: pikepdf.Stream, of: str, streams: Streams, over: Tuple =
     except NotWritable as fault:
         return Read(None, None, [Fault(of, number, None, None, (), f"what it is based on can't be used: {fault}")])
     lines = Lines(data)
-    faults = [fault_of(it, of, number, lines) for it in refusals[:MOST_FAULTS]] + below.faults
+    faults = [fault_of(it, of, number, lines) for it in refusals[:MOST_FAULTS]]
     if len(refusals) > MOST_FAULTS:
         faults.append(Fault(of, number, None, None, (), f"more than {MOST_FAULTS:,} faults"))
+    faults += below.faults
     return Read(None if faults else cmap, cmap, faults)
 
 
