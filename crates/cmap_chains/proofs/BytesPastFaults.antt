@@ -13,7 +13,6 @@ use Rattle.cmap_text.proofs.TextFaults as text
 use Rattle.cmap_chains.specs.Layers.{Means}
 use Rattle.cmap_chains.specs.Refusals.{IsDecidedAsText, IsFirstFault}
 use Rattle.cmap_chains.specs.Salvage.{IsRefusedFor, SalvagesBytes}
-use Rattle.cmap_chains.specs.declared.refusal.Cause.{Cause}
 use Rattle.cmap_chains.specs.declared.refusal.Cause.TheVariants.{Malformed}
 
 -- where the text of a fault is refused

@@ -6,7 +6,7 @@ ghost use Rattle.std.specs.List.{list_any};
 ghost use Rattle.std.specs.Char as Char;
 ghost use Rattle.cmap_escape.specs.Escapes.{bytes_shown};
 ghost use Rattle.cmap_escape.specs.Shown.{AddsShown};
-ghost use Rattle.cmap_files.specs.PathTexts.{AreBytes, AreSpelled, IsTextOf, TakesFirst, marked, marked_byte};
+ghost use Rattle.cmap_files.specs.PathTexts.{AreBytes, AreSpelled, IsTextOf, TakesFirst, marked, marked_byte, path_character_shown, path_shown};
 
 use cmap_escape::digits::byte_digits;
 use cmap_escape::escape::push_text;
@@ -103,8 +103,11 @@ fn digit_value(digit: u8) -> u8
 
 /// Adds a path, escaped: a byte with a mark as `\xHH`.
 pub fn push_path(out: &mut String, path: &str) -> Result<(), AllocError>
+    ensures shown { OnOk result (string_bytes out.new
+        ≡ string_bytes out.old ++ path_shown path.now) }
+
     // Also where memory runs out.
-    ensures { AddsShown (string_bytes out.old) (string_bytes out.new) }
+    ensures harmless { AddsShown (string_bytes out.old) (string_bytes out.new) }
 {
     for character in path.chars() {
         push_character(out, character)?;
@@ -113,7 +116,9 @@ pub fn push_path(out: &mut String, path: &str) -> Result<(), AllocError>
 }
 
 fn push_character(out: &mut String, character: char) -> Result<(), AllocError>
-    ensures { AddsShown (string_bytes out.old) (string_bytes out.new) }
+    ensures shown { OnOk result (string_bytes out.new
+        ≡ string_bytes out.old ++ path_character_shown character) }
+    ensures harmless { AddsShown (string_bytes out.old) (string_bytes out.new) }
 {
     if character == MARK {
         out.push_str("\\x")

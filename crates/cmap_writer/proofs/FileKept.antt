@@ -7,7 +7,7 @@ use Rattle.std.proofs.lemmas.List.Concat.{flat_map-append}
 use Rattle.std.proofs.lemmas.List.Elements.{filter_map-append}
 use Rattle.std.proofs.lemmas.Option.{none-some, same_Some}
 use Rattle.cmap_values.specs.Files.{BfEntry, ByLength, CidEntry, Declaration, File, FileMetadata, Lists, lists_of, of_length}
-use Rattle.cmap_binary.specs.BinaryFiles.{BodyOf, Content, IsBinaryFile, SegmentAt, collection_set, declared_in, declares, file_of, magic, mode_set, name_set, name_used}
+use Rattle.cmap_binary.specs.BinaryFiles.{Content, collection_set, declared_in, declares, file_of, magic, mode_set, name_set, name_used}
 use Rattle.cmap_binary.specs.BinaryFiles as files
 use Rattle.cmap_unicode.specs.Cids.{without_texts}
 use Rattle.cmap_layers.specs.Layers.{Layer}

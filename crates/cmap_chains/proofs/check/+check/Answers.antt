@@ -2,7 +2,7 @@ use Rattle.std.proofs.Common.{refl, sym, ◌∙◌, ◌-◌, arith, subst, []}
 use Rattle.cmap_packed.specs.BundleSeen.{tables_given}
 use Rattle.cmap_values.specs.FilesSeen.{file_seen}
 use Rattle.cmap_values.specs.NamesSeen.{names_seen}
-use Rattle.cmap_values.proofs.Outcomes.{passed_on, refused_as}
+use Rattle.cmap_values.proofs.Outcomes.{passed_on}
 use Rattle.cmap_chains.specs.BytesSpent.{of_use}
 use Rattle.cmap_chains.specs.KnownFiles.{IsKnown, ResolvesFrom}
 use Rattle.cmap_chains.specs.Layers.{Means}

@@ -1,4 +1,4 @@
-use Rattle.std.proofs.Common.{◌≡◌, ◌≤◌, ℕ, List, length, refl, rules, sym, ap, ◌∙◌, ◌-◌, [], ◌∷◌, ◌++◌, inl, inr, false, true, Ok, arith, subst}
+use Rattle.std.proofs.Common.{◌≡◌, ◌≤◌, ℕ, List, length, refl, rules, sym, ap, ◌∙◌, ◌-◌, [], ◌∷◌, inl, inr, false, true, Ok, arith, subst}
 use Rattle.std.specs.Prelude.{◌⊎◌, IfOk}
 use Rattle.std.specs.Borrow.{Bor}
 use Rattle.cmap_packed.specs.BundleSeen.{tables_given}
@@ -6,7 +6,7 @@ use Rattle.cmap_values.specs.FilesSeen.{file_seen}
 use Rattle.cmap_values.specs.NamesSeen.{names_seen}
 use Rattle.cmap_layers.specs.Layers.{layer_of}
 use Rattle.cmap_layers.specs.LayersSeen.{layers_seen}
-use Rattle.cmap_chains.specs.Salvage.{Salvages, SalvagesNamed}
+use Rattle.cmap_chains.specs.Salvage.{Salvages}
 use Rattle.cmap_chains.specs.SalvageSeen.{WalksOpen, WalksUse, WasRead, listed, opening_seen}
 use Rattle.cmap_chains.specs.declared.refusal.Cause.TheVariants.{ChainLength, NoFile}
 use Rattle.cmap_chains.specs.declared.salvage.Chain.{Chain}

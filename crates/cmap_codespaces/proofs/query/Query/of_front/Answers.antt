@@ -1,7 +1,6 @@
 use Rattle.std.proofs.Common.{refl, arith}
 use Rattle.cmap_codespaces.proofs.SpacesFound.{front_rows, query-rows}
 use Rattle.cmap_codespaces.proofs.query.Query.of_front.Goals as goal
-use Rattle.cmap_codespaces.proofs.query.Query.of_front.Goals.{After-row_at-4}
 
 pub returns-clause-is : goal.returns-clause-is
 returns-clause-is c = rw (c.row_at.ensures, c.row_at-2.ensures, c.row_at-3.ensures, c.row_at-4.ensures, c.row_of_length-length.ensures) refl
