@@ -344,8 +344,8 @@ hayro_cmap_status hayro_cmap_salvage(hayro_cmap *map, const uint8_t *data, size_
                                      uint8_t *room, size_t room_len, size_t *needed);
 
 /* What is wrong, in English, as "byte 27: a CID was expected", written as a text is. It is
- * HAYRO_CMAP_ABSENT where the numbers of `fault` are none that hayro_cmap_explain or
- * hayro_cmap_salvage gives. */
+ * HAYRO_CMAP_ABSENT where no cause has the numbers of `fault`: those of hayro_cmap_fault, with the
+ * fields that the cause doesn't have at 0. The names don't count. */
 hayro_cmap_status hayro_cmap_message(const hayro_cmap_fault *fault, uint8_t *room, size_t room_len,
                                      size_t *needed);
 
@@ -550,6 +550,8 @@ hayro_cmap_status hayro_cmap_make(const hayro_cmap_facts *facts,
 
 /* Writes the map as one CMap file, which uses no other: its text, which answers each code as the map does.
  * Where there are `codes`, it does so for these alone, and has nothing for others; none stand for all.
+ * The text has a line for each row of 256 codes: CIDs for all codes of four bytes are half a gigabyte,
+ * whatever the budget of the map was.
  *
  * The text is written as that of hayro_cmap_make is. With HAYRO_CMAP_REFUSED no such file answers so, as
  * where in the layers the character of a text stands for a code above a CID for it; or no text says what
@@ -575,7 +577,8 @@ void hayro_cmap_encoder_free(hayro_cmap_encoder *encoder);
 
 /* The string of the font that shows a text, which is UTF-8: hayro_cmap_extract reads the string as codes in
  * codespace ranges, whose texts, one after another, are this text. Of several strings it is the shortest, and
- * of several as short the one whose bytes are least.
+ * of several as short the one whose bytes are least. Where a font has texts of many characters that begin
+ * alike, each character of the text takes time by the square of the longest one.
  *
  * With HAYRO_CMAP_OK the string stands at the head of `room`, and `needed` is how many bytes it has. With
  * HAYRO_CMAP_NO_ROOM `needed` is how many it has, and the room is as it was. With HAYRO_CMAP_REFUSED no string

@@ -643,6 +643,8 @@ public:
         using pointer = void;
         using reference = Layer;
 
+        // Of no map, as ranges of C++20 need one.
+        iterator() noexcept = default;
         iterator(Map &map, std::size_t index) noexcept : map_(&map), index_(index) {}
         Layer operator*() const noexcept { return {*map_, index_}; }
         iterator &operator++() noexcept {
@@ -654,8 +656,8 @@ public:
         bool operator!=(const iterator &other) const noexcept { return index_ != other.index_; }
 
     private:
-        Map *map_;
-        std::size_t index_;
+        Map *map_ = nullptr;
+        std::size_t index_ = 0;
     };
 
     iterator begin() const noexcept { return {*map_, 0}; }

@@ -247,6 +247,29 @@ def test_headers_compile_with_clang(checks, setting):
     checks.ended("the headers as C++ with clang++", run("clang++", *WARNINGS, *flags, path), "")
 
 
+LAYERS_AS_A_RANGE = """\
+#include <hayro_cmap.hpp>
+#include <ranges>
+
+static_assert(std::ranges::input_range<hayro::Layers>);
+
+auto names(const hayro::Layers &layers) {
+    return layers | std::views::transform([](const hayro::Layer &layer) { return layer.metadata().name; });
+}
+
+int main() { return 0; }
+"""
+
+
+@needs("g++")
+def test_layers_are_a_range_of_cpp_20(checks, setting):
+    """And its algorithms take them."""
+    path = setting.work / "range.cc"
+    path.write_text(LAYERS_AS_A_RANGE)
+    flags = ["-std=c++20", f"-I{setting.library.include}", "-fsyntax-only"]
+    checks.ended("layers as a range", run("g++", *WARNINGS, *flags, path), "")
+
+
 @needs("nm")
 def test_libraries_show_the_calls_alone(checks, setting):
     """And they need little of the C library."""
