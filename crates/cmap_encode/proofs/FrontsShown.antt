@@ -1,19 +1,24 @@
 -- Which fronts of a text strings show.
 use Rattle.std.proofs.Common.{◌≡◌, ℕ, zero, suc, ◌+◌, ◌-◌, ◌<◌, ◌≤◌, ◌⊎◌, Bool, true, false, List, [], ◌∷◌, ◌++◌, get_or, length, take, drop, Option, Some, None, refl, sym, ap, ◌∙◌, subst, inl, inr, arith, append_assoc, append-nil, length-append}
-use Rattle.std.specs.Prelude.{◌↔◌, IsTrue, if◌then◌else◌, is_some, option_map}
+use Rattle.std.specs.Bool.{then_some}
+use Rattle.std.specs.Prelude.{◌↔◌, IsTrue, if◌then◌else◌, is_some, option_and_then, option_map, slice_get, slice_index_or}
 use Rattle.std.proofs.lemmas.Bool.{cases_lt, false≢true}
-use Rattle.std.proofs.lemmas.List.{drop_at, get_or_append_left, get_or_push, length-take-le, length_push, nil_from_length, take-append-drop, take-take, take_at}
+use Rattle.std.proofs.lemmas.List.{drop_all, drop_at, get_or-take, length-take-le, length_push, nil_from_length, take-append-drop, take-take, take_all, take_at}
 use Rattle.std.proofs.lemmas.List.Elements.{All-append, All-drop, All-nil, All-take}
+use Rattle.std.proofs.lemmas.Option.{none-some, same_Some, slice_get-get_or}
 use Rattle.cmap_unicode.specs.Characters.{characters_of}
 use Rattle.cmap_unicode.specs.TextsOfCodes.{Font}
 use Rattle.cmap_encode.specs.Codes.{IsBefore, IsCodeOf, IsFirstAmong, code_bytes}
 use Rattle.cmap_encode.specs.Encodings.{HasEncoding, IsLongestShown, IsString, Shows, next, nothing}
-use Rattle.cmap_encode.specs.Fronts.{AreShown, EndsBy, IsLongestBelow}
-use Rattle.cmap_encode.specs.IndexSeen.{IsIndexOf, found_in}
+use Rattle.cmap_encode.specs.Fronts.{AreNodes, EndsBy, IsLongestBelow, WentOn}
+use Rattle.cmap_encode.specs.IndexSeen.{IsIndexOf, found_at, found_in}
+use Rattle.cmap_encode.specs.TreeSeen.{node_of, step_of}
 use Rattle.cmap_encode.specs.declared.code.Code.{Code}
 use Rattle.cmap_encode.specs.declared.index.Index.{Index}
 use Rattle.cmap_encode.proofs.CodesRead.{whole_length}
 use Rattle.cmap_encode.proofs.StringsShown.{code_of_front, shows_more}
+use Rattle.cmap_encode.proofs.TextsFound.{found_rest, node_rest}
+use Rattle.cmap_encode.proofs.WaysFound.{push_get, push_last}
 
 module _ (font : Font) where
   -- one code more at the end
@@ -77,30 +82,45 @@ module _ (font : Font) where
       let few = (whole_length font.encoding bytes code.whole).1 in
       subst (IsFirstAmong (IsBefore 5 0) font text) found (is.codes text) bytes are (inl (omega (arith, few))) code
 
-  ends_found : (index : Index) (shown : List Bool) (text : List ℕ) (taken : ℕ) (code : Code) (d b : Bool) → IsIndexOf font index → AreShown font text shown → 1 ≤ taken → taken ≤ length text → length shown ≡ length text
-      → Some (code_bytes code) ≡ found_in index (drop (length text - taken) text) → b ≡ get_or shown (length text - taken) d → IsTrue b ↔ EndsBy font text taken
-  ends_found index shown text taken code d b is are some within count found at =
-      let (first_are, is_code) = has_code index (drop (length text - taken) text) (code_bytes code) is (sym found) in
-      let here = are (length text - taken) d (omega arith) in (
-        λ yes. record { front = here.0 (subst IsTrue at yes); bytes = code_bytes code; bytes_string = first_are; code = is_code },
-        λ ends. subst IsTrue (sym at) (here.1 ends.front),
-      )
+  -- the node of the characters before the last one, and the last one, of what follows a front
+  module _ (index : Index) (nodes : List (Option ℕ)) (text : List ℕ) (taken last : ℕ) (is : IsIndexOf font index) (are : AreNodes font index text nodes) (some : 1 ≤ taken) (within : taken ≤ length text) (few : taken ≤ index.longest) (count : length nodes ≡ length text) (last_is : last ≡ get_or text (length text - 1) last) where
+    abbrev left : ℕ
+    left = length text - taken
 
-  ends_missed : (index : Index) (text : List ℕ) (taken : ℕ) → IsIndexOf font index → None ≡ found_in index (drop (length text - taken) text) → IsTrue false ↔ EndsBy font text taken
-  ends_missed index text taken is none = (λ yes. absurd (false≢true yes), λ ends. absurd (has_none index (drop (length text - taken) text) ends.bytes is (sym none) ends.bytes_string ends.code))
+    lt : left < length nodes
+    lt = omega arith
 
-  -- those before them are shown, and a code is looked up for them
-  pub ends_looked : (index : Index) (shown : List Bool) (text : List ℕ) (taken : ℕ) (found : Option Code) → IsIndexOf font index → AreShown font text shown → 1 ≤ taken → taken ≤ length text → length shown ≡ length text
-      → option_map code_bytes found ≡ found_in index (drop (length text - taken) text) → get_or shown (length text - taken) false ≡ true → IsTrue (is_some found) ↔ EndsBy font text taken
-  ends_looked index shown text taken (Some code) is are some within count found at = ends_found index shown text taken code false true is are some within count found (sym at)
-  ends_looked index shown text taken None is are some within count none at = ends_missed index text taken is none
+    near : length nodes ≤ left + index.longest
+    near = omega arith
 
-  -- those before them aren't shown
-  pub ends_unshown : (shown : List Bool) (text : List ℕ) (taken : ℕ) (b : Bool) → AreShown font text shown → 1 ≤ taken → taken ≤ length text → length shown ≡ length text → b ≡ get_or shown (length text - taken) false → b ≡ false → IsTrue b ↔ EndsBy font text taken
-  ends_unshown shown text taken b are some within count at missing = (
-    λ yes. absurd (false≢true (sym missing ∙ yes)),
-    λ ends. at ∙ (are (length text - taken) false (omega arith)).1 ends.front,
-  )
+    found_next : (node : Option ℕ) → node ≡ node_of index.tree (drop left (take (length nodes - 1) text)) → found_at index node last ≡ found_in index (drop left text)
+    found_next held at =
+        ap (λ o. found_at index o last) (at ∙ ap (λ n. node_of index.tree (drop left (take (n - 1) text))) count)
+        ∙ ap (found_at index (node_of index.tree (drop left (take (length text - 1) text)))) last_is
+        ∙ found_rest index text (length text) last (omega arith) (omega arith) left (omega arith)
+        ∙ ap (λ t. found_in index (drop left t)) (take_all (length text) text (omega arith))
+
+    ends_by_node : (node : Option ℕ) (found : Option Code) → slice_get nodes left ≡ Some node → option_map code_bytes found ≡ found_at index node last → IsTrue (is_some found) → EndsBy font text taken
+    ends_by_node None found at has is_found = absurd (no_code found has is_found)
+      where
+        no_code : (found : Option Code) → option_map code_bytes found ≡ None → IsTrue (is_some found) → ⊥
+        no_code None has is_found = false≢true is_found
+        no_code (Some code) has is_found = none-some (code_bytes code) (sym has)
+    ends_by_node (Some n) None at has is_found = absurd (false≢true is_found)
+    ends_by_node (Some n) (Some code) at has is_found =
+        let front = are.shown left n lt near at in
+        let found = sym (has ∙ found_next (Some n) (same_Some (Some n) _ (sym at ∙ are.leads left lt near front))) in
+        let (first_are, is_code) = has_code index (drop left text) (code_bytes code) is found in
+        record { front = front; bytes = code_bytes code; bytes_string = first_are; code = is_code }
+
+    node_by_ends : (node : Option ℕ) (found : Option Code) → slice_get nodes left ≡ Some node → option_map code_bytes found ≡ found_at index node last → EndsBy font text taken → IsTrue (is_some found)
+    node_by_ends held (Some code) at has ends = refl
+    node_by_ends held None at has ends =
+        let missing = sym (has ∙ found_next held (same_Some held _ (sym at ∙ are.leads left lt near ends.front))) in
+        absurd (has_none index (drop left text) ends.bytes is missing ends.bytes_string ends.code)
+
+    pub ends_looked : (node : Option ℕ) (found : Option Code) → slice_get nodes left ≡ Some node → option_map code_bytes found ≡ found_at index node last → IsTrue (is_some found) ↔ EndsBy font text taken
+    ends_looked held found at has = (ends_by_node held found at has, node_by_ends held found at has)
 
   pub ends_shown : (text : List ℕ) (taken : ℕ) → EndsBy font text taken → HasEncoding font text
   ends_shown text taken ends =
@@ -132,20 +152,77 @@ module _ (font : Font) where
       below limit taken (inr less) few within = omega arith
 
   -- ---- one front after another
-  pub first_shown_front : (text : List ℕ) → AreShown font text (true ∷ [])
-  first_shown_front text k d lt = let zero_is : k ≡ 0 = omega (arith, lt) in subst (λ n. IsTrue (get_or (true ∷ []) n d) ↔ HasEncoding font (take n text)) (sym zero_is) (λ yes. ([], All-nil (λ b. b < 256), nothing), λ shown. refl)
+  pub first_node : (index : Index) (text : List ℕ) → AreNodes font index text (Some 0 ∷ [])
+  first_node index text = record {
+    leads = λ k lt near shown. let zero_is : k ≡ 0 = omega (arith, lt) in subst (λ n. slice_get (Some 0 ∷ []) n ≡ Some (node_of index.tree (drop n []))) (sym zero_is) refl;
+    shown = λ k n lt near at. let zero_is : k ≡ 0 = omega (arith, lt) in subst (λ m. HasEncoding font (take m text)) (sym zero_is) ([], All-nil (λ b. b < 256), nothing);
+  }
 
-  pub of_front : (text : List ℕ) (count : ℕ) (shown : List Bool) → length shown ≤ count → AreShown font text shown → AreShown font (take count text) shown
-  of_front text count shown few are k d lt = subst (λ t. IsTrue (get_or shown k d) ↔ HasEncoding font t) (sym (take-take k count text (omega arith))) (are k d lt)
+  pub of_front : (index : Index) (text : List ℕ) (count : ℕ) (nodes : List (Option ℕ)) → length nodes ≤ count → AreNodes font index text nodes → AreNodes font index (take count text) nodes
+  of_front index text count nodes few are = record {
+    leads = λ k lt near shown.
+        are.leads k lt near (subst (HasEncoding font) (take-take k count text (omega arith)) shown)
+        ∙ ap (λ t. Some (node_of index.tree (drop k t))) (sym (take-take (length nodes - 1) count text (omega arith)));
+    shown = λ k n lt near at. subst (HasEncoding font) (sym (take-take k count text (omega arith))) (are.shown k n lt near at);
+  }
 
-  pub front_added : (text : List ℕ) (count : ℕ) (shown : List Bool) (b : Bool) → length shown ≡ count → AreShown font text shown → IsTrue b ↔ HasEncoding font (take count text) → AreShown font text (shown ++ b ∷ [])
-  front_added text count shown b long are is k d lt =
-      elim (cases_lt k count) [
-        | inl before ↦ subst (λ v. IsTrue v ↔ HasEncoding font (take k text)) (sym (get_or_append_left shown (b ∷ []) d k (omega arith))) (are k d (omega arith))
+  -- one more
+  module _ (index : Index) (text : List ℕ) (count : ℕ) (nodes more : List (Option ℕ)) (b : Bool) (long : length nodes ≡ count) (some : 1 ≤ count) (within : count ≤ length text) (are : AreNodes font index text nodes) (went : WentOn index (take count text) nodes more) (is : IsTrue b ↔ HasEncoding font (take count text)) where
+    abbrev added : Option ℕ
+    added = if b then Some 0 else None
+
+    abbrev new : List (Option ℕ)
+    new = more ++ added ∷ []
+
+    new_count : length new ≡ count + 1
+    new_count = omega (arith, length_push more added, went.count)
+
+    last_read : slice_index_or (take count text) (length (take count text) - 1) 0 ≡ get_or text (count - 1) 0
+    last_read = ap (λ n. get_or (take count text) (n - 1) 0) (length-take-le count text within) ∙ get_or-take count text (count - 1) 0 (omega arith)
+
+    -- a node that was there goes on
+    gone_on : (k : ℕ) (node : Option ℕ) → k < count → count ≤ k + index.longest → slice_get nodes k ≡ Some node → slice_get new k ≡ Some (option_and_then (λ n. step_of index.tree n (get_or text (count - 1) 0)) node)
+    gone_on k held lt near at =
+        push_get more added k (omega (arith, went.count)) ∙ went.each k held (omega arith) at
+        ∙ ap (λ last. Some (option_and_then (λ n. step_of index.tree n last) held)) last_read
+
+    at_count : slice_get new count ≡ Some added
+    at_count = push_last more added count (omega (arith, went.count))
+
+    leads_before : (k : ℕ) → k < count → count ≤ k + index.longest → HasEncoding font (take k text) → slice_get new k ≡ Some (node_of index.tree (drop k (take count text)))
+    leads_before k lt near shown =
+        gone_on k (node_of index.tree (drop k (take (count - 1) text))) lt near (are.leads k (omega arith) (omega arith) shown ∙ ap (λ n. Some (node_of index.tree (drop k (take (n - 1) text)))) long)
+        ∙ ap Some (sym (node_rest index text count 0 some within k (omega arith)))
+
+    leads_last : HasEncoding font (take count text) → slice_get new count ≡ Some (node_of index.tree (drop count (take count text)))
+    leads_last shown =
+        at_count ∙ ap (λ v. Some (if v then Some 0 else None)) (is.1 shown)
+        ∙ ap (λ t. Some (node_of index.tree t)) (sym (drop_all count (take count text) (omega (arith, length-take-le count text within))))
+
+    shown_before : (k n : ℕ) (node : Option ℕ) → k < count → count ≤ k + index.longest → slice_get nodes k ≡ Some node → slice_get new k ≡ Some (Some n) → HasEncoding font (take k text)
+    shown_before k n None lt near at now = absurd (none-some n (same_Some None (Some n) (sym (gone_on k None lt near at) ∙ now)))
+    shown_before k n (Some m) lt near at now = are.shown k m (omega arith) (omega arith) at
+
+    shown_last : (v : Bool) (n : ℕ) → b ≡ v → (if v then Some 0 else None) ≡ Some n → HasEncoding font (take count text)
+    shown_last true n chosen at = is.0 chosen
+    shown_last false n chosen at = absurd (none-some n at)
+
+    pub nodes_added : AreNodes font index text new
+    nodes_added = record {
+      leads = λ k lt near shown. elim (cases_lt k count) [
+        | inl before ↦ leads_before k before (omega (arith, new_count)) shown ∙ ap (λ n. Some (node_of index.tree (drop k (take n text)))) (omega (arith, new_count))
         | inr last ↦
-            let at : k ≡ count = omega (arith, lt, length_push shown b) in
-            subst (λ v. IsTrue v ↔ HasEncoding font (take k text)) (sym (get_or_push shown b d k (long ∙ sym at))) (subst (λ n. IsTrue b ↔ HasEncoding font (take n text)) (sym at) is)
-      ]
+            let at : k ≡ count = omega (arith, new_count) in
+            subst (λ j. HasEncoding font (take j text) → slice_get new j ≡ Some (node_of index.tree (drop j (take (length new - 1) text)))) (sym at)
+            (λ its. leads_last its ∙ ap (λ n. Some (node_of index.tree (drop count (take n text)))) (omega (arith, new_count))) shown
+      ];
+      shown = λ k n lt near at. elim (cases_lt k count) [
+        | inl before ↦ shown_before k n (get_or nodes k None) before (omega (arith, new_count)) (slice_get-get_or nodes k None (omega arith)) at
+        | inr last ↦
+            let here : k ≡ count = omega (arith, new_count) in
+            subst (λ j. HasEncoding font (take j text)) (sym here) (shown_last b n refl (same_Some added (Some n) (sym at_count ∙ ap (slice_get new) (sym here) ∙ at)))
+      ];
+    }
 
   pub nothing_longest : (text : List ℕ) → IsLongestBelow font text 1 0
   nothing_longest text = record { below = omega arith; shown = ([], All-nil (λ b. b < 256), nothing); longest = λ more from to. absurd (omega arith) }
@@ -190,3 +267,14 @@ module _ (font : Font) where
 pub longer_below : (count longest : ℕ) (b : Bool) → longest < count → (if b then count else longest) < count + 1
 longer_below count longest true below = omega arith
 longer_below count longest false below = omega arith
+
+pub first_pushed : (now before : List (Option ℕ)) → before ≡ [] → now ≡ before ++ Some 0 ∷ [] → now ≡ Some 0 ∷ []
+first_pushed now before none pushed = pushed ∙ ap (λ l. l ++ Some 0 ∷ []) none
+
+-- one more is pushed after nodes that a slice gave back
+pub one_pushed : (now more rest : List (Option ℕ)) (len : ℕ) (last : Option ℕ) (b : Bool) → now ≡ take len (more ++ rest) ++ last ∷ [] → len ≡ length more → last ≡ then_some b 0 → now ≡ more ++ (if b then Some 0 else None) ∷ []
+one_pushed now more rest len last b pushed count is = pushed ∙ ap (λ l. l ++ last ∷ []) (take_at more rest len (sym count)) ∙ ap (λ o. more ++ o ∷ []) (is ∙ chosen b)
+  where
+    chosen : (b : Bool) → then_some {T = ℕ} b 0 ≡ (if b then Some 0 else None)
+    chosen true = refl
+    chosen false = refl

@@ -1,14 +1,11 @@
 -- The first code of a text, of those that runs give.
-use Rattle.std.proofs.Common.{◌≡◌, ℕ, zero, suc, ◌-◌, ◌<◌, ◌⊎◌, List, [], ◌∷◌, ◌++◌, length, take, ◌^◌, Bool, true, false, Option, Some, None, refl, sym, ap, ◌∙◌, subst, inl, inr, arith, length-append}
-use Rattle.std.specs.Prelude.{All, Any, IsSomeAnd, MatchOption, if◌then◌else◌, option_and_then, option_map, slice_get}
+use Rattle.std.proofs.Common.{◌≡◌, ℕ, zero, suc, ◌-◌, ◌<◌, List, [], ◌∷◌, ◌++◌, length, ◌^◌, Option, Some, None, refl, sym, ap, ◌∙◌, subst, inl, inr, arith, length-append}
+use Rattle.std.specs.Prelude.{All, Any, IsSomeAnd, MatchOption, option_and_then, option_map, slice_get}
 use Rattle.std.specs.Global.{Vec}
 use Rattle.std.specs.List.{AllZip}
-use Rattle.std.proofs.lemmas.List.{take_at}
-use Rattle.std.proofs.lemmas.Bool.{false≢true}
-use Rattle.std.proofs.lemmas.Option.{none-some, same_Some}
+use Rattle.std.proofs.lemmas.Option.{none-some}
 use Rattle.std.proofs.lemmas.Slice.Zip.{AllZip-left}
 use Rattle.cmap_unicode.specs.TextsOfCodes.{Font}
-use Rattle.cmap_encode.specs.BeginningsSeen.{may_begin}
 use Rattle.cmap_encode.specs.Codes.{IsBefore, IsCodeOf, IsFirstAmong, code_bytes}
 use Rattle.cmap_encode.specs.Encodings.{IsNotAfter, IsString}
 use Rattle.cmap_encode.specs.FirstsSeen.{AreFirsts, Gives, IsCodeRun, IsFirstGiven, first_at}
@@ -21,30 +18,8 @@ use Rattle.cmap_encode.specs.declared.runs_by_front.RunsByFront.{RunsByFront}
 use Rattle.cmap_encode.proofs.CodesRead.{whole_length}
 use Rattle.cmap_encode.proofs.Gathering.{earlier_gathered}
 use Rattle.cmap_encode.proofs.Order.{not_after_chain, not_after_itself}
-use Rattle.cmap_encode.proofs.RunsNumbered.{put_last}
-
--- ---- the last character of a text
-last_got : (front : List ℕ) (last : ℕ) → slice_get (front ++ last ∷ []) (length (front ++ last ∷ []) - 1) ≡ Some last
-last_got front last =
-    let at : length front ≡ length (front ++ last ∷ []) - 1 = omega (arith, length-append front (last ∷ [])) in
-    subst (λ n. slice_get (front ++ last ∷ []) n ≡ Some last) at (put_last front last)
-
-front_taken : (front : List ℕ) (last : ℕ) → take (length (front ++ last ∷ []) - 1) (front ++ last ∷ []) ≡ front
-front_taken front last = take_at front (last ∷ []) (length (front ++ last ∷ []) - 1) (omega (arith, length-append front (last ∷ [])))
-
-pub text_ends : (text : List ℕ) → (text ≡ []) ⊎ ((front : List ℕ) × (last : ℕ) × (text ≡ front ++ last ∷ []))
-text_ends [] = inl refl
-text_ends (c ∷ cs) =
-    elim (text_ends cs) [
-      | inl empty ↦ inr ([], c, ap (λ l. c ∷ l) empty)
-      | inr (front, last, is) ↦ inr (c ∷ front, last, ap (λ l. c ∷ l) is)
-    ]
-
-pub same_end : (front other : List ℕ) (last also : ℕ) → front ++ last ∷ [] ≡ other ++ also ∷ [] → (front ≡ other) × (last ≡ also)
-same_end front other last also same = (
-  sym (front_taken front last) ∙ ap (λ (l : List ℕ). take (length l - 1) l) same ∙ front_taken other also,
-  same_Some last also (sym (last_got front last) ∙ ap (λ (l : List ℕ). slice_get l (length l - 1)) same ∙ last_got other also),
-)
+use Rattle.cmap_encode.proofs.TextEnds.{same_end, text_ends}
+use Rattle.cmap_encode.proofs.TextsFound.{found_at_end}
 
 -- one more of two lists
 pub zip_push : {A B : Type 0} (R : A → B → Type 0) (xs : List A) (ys : List B) (x : A) (y : B) → AllZip R xs ys → R x y → AllZip R (xs ++ x ∷ []) (ys ++ y ∷ [])
@@ -64,10 +39,10 @@ none_given key bytes (k, run, within, is, gives) = omega arith
 
 module _ (all : RunsByFront) (firsts : Vec (List CodeRun)) (are : AreRunsByFront all) (zip : AllZip (λ (list : Vec CodeRun). AreFirsts list.items) all.lists.items firsts.items) where
   abbrev pub index : Index
-  index = record { numbers = all.numbers; firsts = firsts; beginnings = all.beginnings; longest = all.longest }
+  index = record { tree = all.tree; firsts = firsts; longest = all.longest }
 
   first_after : (front : List ℕ) (last : ℕ) → IsFirstGiven (runs_of all front) last (found_after index front last)
-  first_after front last = by_beginning (may_begin all.beginnings front) refl
+  first_after front last = by_number (number_of all front) refl
     where
       by_list : (list : Option (Vec CodeRun)) (found : Option (List CodeRun)) → (list ≡ None → ⊥) → MatchOption list (Unit {0}) (λ runs. IsSomeAnd found (AreFirsts runs.items)) → IsFirstGiven (items_of list) last (option_and_then (λ firsts. option_map code_bytes (first_at firsts last)) found)
       by_list None found some is = absurd (some refl)
@@ -77,18 +52,6 @@ module _ (all : RunsByFront) (firsts : Vec (List CodeRun)) (are : AreRunsByFront
       by_number : (number : Option ℕ) → number_of all front ≡ number → IsFirstGiven (items_of (option_and_then (slice_get all.lists.items) number)) last (option_and_then (λ firsts. option_map code_bytes (first_at firsts last)) (option_and_then (slice_get firsts.items) number))
       by_number None has = none_given last
       by_number (Some number) has = by_list (slice_get all.lists.items number) (slice_get firsts.items number) (got_within all.lists.items number (are.within front number has)) (AllZip-left _ all.lists.items firsts.items zip number)
-
-      none_begun : (number : Option ℕ) → number_of all front ≡ number → may_begin all.beginnings front ≡ false → IsFirstGiven (items_of (option_and_then (slice_get all.lists.items) number)) last None
-      none_begun None has not = none_given last
-      none_begun (Some number) has not = absurd (false≢true (sym not ∙ are.beginnings front number has))
-
-      by_beginning : (begins : Bool) → may_begin all.beginnings front ≡ begins → IsFirstGiven (runs_of all front) last (if begins then option_and_then (λ firsts. option_map code_bytes (first_at firsts last)) (option_and_then (slice_get firsts.items) (number_of all front)) else None)
-      by_beginning true is = by_number (number_of all front) refl
-      by_beginning false is = none_begun (number_of all front) refl is
-
-  found_at_end : (front : List ℕ) (last : ℕ) → found_in index (front ++ last ∷ []) ≡ found_after index front last
-  found_at_end front last =
-      ap (option_and_then (found_after index (take (length (front ++ last ∷ []) - 1) (front ++ last ∷ [])))) (last_got front last) ∙ ap (λ f. found_after index f last) (front_taken front last)
 
   given_at_end : (front : List ℕ) (last : ℕ) (bytes : List ℕ) → GivesText all (front ++ last ∷ []) bytes → Any (Gives last bytes) (runs_of all front)
   given_at_end front last bytes given =
@@ -112,15 +75,11 @@ module _ (all : RunsByFront) (firsts : Vec (List CodeRun)) (are : AreRunsByFront
       )
 
   longest_by : (front : List ℕ) (last : ℕ) (bytes : List ℕ) → found_after index front last ≡ Some bytes → length front < all.longest
-  longest_by front last bytes found = by_beginning (may_begin all.beginnings front) found
+  longest_by front last bytes found = by_number (number_of all front) refl found
     where
       by_number : (number : Option ℕ) → number_of all front ≡ number → option_and_then (λ firsts. option_map code_bytes (first_at firsts last)) (option_and_then (slice_get firsts.items) number) ≡ Some bytes → length front < all.longest
       by_number None has found = absurd (none-some bytes found)
       by_number (Some number) has found = are.longest front number has
-
-      by_beginning : (begins : Bool) → (if begins then option_and_then (λ firsts. option_map code_bytes (first_at firsts last)) (option_and_then (slice_get firsts.items) (number_of all front)) else None) ≡ Some bytes → length front < all.longest
-      by_beginning true found = by_number (number_of all front) refl found
-      by_beginning false found = absurd (none-some bytes found)
 
   nothing_before : (front : List ℕ) (last : ℕ) → [] ≡ front ++ last ∷ [] → ⊥
   nothing_before front last same = omega (arith, ap (λ (l : List ℕ). length l) same, length-append front (last ∷ []))
@@ -132,13 +91,13 @@ module _ (all : RunsByFront) (firsts : Vec (List CodeRun)) (are : AreRunsByFront
           | inl empty ↦ subst (λ t. IsFirstAmong (IsBefore 5 0) font t (found_in index t)) (sym empty) (λ bytes bytes_are before is.
               let (first, given, earlier) = gathered.complete [] bytes bytes_are before is in nothing_before given.front given.last given.is)
           | inr (front, last, is) ↦ subst (λ t. IsFirstAmong (IsBefore 5 0) font t (found_in index t)) (sym is)
-              (subst (IsFirstAmong (IsBefore 5 0) font (front ++ last ∷ [])) (sym (found_at_end front last)) (first_among font front last (found_after index front last) gathered (first_after front last)))
+              (subst (IsFirstAmong (IsBefore 5 0) font (front ++ last ∷ [])) (sym (found_at_end index front last)) (first_among font front last (found_after index front last) gathered (first_after front last)))
         ];
     longest = λ text bytes found.
         elim (text_ends text) [
           | inl empty ↦ absurd (none-some bytes (ap (found_in index) (sym empty) ∙ found))
           | inr (front, last, is) ↦
-              let below = longest_by front last bytes (sym (found_at_end front last) ∙ ap (found_in index) (sym is) ∙ found) in
+              let below = longest_by front last bytes (sym (found_at_end index front last) ∙ ap (found_in index) (sym is) ∙ found) in
               omega (arith, ap (λ (l : List ℕ). length l) is, length-append front (last ∷ []))
         ];
   }

@@ -19,12 +19,12 @@ pub put_last : {A : Type 0} (xs : List A) (y : A) → slice_get (xs ++ y ∷ [])
 put_last [] y = refl
 put_last (x ∷ xs) y = put_last xs y
 
-set_here : {A : Type 0} (xs : List A) (n : ℕ) (y : A) → n < length xs → slice_get (slice_set xs n y) n ≡ Some y
+pub set_here : {A : Type 0} (xs : List A) (n : ℕ) (y : A) → n < length xs → slice_get (slice_set xs n y) n ≡ Some y
 set_here [] n y within = absurd (omega arith)
 set_here (x ∷ xs) zero y within = refl
 set_here (x ∷ xs) (suc n) y within = set_here xs n y (omega arith)
 
-set_elsewhere : {A : Type 0} (xs : List A) (n m : ℕ) (y : A) → (m ≡ n → ⊥) → slice_get (slice_set xs n y) m ≡ slice_get xs m
+pub set_elsewhere : {A : Type 0} (xs : List A) (n m : ℕ) (y : A) → (m ≡ n → ⊥) → slice_get (slice_set xs n y) m ≡ slice_get xs m
 set_elsewhere [] n m y apart = refl
 set_elsewhere (x ∷ xs) zero zero y apart = absurd (apart refl)
 set_elsewhere (x ∷ xs) zero (suc m) y apart = refl

@@ -134,6 +134,16 @@ module _ (font : Font) (text : List ℕ) where
   best_more limit best (Some way) None is found chosen = absurd chosen
   best_more limit best (Some way) (Some result) is found chosen = best_found limit best way result (λ other. code_count other.code) is found chosen
 
+  -- no way takes more characters
+  pub best_before : (limit most : ℕ) (best : Option Way) → IsBestBelow limit best → ((taken : ℕ) → limit ≤ taken → taken ≤ length text → IsTryOf font taken text None) → limit ≤ most → IsBestBelow most best
+  best_before limit most None is none le = λ taken string few by.
+      elim (cases_lt taken limit) [ inl fewer ↦ is taken string fewer by | inr later ↦ none taken later by.within string by ]
+  best_before limit most (Some best) (try, fewer, first) none le = (
+    try,
+    omega arith,
+    λ taken string few by. elim (cases_lt taken limit) [ inl below ↦ first taken string below by | inr later ↦ absurd (none taken later by.within string by) ],
+  )
+
   -- ---- all of them
   -- no text of a code is longer than the index says
   within_longest : (index : Index) (taken : ℕ) (bytes : List ℕ) → IsIndexOf font index → taken ≤ length text → IsString bytes → IsCodeOf font (take taken text) bytes → taken ≤ index.longest
@@ -190,10 +200,10 @@ ways_of_last font text ways left few within are =
 pub no_ways : (font : Font) (text : List ℕ) → AreWays font text []
 no_ways font text = record { few = omega arith; each = λ k lt. absurd (omega arith) }
 
-push_get : {A : Type 0} (xs : List A) (x : A) (k : ℕ) → k < length xs → slice_get (xs ++ x ∷ []) k ≡ slice_get xs k
+pub push_get : {A : Type 0} (xs : List A) (x : A) (k : ℕ) → k < length xs → slice_get (xs ++ x ∷ []) k ≡ slice_get xs k
 push_get xs x k lt = slice_get-get_or (xs ++ x ∷ []) k x (omega (arith, length_push xs x)) ∙ ap Some (get_or_append_left xs (x ∷ []) x k lt) ∙ sym (slice_get-get_or xs k x lt)
 
-push_last : {A : Type 0} (xs : List A) (x : A) (k : ℕ) → k ≡ length xs → slice_get (xs ++ x ∷ []) k ≡ Some x
+pub push_last : {A : Type 0} (xs : List A) (x : A) (k : ℕ) → k ≡ length xs → slice_get (xs ++ x ∷ []) k ≡ Some x
 push_last xs x k at = slice_get-get_or (xs ++ x ∷ []) k x (omega (arith, length_push xs x)) ∙ ap Some (get_or_push xs x x k (sym at))
 
 -- one more

@@ -1,17 +1,18 @@
 -- Private aid: what an index has for each text.
-use Rattle.std.specs.Prelude.{◌≡◌, ℕ, ◌-◌, ◌≤◌, List, length, take, Option, None, Some, if◌then◌else◌, option_and_then, option_map, slice_get}
-use Rattle.std.specs.BTreeMap.{get_by}
-use Rattle.std.specs.Cmp.Lexicographic.{slice_cmp}
-use Rattle.std.specs.Ordering.{nat_cmp}
+use Rattle.std.specs.Prelude.{◌≡◌, ℕ, ◌-◌, ◌≤◌, List, length, take, Option, Some, option_and_then, option_map, slice_get}
 use Rattle.cmap_unicode.specs.TextsOfCodes.{Font}
-use Rattle.cmap_encode.specs.BeginningsSeen.{may_begin}
 use Rattle.cmap_encode.specs.Codes.{IsBefore, IsFirstAmong, code_bytes}
 use Rattle.cmap_encode.specs.FirstsSeen.{first_at}
+use Rattle.cmap_encode.specs.TreeSeen.{node_of}
 use Rattle.cmap_encode.specs.declared.index.Index.{Index}
 
--- the bytes of the code that it has for a last character after a front
+-- the bytes of the code that it has for the text of a node and a last character
+abbrev pub found_at : Index → Option ℕ → ℕ → Option (List ℕ)
+found_at index node last = option_and_then (λ firsts. option_map code_bytes (first_at firsts last)) (option_and_then (slice_get index.firsts.items) node)
+
+-- and for a last character after a front
 abbrev pub found_after : Index → List ℕ → ℕ → Option (List ℕ)
-found_after index front last = if may_begin index.beginnings front then option_and_then (λ firsts. option_map code_bytes (first_at firsts last)) (option_and_then (slice_get index.firsts.items) (get_by (λ k. slice_cmp nat_cmp front k.items) index.numbers)) else None
+found_after index front last = found_at index (node_of index.tree front) last
 
 -- and for a text
 abbrev pub found_in : Index → List ℕ → Option (List ℕ)

@@ -1,22 +1,19 @@
 -- Private aid: runs of codes by their texts, or by CIDs.
-use Rattle.std.specs.Prelude.{◌≡◌, ◌↔◌, ℕ, ◌<◌, ◌≤◌, ◌⊎◌, List, [], ◌∷◌, ◌++◌, All, Any, Option, Some, None, length, true, option_and_then, slice_get}
-use Rattle.std.specs.BTreeMap.{get_by}
-use Rattle.std.specs.Cmp.Lexicographic.{slice_cmp}
+use Rattle.std.specs.Prelude.{◌≡◌, ◌↔◌, ℕ, ◌<◌, ◌≤◌, ◌⊎◌, List, [], ◌∷◌, ◌++◌, All, Any, Option, Some, None, length, option_and_then, slice_get}
 use Rattle.std.specs.Global.{Vec}
-use Rattle.std.specs.Ordering.{nat_cmp}
 use Rattle.cmap_tokens.specs.Texts.{Text}
 use Rattle.cmap_unicode.specs.Characters.{characters_of}
 use Rattle.cmap_unicode.specs.CountedTexts.{text_after}
-use Rattle.cmap_encode.specs.BeginningsSeen.{may_begin}
 use Rattle.cmap_encode.specs.Codes.{code_bytes}
 use Rattle.cmap_encode.specs.FirstsSeen.{Gives, IsCodeRun, code_after}
+use Rattle.cmap_encode.specs.TreeSeen.{node_of, step_of}
 use Rattle.cmap_encode.specs.declared.code.Code.{Code}
 use Rattle.cmap_encode.specs.declared.firsts.CodeRun.{CodeRun}
 use Rattle.cmap_encode.specs.declared.runs_by_front.RunsByFront.{RunsByFront}
 
--- the index of the runs of a front
+-- the index of the runs of a front: its node
 abbrev pub number_of : RunsByFront → List ℕ → Option ℕ
-number_of all front = get_by (λ k. slice_cmp nat_cmp front k.items) all.numbers
+number_of all front = node_of all.tree front
 
 abbrev pub items_of : Option (Vec CodeRun) → List CodeRun
 items_of None = []
@@ -31,9 +28,15 @@ pub record AreRunsByFront (all : RunsByFront) : Type 0 where
   pub within : (front : List ℕ) (number : ℕ) → number_of all front ≡ Some number → number < length all.lists.items
   pub apart : (front other : List ℕ) (number : ℕ) → number_of all front ≡ Some number → number_of all other ≡ Some number → front ≡ other
   pub longest : (front : List ℕ) (number : ℕ) → number_of all front ≡ Some number → length front < all.longest
-  pub beginnings : (front : List ℕ) (number : ℕ) → number_of all front ≡ Some number → may_begin all.beginnings front ≡ true
-  pub places : length all.beginnings.reach.items ≡ 4096
+  pub inside : (node character next : ℕ) → step_of all.tree node character ≡ Some next → node < length all.lists.items
   pub runs : All (λ (list : Vec CodeRun). All IsCodeRun list.items) all.lists.items
+
+-- a front has a number, and each front the runs that it had
+pub record Numbers (old : RunsByFront) (front : List ℕ) (node : ℕ) (new : RunsByFront) : Type 0 where
+  pub are : AreRunsByFront new
+  pub number : number_of new front ≡ Some node
+  pub runs : (other : List ℕ) → runs_of new other ≡ runs_of old other
+  pub longest : new.longest ≡ old.longest
 
 abbrev pub HasNoRuns : RunsByFront → Type 0
 HasNoRuns all = (front : List ℕ) → runs_of all front ≡ []

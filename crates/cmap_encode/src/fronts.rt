@@ -3,11 +3,12 @@
 ghost use Rattle.std.specs.Prelude.{◌≡◌, ◌↔◌, ◌<◌, ◌≤◌, IfOk, IsTrue, flat_map, if◌then◌else◌, length};
 ghost use Rattle.std.specs.Char.{encode_utf8};
 ghost use Rattle.cmap_encode.specs.Encodings.{HasEncoding, HasNoEncoding, IsLongestShown, IsStuckAt};
-ghost use Rattle.cmap_encode.specs.Fronts.{AreShown, EndsBy};
+ghost use Rattle.cmap_encode.specs.Fronts.{AreNodes, EndsBy, WentOn};
 ghost use Rattle.cmap_encode.specs.IndexSeen.{IsIndexOf};
 ghost use Rattle.cmap_unicode.specs.TextsOfCodes.{Font};
 
 use crate::index::Index;
+use crate::tree::EMPTY;
 use std::alloc::{AllocError, Global};
 
 /// Where the longest front of a text ends that some string shows, in bytes of UTF-8.
@@ -42,15 +43,17 @@ pub(crate) fn longest_shown(
     ensures longest { IfOk result (λ count. (font : Font) → IsIndexOf font index.now
         → IsLongestShown font text.now count) }
 {
-    let mut shown = Vec::new(alloc);
-    shown.push(true)?;
+    let mut nodes = Vec::new(alloc);
+    nodes.push(Some(EMPTY))?;
     let mut longest = 0;
     for count in 1..text.len() + 1 {
         if count - longest > index.longest {
             return Ok(longest);
         }
-        let is_shown = is_shown(index, &shown, &text[..count]);
-        shown.push(is_shown)?;
+        let front = &text[..count];
+        let is_shown = is_shown(index, &nodes, front);
+        go_on(index, &mut nodes, front);
+        nodes.push(is_shown.then_some(EMPTY))?;
         longest = longer(is_shown, count, longest);
     }
     Ok(longest)
@@ -63,15 +66,16 @@ fn longer(is_shown: bool, count: usize, longest: usize) -> usize
     if is_shown { count } else { longest }
 }
 
-/// Whether some string shows a text, of whose shorter fronts it is known.
-fn is_shown(index: &Index, fronts: &[bool], text: &[char]) -> bool
+/// Whether some string shows a text. Each node is that of what follows a shorter front that strings show, but
+/// for the last character.
+fn is_shown(index: &Index, nodes: &[Option<usize>], text: &[char]) -> bool
     requires some { 0 < length text.now }
-    requires fronts { length fronts.now ≡ length text.now }
-    ensures { (font : Font) → IsIndexOf font index.now → AreShown font text.now fronts.now
+    requires nodes { length nodes.now ≡ length text.now }
+    ensures { (font : Font) → IsIndexOf font index.now → AreNodes font index.now text.now nodes.now
         → (IsTrue result ↔ HasEncoding font text.now) }
 {
     for taken in 1..index.longest.min(text.len()) + 1 {
-        if ends_by(index, fronts, text, taken) {
+        if ends_by(index, nodes, text, taken) {
             return true;
         }
     }
@@ -79,13 +83,26 @@ fn is_shown(index: &Index, fronts: &[bool], text: &[char]) -> bool
 }
 
 /// Whether the last `taken` characters of a text are the text of a code, and some string shows those before them.
-fn ends_by(index: &Index, fronts: &[bool], text: &[char], taken: usize) -> bool
+fn ends_by(index: &Index, nodes: &[Option<usize>], text: &[char], taken: usize) -> bool
     requires some { 1 ≤ taken }
-    requires within { taken ≤ length text.now }
-    requires fronts { length fronts.now ≡ length text.now }
-    ensures { (font : Font) → IsIndexOf font index.now → AreShown font text.now fronts.now
+    requires within { (taken ≤ length text.now) × (taken ≤ index.now.longest) }
+    requires nodes { length nodes.now ≡ length text.now }
+    ensures { (font : Font) → IsIndexOf font index.now → AreNodes font index.now text.now nodes.now
         → (IsTrue result ↔ EndsBy font text.now taken) }
 {
-    let left = text.len() - taken;
-    fronts[left] && index.find(&text[left..]).is_some()
+    let len = text.len();
+    index.find(nodes[len - taken], text[len - 1]).is_some()
+}
+
+/// Takes the nodes on by the last character of a text. Those of fronts further back than the longest text of a
+/// code has characters stay as they are.
+fn go_on(index: &Index, nodes: &mut [Option<usize>], text: &[char])
+    requires some { 0 < length text.now }
+    requires nodes { length nodes.old ≡ length text.now }
+    ensures { WentOn index.now text.now nodes.old nodes.new }
+{
+    let last = text[text.len() - 1];
+    for at in nodes.len().saturating_sub(index.longest)..nodes.len() {
+        nodes[at] = index.after(nodes[at], last);
+    }
 }

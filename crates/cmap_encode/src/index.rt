@@ -1,32 +1,30 @@
 //! The first code of each text of a font.
 
-ghost use Rattle.std.specs.Prelude.{◌≡◌, All, IfOk, option_map};
+ghost use Rattle.std.specs.Prelude.{◌≡◌, All, IfOk, option_and_then, option_map};
 ghost use Rattle.std.specs.List.{AllZip};
 ghost use Rattle.std.specs.Global.{Vec as List_of};
 ghost use Rattle.cmap_unicode.specs.Characters.{font_of};
 ghost use Rattle.cmap_encode.specs.Codes.{code_bytes};
 ghost use Rattle.cmap_encode.specs.FirstsSeen.{AreFirsts, IsCodeRun};
-ghost use Rattle.cmap_encode.specs.IndexSeen.{IsIndexOf, found_in};
+ghost use Rattle.cmap_encode.specs.IndexSeen.{IsIndexOf, found_at};
+ghost use Rattle.cmap_encode.specs.TreeSeen.{step_of};
 
-use crate::beginnings::Beginnings;
 use crate::by_cid::add_cids;
 use crate::code::Code;
 use crate::firsts::{CodeRun, Firsts};
 use crate::gathered::Gathered;
+use crate::tree::Tree;
 use cmap_unicode::Extractor;
 use std::alloc::{AllocError, Global};
-use std::collections::BTreeMap;
 
 /// The first code of each text: the one of the fewest bytes, and of several the one of the least number.
 #[derive(Drop)]
 pub(crate) struct Index {
-    /// The index in `firsts` of the codes of each front: the characters before the last one.
-    numbers: BTreeMap<Vec<char>, usize>,
-    /// The first code of each last character.
+    /// Fronts, the characters of texts before the last one, as nodes.
+    tree: Tree,
+    /// The first code of each last character, for each node.
     firsts: Vec<Firsts>,
-    /// With which characters fronts begin.
-    beginnings: Beginnings,
-    /// How many characters the longest text has.
+    /// How many characters the longest text has, or 1.
     pub(crate) longest: usize,
 }
 
@@ -40,25 +38,24 @@ impl Index {
         let mut texts = gathered.texts;
         add_cids(alloc, &mut texts, font.collection, &cids)?;
         Ok(Index {
-            numbers: texts.numbers,
+            tree: texts.tree,
             firsts: firsts_of(alloc, texts.lists)?,
-            beginnings: texts.beginnings,
             longest: texts.longest,
         })
     }
 
-    /// The code that it has for a text.
-    pub(crate) fn find(&self, text: &[char]) -> Option<Code>
-        ensures { option_map code_bytes result ≡ found_in self.now text.now }
+    /// The code of the text of a node and a last character. No node has no code.
+    pub(crate) fn find(&self, node: Option<usize>, last: char) -> Option<Code>
+        ensures { option_map code_bytes result ≡ found_at self.now node last }
     {
-        let [front @ .., last] = text else {
-            return None;
-        };
-        if !self.beginnings.may_begin(front) {
-            return None;
-        }
-        let number = self.numbers.get(front)?;
-        self.firsts.get(*number)?.find(u32::from(*last))
+        self.firsts.get(node?)?.find(u32::from(last))
+    }
+
+    /// The node of the text of a node and one more character.
+    pub(crate) fn after(&self, node: Option<usize>, character: char) -> Option<usize>
+        ensures { result ≡ option_and_then (λ n. step_of self.now.tree n character) node }
+    {
+        self.tree.step(node?, character)
     }
 }
 

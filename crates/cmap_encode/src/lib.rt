@@ -1,7 +1,6 @@
 //! Strings of a font that show a text, by the layers of its CMaps.
 #![tactic(auto)]
 
-mod beginnings;
 mod by_cid;
 mod code;
 mod encoder;
@@ -11,6 +10,7 @@ mod gathered;
 mod index;
 mod outside;
 mod runs_by_front;
+mod tree;
 mod ways;
 mod whole;
 

@@ -6,25 +6,23 @@ ghost use Rattle.cmap_tokens.specs.TextSeen.{text_seen};
 ghost use Rattle.cmap_unicode.specs.Characters.{characters_of};
 ghost use Rattle.cmap_values.specs.CodeLengths.{length_of};
 ghost use Rattle.cmap_encode.specs.FirstsSeen.{IsCodeRun};
-ghost use Rattle.cmap_encode.specs.RunsSeen.{AddsTexts, AreRunsByFront, HasNoRuns, number_of, runs_of};
+ghost use Rattle.cmap_encode.specs.RunsSeen.{AddsTexts, AreRunsByFront, HasNoRuns, Numbers, number_of, runs_of};
 
-use crate::beginnings::Beginnings;
 use crate::code::Code;
 use crate::firsts::CodeRun;
+use crate::tree::{EMPTY, Tree};
 use cmap_tokens::utf16::BfString;
 use std::alloc::{AllocError, Global};
-use std::collections::BTreeMap;
 
 /// Runs of codes by fronts: the characters of a text before the last one. The keys of the runs of a front
 /// are the last characters.
 #[derive(Drop)]
 pub(crate) struct RunsByFront {
-    /// The index in `lists` of the runs of each front.
-    pub(crate) numbers: BTreeMap<Vec<char>, usize>,
+    /// Fronts, and what they begin with, as nodes.
+    pub(crate) tree: Tree,
+    /// The runs of each node.
     pub(crate) lists: Vec<Vec<CodeRun>>,
-    /// With which characters fronts begin.
-    pub(crate) beginnings: Beginnings,
-    /// How many characters the longest text has.
+    /// How many characters the longest text has, or 1.
     pub(crate) longest: usize,
 }
 
@@ -34,11 +32,12 @@ impl RunsByFront {
         ensures are { IfOk result AreRunsByFront }
         ensures none { IfOk result HasNoRuns }
     {
+        let mut lists = Vec::new(alloc);
+        lists.push(Vec::new(alloc))?;
         Ok(RunsByFront {
-            numbers: BTreeMap::new(alloc),
-            lists: Vec::new(alloc),
-            beginnings: Beginnings::new(alloc)?,
-            longest: 0,
+            tree: Tree::new(alloc),
+            lists,
+            longest: 1,
         })
     }
 
@@ -64,17 +63,17 @@ impl RunsByFront {
             return Ok(0);
         };
         let run = CodeRun::from_key(u32::from(last), code, more);
-        self.add(alloc, front, run)?;
+        self.add(alloc, &front, run)?;
         Ok(run.range.end - run.range.start)
     }
 
     /// Adds a run to those of a front.
-    fn add(&mut self, alloc: Global, front: Vec<char>, run: CodeRun) -> Result<(), AllocError>
+    fn add(&mut self, alloc: Global, front: &[char], run: CodeRun) -> Result<(), AllocError>
         requires are { AreRunsByFront self.old }
         requires run { IsCodeRun run }
         ensures are { OnOk result (AreRunsByFront self.new) }
         ensures runs { OnOk result ((other : List ℕ) → runs_of self.new other
-            ≡ (if bytes_eq other front.items then runs_of self.old other ++ run ∷ []
+            ≡ (if bytes_eq other front.now then runs_of self.old other ++ run ∷ []
             else runs_of self.old other)) }
     {
         let number = self.number(alloc, front)?;
@@ -82,23 +81,41 @@ impl RunsByFront {
         Ok(())
     }
 
-    /// The index of the runs of a front, which it has from then on.
-    fn number(&mut self, alloc: Global, front: Vec<char>) -> Result<usize, AllocError>
+    /// The node of a front, which it has from then on.
+    fn number(&mut self, alloc: Global, front: &[char]) -> Result<usize, AllocError>
         requires { AreRunsByFront self.old }
         ensures are { OnOk result (AreRunsByFront self.new) }
-        ensures number { IfOk result (λ number. number_of self.new front.items ≡ Some number) }
+        ensures number { IfOk result (λ number. number_of self.new front.now ≡ Some number) }
         ensures runs { OnOk result
             ((other : List ℕ) → runs_of self.new other ≡ runs_of self.old other) }
     {
-        if let Some(number) = self.numbers.get(front.as_slice()) {
-            return Ok(*number);
-        }
-        let number = self.lists.len();
         self.longest = self.longest.max(front.len() + 1);
-        self.beginnings.add(front.as_slice());
+        let mut node = EMPTY;
+        for character in front {
+            node = self.number_after(alloc, node, *character)?;
+        }
+        Ok(node)
+    }
+
+    /// The node of the front of this node and a character.
+    fn number_after(
+        &mut self,
+        alloc: Global,
+        node: usize,
+        character: char,
+    ) -> Result<usize, AllocError>
+        requires { AreRunsByFront self.old }
+        ensures { IfOk result (λ next. (front : List ℕ) → number_of self.old front ≡ Some node
+            → length front + 1 < self.old.longest
+            → Numbers self.old (front ++ character ∷ []) next self.new) }
+    {
+        if let Some(next) = self.tree.step(node, character) {
+            return Ok(next);
+        }
+        let next = self.lists.len();
         self.lists.push(Vec::new(alloc))?;
-        self.numbers.insert(front, number)?;
-        Ok(number)
+        self.tree.put(node, character, next)?;
+        Ok(next)
     }
 }
 

@@ -1,13 +1,15 @@
 //! How the encoding of a text begins, found from the end of the text on.
 
-ghost use Rattle.std.specs.Prelude.{◌≡◌, ◌↔◌, ◌+◌, ◌≤◌, ℕ, List, IfOk, IfSome, IsTrue, MatchOption, length};
+ghost use Rattle.std.specs.Prelude.{◌≡◌, ◌↔◌, ◌+◌, ◌-◌, ◌≤◌, ℕ, List, IfOk, IfSome, IsTrue, MatchOption, length, take};
 ghost use Rattle.cmap_encode.specs.Encodings.{HasNoEncoding, IsEncodingOf};
 ghost use Rattle.cmap_encode.specs.IndexSeen.{IsIndexOf};
+ghost use Rattle.cmap_encode.specs.TreeSeen.{node_of};
 ghost use Rattle.cmap_encode.specs.Ways.{AreInside, AreWays, IsBetter, IsInside, IsRestOf, IsSooner, IsSoonest, IsTryOf, IsWayOf, last_of};
 ghost use Rattle.cmap_unicode.specs.TextsOfCodes.{Font};
 
 use crate::code::Code;
 use crate::index::Index;
+use crate::tree::EMPTY;
 use std::alloc::{AllocError, Global};
 
 /// The first code of the encoding of a text.
@@ -57,14 +59,27 @@ fn best_way(index: &Index, ways: &[Option<Way>], text: &[char]) -> Option<Way>
     ensures inside { IfSome result (λ way. IsInside way (length text.now)) }
 {
     let mut best = None;
+    let mut node = Some(EMPTY);
     for taken in 1..index.longest.min(text.len()) + 1 {
-        best = better(best, way_by(index, ways, text, taken));
+        if node.is_none() {
+            return best;
+        }
+        best = better(best, way_by(index, node, ways, text, taken));
+        node = index.after(node, text[taken - 1]);
     }
     best
 }
 
-/// The way whose first code takes `taken` characters, if a string shows the text so.
-fn way_by(index: &Index, ways: &[Option<Way>], text: &[char], taken: usize) -> Option<Way>
+/// The way whose first code takes `taken` characters, if a string shows the text so. The node is that of the
+/// characters before the last of these.
+fn way_by(
+    index: &Index,
+    node: Option<usize>,
+    ways: &[Option<Way>],
+    text: &[char],
+    taken: usize,
+) -> Option<Way>
+    requires node { node ≡ node_of index.now.tree (take (taken - 1) text.now) }
     requires some { 1 ≤ taken }
     requires within { taken ≤ length text.now }
     requires ways { length ways.now + 1 ≡ length text.now }
@@ -72,7 +87,7 @@ fn way_by(index: &Index, ways: &[Option<Way>], text: &[char], taken: usize) -> O
         → IsTryOf font taken text.now result }
     ensures inside { IfSome result (λ way. way.taken ≡ taken) }
 {
-    let code = index.find(&text[..taken])?;
+    let code = index.find(node, text[taken - 1])?;
     let rest = bytes_of_last(ways, text.len() - taken)?;
     let byte_len = u128::from(code.len.count()).saturating_add(rest);
     Some(Way {

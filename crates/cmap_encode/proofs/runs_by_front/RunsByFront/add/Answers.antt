@@ -19,7 +19,7 @@ returns-clause-are c =
     let AreRuns = λ (list : Vec CodeRun). All IsCodeRun list.items in
     let number = c.in_ok-number.number in
     let list = c.index_mut.result.now in
-    let within = is.within c.args.front.items number c.in_ok-number.ensures.number in
+    let within = is.within c.args.front.now number c.in_ok-number.ensures.number in
     let count : length (set old number c.push.new.self) ≡ length old = length-set old number c.push.new.self in
     let were = subst AreRuns (sym c.index_mut.ensures.value) (All-get_or AreRuns old number list within is.runs) in
     let added : AreRuns c.push.new.self = subst (All IsCodeRun) (sym c.in_ok-push.ensures.items) (All-push IsCodeRun list.items c.args.run were c.requires.run) in
@@ -27,8 +27,7 @@ returns-clause-are c =
       within = λ front other has. subst (λ n. other < n) (sym count) (is.within front other has);
       apart = is.apart;
       longest = is.longest;
-      beginnings = is.beginnings;
-      places = is.places;
+      inside = λ node character next leads. subst (λ n. node < n) (sym count) (is.inside node character next leads);
       runs = All-set AreRuns old number c.push.new.self added is.runs;
     }
 
@@ -37,6 +36,6 @@ returns-clause-runs c = λ other.
     let all = c.number.new.self in
     let is = c.in_ok-number.ensures in
     let list = c.index_mut.result.now in
-    let at = slice_get-get_or all.lists.items c.in_ok-number.number list (is.are.within c.args.front.items c.in_ok-number.number is.number) ∙ ap Some (sym c.index_mut.ensures.value) in
-    run_added (λ front. number_of all front) all.lists.items is.are.within is.are.apart c.args.front.items c.in_ok-number.number c.push.new.self c.args.run list is.number at c.in_ok-push.ensures.items other
-    ∙ ap (λ runs. if bytes_eq other c.args.front.items then runs ++ c.args.run ∷ [] else runs) (is.runs other)
+    let at = slice_get-get_or all.lists.items c.in_ok-number.number list (is.are.within c.args.front.now c.in_ok-number.number is.number) ∙ ap Some (sym c.index_mut.ensures.value) in
+    run_added (λ front. number_of all front) all.lists.items is.are.within is.are.apart c.args.front.now c.in_ok-number.number c.push.new.self c.args.run list is.number at c.in_ok-push.ensures.items other
+    ∙ ap (λ runs. if bytes_eq other c.args.front.now then runs ++ c.args.run ∷ [] else runs) (is.runs other)

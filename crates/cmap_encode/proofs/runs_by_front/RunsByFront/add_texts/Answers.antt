@@ -10,8 +10,8 @@ overflow_sub-result c = let more = c.from_key-run.ensures.more in omega (arith, 
 pub returns-clause-texts : goal.returns-clause-texts
 returns-clause-texts c =
     let its = text_seen c.args.text.now in
-    let front = c.pop.new.self.items in
+    let front = c.deref.result.now in
     let run = c.from_key-run.result in
-    let ends : characters_of its ≡ front ++ c.from.result ∷ [] = sym c.in_ok-front.ensures ∙ c.in-Some.ensures.items ∙ ap (λ last. front ++ last ∷ []) (sym c.from.ensures) in
+    let ends : characters_of its ≡ front ++ c.from.result ∷ [] = sym c.in_ok-front.ensures ∙ c.in-Some.ensures.items ∙ ap (λ last. c.pop.new.self.items ++ last ∷ []) (sym c.from.ensures) ∙ ap (λ cs. cs ++ c.from.result ∷ []) (sym c.deref.ensures.value) in
     texts_added c.args.self.now c.add.new.self front c.from.result its c.args.code run ends c.from_key-run.ensures.key c.from_key-run.ensures.code
     (let more = c.from_key-run.ensures.more in omega (arith, c.from_key-run.ensures.key)) c.in_ok-add.ensures.runs
