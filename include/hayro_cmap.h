@@ -577,8 +577,8 @@ void hayro_cmap_encoder_free(hayro_cmap_encoder *encoder);
 
 /* The string of the font that shows a text, which is UTF-8: hayro_cmap_extract reads the string as codes in
  * codespace ranges, whose texts, one after another, are this text. Of several strings it is the shortest, and
- * of several as short the one whose bytes are least. It takes time by the characters of the text, times those
- * of the longest text of a code that goes on as they do.
+ * of several as short the one whose bytes are least. It takes time by the characters of the text, times at most
+ * those of the longest text of a code.
  *
  * With HAYRO_CMAP_OK the string stands at the head of `room`, and `needed` is how many bytes it has. With
  * HAYRO_CMAP_NO_ROOM `needed` is how many it has, and the room is as it was. With HAYRO_CMAP_REFUSED no string
