@@ -18,7 +18,7 @@ use Rattle.cmap_encode.specs.declared.index.Index.{Index}
 use Rattle.cmap_encode.proofs.CodesRead.{whole_length}
 use Rattle.cmap_encode.proofs.StringsShown.{code_of_front, shows_more}
 use Rattle.cmap_encode.proofs.TextsFound.{found_rest, node_rest}
-use Rattle.cmap_encode.proofs.WaysFound.{push_get, push_last}
+use Rattle.cmap_encode.proofs.ListElements.{push_get, push_last}
 
 module _ (font : Font) where
   -- one code more at the end

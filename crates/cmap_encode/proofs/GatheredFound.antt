@@ -1,7 +1,7 @@
 -- The first code of a text, of those that runs give.
-use Rattle.std.proofs.Common.{◌≡◌, ℕ, zero, suc, ◌-◌, ◌<◌, List, [], ◌∷◌, ◌++◌, length, ◌^◌, Option, Some, None, refl, sym, ap, ◌∙◌, subst, inl, inr, arith, length-append}
+use Rattle.std.proofs.Common.{◌≡◌, ℕ, zero, suc, ◌<◌, List, [], ◌∷◌, ◌++◌, length, ◌^◌, Option, Some, None, refl, sym, ap, ◌∙◌, subst, inl, inr, arith, length-append}
 use Rattle.std.specs.Prelude.{All, Any, IsSomeAnd, MatchOption, option_and_then, option_map, slice_get}
-use Rattle.std.specs.Global.{Vec}
+use Rattle.std.specs.Global.{Box, Vec}
 use Rattle.std.specs.List.{AllZip}
 use Rattle.std.proofs.lemmas.Option.{none-some}
 use Rattle.std.proofs.lemmas.Slice.Zip.{AllZip-left}
@@ -10,7 +10,7 @@ use Rattle.cmap_encode.specs.Codes.{IsBefore, IsCodeOf, IsFirstAmong, code_bytes
 use Rattle.cmap_encode.specs.Encodings.{IsNotAfter, IsString}
 use Rattle.cmap_encode.specs.FirstsSeen.{AreFirsts, Gives, IsCodeRun, IsFirstGiven, first_at}
 use Rattle.cmap_encode.specs.GatheredSeen.{AddsCids, GivesByCid, GivesCode, IsGathered}
-use Rattle.cmap_encode.specs.IndexSeen.{IsIndexed, found_after, found_in}
+use Rattle.cmap_encode.specs.IndexSeen.{AreFirstsOf, IsIndexed, first_in, found_after, found_at, found_in}
 use Rattle.cmap_encode.specs.RunsSeen.{AreRunsByFront, GivesText, items_of, number_of, runs_of}
 use Rattle.cmap_encode.specs.declared.firsts.CodeRun.{CodeRun}
 use Rattle.cmap_encode.specs.declared.index.Index.{Index}
@@ -37,19 +37,23 @@ got_within (x ∷ xs) (suc n) within none = got_within xs n (omega arith) none
 none_given : (key : ℕ) (bytes : List ℕ) → Any (Gives key bytes) [] → ⊥
 none_given key bytes (k, run, within, is, gives) = omega arith
 
-module _ (all : RunsByFront) (firsts : Vec (List CodeRun)) (are : AreRunsByFront all) (zip : AllZip (λ (list : Vec CodeRun). AreFirsts list.items) all.lists.items firsts.items) where
+module _ (all : RunsByFront) (firsts : Vec (Option (Box (List CodeRun)))) (are : AreRunsByFront all) (zip : AllZip (λ (list : Vec CodeRun). AreFirstsOf list.items) all.lists.items firsts.items) where
   abbrev pub index : Index
   index = record { tree = all.tree; firsts = firsts; longest = all.longest }
 
   first_after : (front : List ℕ) (last : ℕ) → IsFirstGiven (runs_of all front) last (found_after index front last)
   first_after front last = by_number (number_of all front) refl
     where
-      by_list : (list : Option (Vec CodeRun)) (found : Option (List CodeRun)) → (list ≡ None → ⊥) → MatchOption list (Unit {0}) (λ runs. IsSomeAnd found (AreFirsts runs.items)) → IsFirstGiven (items_of list) last (option_and_then (λ firsts. option_map code_bytes (first_at firsts last)) found)
+      by_runs : (runs : List CodeRun) (found : Option (Box (List CodeRun))) → AreFirstsOf runs found → IsFirstGiven runs last (first_in found last)
+      by_runs runs None none = subst (λ l. IsFirstGiven l last None) (sym none) (none_given last)
+      by_runs runs (Some firsts) are = are last
+
+      by_list : (list : Option (Vec CodeRun)) (found : Option (Option (Box (List CodeRun)))) → (list ≡ None → ⊥) → MatchOption list (Unit {0}) (λ runs. IsSomeAnd found (AreFirstsOf runs.items)) → IsFirstGiven (items_of list) last (option_and_then (λ found. first_in found last) found)
       by_list None found some is = absurd (some refl)
       by_list (Some list) None some is = absurd is
-      by_list (Some list) (Some found) some is = is last
+      by_list (Some list) (Some found) some is = by_runs list.items found is
 
-      by_number : (number : Option ℕ) → number_of all front ≡ number → IsFirstGiven (items_of (option_and_then (slice_get all.lists.items) number)) last (option_and_then (λ firsts. option_map code_bytes (first_at firsts last)) (option_and_then (slice_get firsts.items) number))
+      by_number : (number : Option ℕ) → number_of all front ≡ number → IsFirstGiven (items_of (option_and_then (slice_get all.lists.items) number)) last (found_at index number last)
       by_number None has = none_given last
       by_number (Some number) has = by_list (slice_get all.lists.items number) (slice_get firsts.items number) (got_within all.lists.items number (are.within front number has)) (AllZip-left _ all.lists.items firsts.items zip number)
 
@@ -77,7 +81,7 @@ module _ (all : RunsByFront) (firsts : Vec (List CodeRun)) (are : AreRunsByFront
   longest_by : (front : List ℕ) (last : ℕ) (bytes : List ℕ) → found_after index front last ≡ Some bytes → length front < all.longest
   longest_by front last bytes found = by_number (number_of all front) refl found
     where
-      by_number : (number : Option ℕ) → number_of all front ≡ number → option_and_then (λ firsts. option_map code_bytes (first_at firsts last)) (option_and_then (slice_get firsts.items) number) ≡ Some bytes → length front < all.longest
+      by_number : (number : Option ℕ) → number_of all front ≡ number → found_at index number last ≡ Some bytes → length front < all.longest
       by_number None has found = absurd (none-some bytes found)
       by_number (Some number) has found = are.longest front number has
 

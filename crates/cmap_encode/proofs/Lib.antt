@@ -1,3 +1,4 @@
+pub mod ListElements
 pub mod Order
 pub mod Numbers
 pub mod CodesRead

@@ -6,7 +6,7 @@ use Rattle.std.proofs.lemmas.List.{get_or_read}
 use Rattle.std.proofs.lemmas.Option.{get_or_from_slice_get}
 use Rattle.cmap_encode.specs.TreeSeen.{step_of}
 use Rattle.cmap_encode.specs.declared.index.Index.{Index}
-use Rattle.cmap_encode.proofs.RunsNumbered.{set_elsewhere, set_here}
+use Rattle.cmap_encode.proofs.ListElements.{set_elsewhere, set_here}
 
 module _ (index : Index) (text : List ℕ) (old nodes : List (Option ℕ)) (at : ℕ) (result : Option ℕ) (last : ℕ) where
   abbrev further : ℕ → Option ℕ → Option ℕ

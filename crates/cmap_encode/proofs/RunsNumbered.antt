@@ -1,5 +1,5 @@
 -- The index of each front: one more, and one more run.
-use Rattle.std.proofs.Common.{◌≡◌, ℕ, zero, suc, ◌+◌, ◌<◌, false, List, [], ◌∷◌, ◌++◌, length, ◌⊎◌, Option, Some, None, refl, sym, ap, ◌∙◌, inl, inr, arith}
+use Rattle.std.proofs.Common.{◌≡◌, ℕ, ◌+◌, ◌<◌, false, List, [], ◌∷◌, ◌++◌, length, ◌⊎◌, Option, Some, None, refl, sym, ap, ◌∙◌, inl, inr, arith}
 use Rattle.std.specs.Prelude.{if◌then◌else◌, option_and_then, slice_get, slice_set}
 use Rattle.std.specs.Str.{bytes_eq}
 use Rattle.std.specs.Global.{Vec}
@@ -8,28 +8,7 @@ use Rattle.std.proofs.lemmas.Option.{same_Some}
 use Rattle.std.proofs.lemmas.Slice.Eq.{bytes_eq-Decides}
 use Rattle.cmap_encode.specs.RunsSeen.{items_of}
 use Rattle.cmap_encode.specs.declared.firsts.CodeRun.{CodeRun}
-
--- ---- an element of a list
-kept_before : {A : Type 0} (xs ys : List A) (n : ℕ) → n < length xs → slice_get (xs ++ ys) n ≡ slice_get xs n
-kept_before [] ys n within = absurd (omega arith)
-kept_before (x ∷ xs) ys zero within = refl
-kept_before (x ∷ xs) ys (suc n) within = kept_before xs ys n (omega arith)
-
-pub put_last : {A : Type 0} (xs : List A) (y : A) → slice_get (xs ++ y ∷ []) (length xs) ≡ Some y
-put_last [] y = refl
-put_last (x ∷ xs) y = put_last xs y
-
-pub set_here : {A : Type 0} (xs : List A) (n : ℕ) (y : A) → n < length xs → slice_get (slice_set xs n y) n ≡ Some y
-set_here [] n y within = absurd (omega arith)
-set_here (x ∷ xs) zero y within = refl
-set_here (x ∷ xs) (suc n) y within = set_here xs n y (omega arith)
-
-pub set_elsewhere : {A : Type 0} (xs : List A) (n m : ℕ) (y : A) → (m ≡ n → ⊥) → slice_get (slice_set xs n y) m ≡ slice_get xs m
-set_elsewhere [] n m y apart = refl
-set_elsewhere (x ∷ xs) zero zero y apart = absurd (apart refl)
-set_elsewhere (x ∷ xs) zero (suc m) y apart = refl
-set_elsewhere (x ∷ xs) (suc n) zero y apart = refl
-set_elsewhere (x ∷ xs) (suc n) (suc m) y apart = set_elsewhere xs n m y (λ same. apart (ap suc same))
+use Rattle.cmap_encode.proofs.ListElements.{push_get, push_last, set_elsewhere, set_here}
 
 -- ---- numbers of fronts
 module _ (old : List ℕ → Option ℕ) (lists : List (Vec CodeRun)) (within : (front : List ℕ) (number : ℕ) → old front ≡ Some number → number < length lists)
@@ -63,9 +42,9 @@ module _ (old : List ℕ → Option ℕ) (lists : List (Vec CodeRun)) (within : 
               ]
         ]
 
-    old_runs : (found : Option ℕ) (other : List ℕ) (more : List (Vec CodeRun)) → old other ≡ found → items_of (option_and_then (slice_get (lists ++ more)) found) ≡ items_of (option_and_then (slice_get lists) found)
-    old_runs None other more has = refl
-    old_runs (Some number) other more has = ap items_of (kept_before lists more number (within other number has))
+    old_runs : (found : Option ℕ) (other : List ℕ) (runs : Vec CodeRun) → old other ≡ found → items_of (option_and_then (slice_get (lists ++ runs ∷ [])) found) ≡ items_of (option_and_then (slice_get lists) found)
+    old_runs None other runs has = refl
+    old_runs (Some number) other runs has = ap items_of (push_get lists runs number (within other number has))
 
     pub same_runs : (runs : Vec CodeRun) → runs.items ≡ [] → (other : List ℕ) → runs_at new (lists ++ runs ∷ []) other ≡ runs_at old lists other
     same_runs runs empty other =
@@ -73,10 +52,10 @@ module _ (old : List ℕ → Option ℕ) (lists : List (Vec CodeRun)) (within : 
           | inl same ↦
               let at : new other ≡ Some (length lists) = is other ∙ ap (λ b. if b then Some (length lists) else old other) same in
               let was : old other ≡ None = ap old ((bytes_eq-Decides other front).0 same) ∙ none in
-              ap (λ o. items_of (option_and_then (slice_get (lists ++ runs ∷ [])) o)) at ∙ ap items_of (put_last lists runs) ∙ empty ∙ sym (ap (λ o. items_of (option_and_then (slice_get lists) o)) was)
+              ap (λ o. items_of (option_and_then (slice_get (lists ++ runs ∷ [])) o)) at ∙ ap items_of (push_last lists runs (length lists) refl) ∙ empty ∙ sym (ap (λ o. items_of (option_and_then (slice_get lists) o)) was)
           | inr unlike ↦
               let at : new other ≡ old other = is other ∙ ap (λ b. if b then Some (length lists) else old other) unlike in
-              ap (λ o. items_of (option_and_then (slice_get (lists ++ runs ∷ [])) o)) at ∙ old_runs (old other) other (runs ∷ []) refl
+              ap (λ o. items_of (option_and_then (slice_get (lists ++ runs ∷ [])) o)) at ∙ old_runs (old other) other runs refl
         ]
 
   -- one more run of a front

@@ -3,12 +3,12 @@ use Rattle.std.proofs.Common.{◌≡◌, ℕ, ◌-◌, ◌⊎◌, List, [], ◌�
 use Rattle.std.specs.Prelude.{slice_get}
 use Rattle.std.proofs.lemmas.List.{take_at}
 use Rattle.std.proofs.lemmas.Option.{same_Some}
-use Rattle.cmap_encode.proofs.RunsNumbered.{put_last}
+use Rattle.cmap_encode.proofs.ListElements.{push_last}
 
 pub last_got : (front : List ℕ) (last : ℕ) → slice_get (front ++ last ∷ []) (length (front ++ last ∷ []) - 1) ≡ Some last
 last_got front last =
     let at : length front ≡ length (front ++ last ∷ []) - 1 = omega (arith, length-append front (last ∷ [])) in
-    subst (λ n. slice_get (front ++ last ∷ []) n ≡ Some last) at (put_last front last)
+    subst (λ n. slice_get (front ++ last ∷ []) n ≡ Some last) at (push_last front last (length front) refl)
 
 pub front_taken : (front : List ℕ) (last : ℕ) → take (length (front ++ last ∷ []) - 1) (front ++ last ∷ []) ≡ front
 front_taken front last = take_at front (last ∷ []) (length (front ++ last ∷ []) - 1) (omega (arith, length-append front (last ∷ [])))

@@ -2,9 +2,8 @@
 use Rattle.std.proofs.Common.{◌≡◌, ℕ, ◌+◌, ◌-◌, ◌<◌, ◌≤◌, ◌⊎◌, List, [], ◌∷◌, ◌++◌, length, take, drop, min, Option, Some, None, refl, sym, ap, ◌∙◌, subst, inl, inr, arith, length-append, length-drop}
 use Rattle.std.specs.Prelude.{IfSome, MatchOption, option_map, slice_get}
 use Rattle.std.proofs.lemmas.Bool.{cases_lt}
-use Rattle.std.proofs.lemmas.List.{drop-drop, drop_all, get_or_append_left, get_or_push, length-take-le, length_push, take-append-drop}
+use Rattle.std.proofs.lemmas.List.{drop-drop, drop_all, length-take-le, length_push, take-append-drop}
 use Rattle.std.proofs.lemmas.List.Elements.{All-append, All-nil}
-use Rattle.std.proofs.lemmas.Option.{slice_get-get_or}
 use Rattle.cmap_values.specs.CodeLengths.{length_of}
 use Rattle.cmap_unicode.specs.TextsOfCodes.{Font}
 use Rattle.cmap_encode.specs.Codes.{IsBefore, IsCodeOf, IsFirstAmong, aligned, code_bytes}
@@ -14,6 +13,7 @@ use Rattle.cmap_encode.specs.Ways.{AreInside, AreWays, IsBetter, IsInside, IsRes
 use Rattle.cmap_encode.specs.declared.index.Index.{Index}
 use Rattle.cmap_encode.specs.declared.ways.Way.{Way}
 use Rattle.cmap_encode.proofs.CodesRead.{no_front, whole_length}
+use Rattle.cmap_encode.proofs.ListElements.{push_get, push_last}
 use Rattle.cmap_encode.proofs.Numbers.{IsFront, at_padded, code_count, code_string, no_rest}
 use Rattle.cmap_encode.proofs.Order.{not_after_append, not_after_chain, not_after_shorter}
 use Rattle.cmap_encode.proofs.StringsShown.{code_text, first_shown, nothing_shown, shows_more}
@@ -199,12 +199,6 @@ ways_of_last font text ways left few within are =
 
 pub no_ways : (font : Font) (text : List ℕ) → AreWays font text []
 no_ways font text = record { few = omega arith; each = λ k lt. absurd (omega arith) }
-
-pub push_get : {A : Type 0} (xs : List A) (x : A) (k : ℕ) → k < length xs → slice_get (xs ++ x ∷ []) k ≡ slice_get xs k
-push_get xs x k lt = slice_get-get_or (xs ++ x ∷ []) k x (omega (arith, length_push xs x)) ∙ ap Some (get_or_append_left xs (x ∷ []) x k lt) ∙ sym (slice_get-get_or xs k x lt)
-
-pub push_last : {A : Type 0} (xs : List A) (x : A) (k : ℕ) → k ≡ length xs → slice_get (xs ++ x ∷ []) k ≡ Some x
-push_last xs x k at = slice_get-get_or (xs ++ x ∷ []) k x (omega (arith, length_push xs x)) ∙ ap Some (get_or_push xs x x k (sym at))
 
 -- one more
 pub more_ways : (font : Font) (text : List ℕ) (ways : List (Option Way)) (way : Option Way) (left : ℕ) → left ≡ length ways + 1 → left ≤ length text → AreWays font text ways → IsWayOf font (last_of left text) way → AreWays font text (ways ++ way ∷ [])

@@ -1,14 +1,24 @@
 -- Private aid: what an index has for each text.
-use Rattle.std.specs.Prelude.{◌≡◌, ℕ, ◌-◌, ◌≤◌, List, length, take, Option, Some, option_and_then, option_map, slice_get}
+use Rattle.std.specs.Prelude.{◌≡◌, ℕ, ◌-◌, ◌≤◌, List, [], length, take, Option, MatchOption, Some, option_and_then, option_map, slice_get}
+use Rattle.std.specs.Global.{Box}
 use Rattle.cmap_unicode.specs.TextsOfCodes.{Font}
 use Rattle.cmap_encode.specs.Codes.{IsBefore, IsFirstAmong, code_bytes}
-use Rattle.cmap_encode.specs.FirstsSeen.{first_at}
+use Rattle.cmap_encode.specs.FirstsSeen.{AreFirsts, first_at}
 use Rattle.cmap_encode.specs.TreeSeen.{node_of}
+use Rattle.cmap_encode.specs.declared.firsts.CodeRun.{CodeRun}
 use Rattle.cmap_encode.specs.declared.index.Index.{Index}
+
+-- for each key the first code that the runs give it, if there are runs
+abbrev pub AreFirstsOf : List CodeRun → Option (Box (List CodeRun)) → Type 0
+AreFirstsOf runs found = MatchOption found (runs ≡ []) (λ firsts. AreFirsts runs firsts.value)
+
+-- the bytes of the code of a key
+abbrev pub first_in : Option (Box (List CodeRun)) → ℕ → Option (List ℕ)
+first_in found key = option_and_then (λ firsts. option_map code_bytes (first_at firsts.value key)) found
 
 -- the bytes of the code that it has for the text of a node and a last character
 abbrev pub found_at : Index → Option ℕ → ℕ → Option (List ℕ)
-found_at index node last = option_and_then (λ firsts. option_map code_bytes (first_at firsts last)) (option_and_then (slice_get index.firsts.items) node)
+found_at index node last = option_and_then (λ found. first_in found last) (option_and_then (slice_get index.firsts.items) node)
 
 -- and for a last character after a front
 abbrev pub found_after : Index → List ℕ → ℕ → Option (List ℕ)

@@ -5,8 +5,8 @@ ghost use Rattle.std.specs.List.{AllZip};
 ghost use Rattle.std.specs.Global.{Vec as List_of};
 ghost use Rattle.cmap_unicode.specs.Characters.{font_of};
 ghost use Rattle.cmap_encode.specs.Codes.{code_bytes};
-ghost use Rattle.cmap_encode.specs.FirstsSeen.{AreFirsts, IsCodeRun};
-ghost use Rattle.cmap_encode.specs.IndexSeen.{IsIndexOf, found_at};
+ghost use Rattle.cmap_encode.specs.FirstsSeen.{IsCodeRun};
+ghost use Rattle.cmap_encode.specs.IndexSeen.{AreFirstsOf, IsIndexOf, found_at};
 ghost use Rattle.cmap_encode.specs.TreeSeen.{step_of};
 
 use crate::by_cid::add_cids;
@@ -22,8 +22,8 @@ use std::alloc::{AllocError, Global};
 pub(crate) struct Index {
     /// Fronts, the characters of texts before the last one, as nodes.
     tree: Tree,
-    /// The first code of each last character, for each node.
-    firsts: Vec<Firsts>,
+    /// The first code of each last character, for each node that a last character follows.
+    firsts: Vec<Option<Box<Firsts>>>,
     /// How many characters the longest text has, or 1.
     pub(crate) longest: usize,
 }
@@ -48,7 +48,7 @@ impl Index {
     pub(crate) fn find(&self, node: Option<usize>, last: char) -> Option<Code>
         ensures { option_map code_bytes result ≡ found_at self.now node last }
     {
-        self.firsts.get(node?)?.find(u32::from(last))
+        self.firsts.get(node?)?.as_ref()?.find(u32::from(last))
     }
 
     /// The node of the text of a node and one more character.
@@ -59,15 +59,30 @@ impl Index {
     }
 }
 
-/// The first code of each key, by each of the lists.
-fn firsts_of(alloc: Global, lists: Vec<Vec<CodeRun>>) -> Result<Vec<Firsts>, AllocError>
+/// The first code of each key, by each of the lists that has runs.
+fn firsts_of(
+    alloc: Global,
+    lists: Vec<Vec<CodeRun>>,
+) -> Result<Vec<Option<Box<Firsts>>>, AllocError>
     requires { All (λ (list : List_of CodeRun). All IsCodeRun list.items) lists.items }
     ensures { IfOk result
-        (λ all. AllZip (λ list. AreFirsts list.items) lists.items all.items) }
+        (λ all. AllZip (λ list. AreFirstsOf list.items) lists.items all.items) }
 {
     let mut all = Vec::with_capacity(alloc, lists.len())?;
     for runs in lists {
-        all.push(Firsts::build(alloc, runs)?)?;
+        all.push(first_codes(alloc, runs)?)?;
     }
     Ok(all)
+}
+
+/// The first code of each key, if there are runs.
+fn first_codes(alloc: Global, runs: Vec<CodeRun>) -> Result<Option<Box<Firsts>>, AllocError>
+    requires { All IsCodeRun runs.items }
+    ensures { IfOk result (AreFirstsOf runs.items) }
+{
+    if runs.is_empty() {
+        return Ok(None);
+    }
+    let firsts = Firsts::build(alloc, runs)?;
+    Ok(Some(Box::new(alloc, firsts)?))
 }

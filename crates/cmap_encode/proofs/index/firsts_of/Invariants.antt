@@ -1,12 +1,12 @@
 use Rattle.std.proofs.Common.{◌≡◌, ◌++◌}
 use Rattle.std.specs.Global.{Vec}
 use Rattle.std.specs.List.{AllZip}
-use Rattle.cmap_encode.specs.FirstsSeen.{AreFirsts}
+use Rattle.cmap_encode.specs.IndexSeen.{AreFirstsOf}
 use Rattle.cmap_encode.specs.declared.firsts.CodeRun.{CodeRun}
 use Rattle.cmap_encode.proofs.index.firsts_of.Given as goal
 
 abbrev pub invariant-loop-runs : goal.invariant-loop-runs
 invariant-loop-runs l = record {
   lists : l.yielded ++ l.runs-iterator.rest.items ≡ l.fn.lists.items;
-  firsts : AllZip (λ (list : Vec CodeRun). AreFirsts list.items) l.yielded l.all.items;
+  firsts : AllZip (λ (list : Vec CodeRun). AreFirstsOf list.items) l.yielded l.all.items;
 }
