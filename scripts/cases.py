@@ -3,6 +3,7 @@ examples/command."""
 
 import os
 import re
+import stat
 import subprocess
 import unicodedata
 from dataclasses import dataclass, field
@@ -23,10 +24,12 @@ class Misspelled(Exception):
 
 @dataclass
 class File:
-    """The bytes of a file, and the places in them that are marked, in order; or what a link leads to."""
+    """The bytes of a file, and the places in them that are marked, in order; or what a link leads to; or a pipe."""
 
     path: bytes
     target: bytes | None = None
+    is_pipe: bool = False
+    mode: int | None = None
     bytes: bytearray = field(default_factory=bytearray)
     marks: list = field(default_factory=list)
 
@@ -73,6 +76,7 @@ class Case:
     errors: list = field(default_factory=list)
     status: int = 0
     written: list = field(default_factory=list)
+    modes: dict = field(default_factory=dict)
 
 
 def unescape(text):
@@ -130,6 +134,8 @@ class Reader:
         elif word == "link":
             path, target = rest.split(" ")
             self.steps.append(File(unescape(path), target=unescape(target)))
+        elif word == "pipe":
+            self.steps.append(File(unescape(rest), is_pipe=True))
         elif isinstance(self.open, Case):
             self.read_expected(word, rest)
         elif isinstance(self.open, File):
@@ -164,6 +170,8 @@ class Reader:
             file.bytes += BINARY_HEAD + (10).to_bytes(4, "big")
         elif word == "segment":
             file.add_segment(*rest.partition(" ")[::2])
+        elif word == "mode":
+            file.mode = int(rest, 8)
         else:
             raise Misspelled(f"no word of a file: {word}")
         if file.marks:
@@ -186,6 +194,9 @@ class Reader:
             case.written.append(File(unescape(rest)))
         elif word == "=":
             case.written[-1].bytes += unescape(rest) + b"\n"
+        elif word == "mode":
+            path, mode = rest.split(" ")
+            case.modes[unescape(path)] = int(mode, 8)
         else:
             raise Misspelled(f"no word of a case: {word}")
 
@@ -224,8 +235,12 @@ def write(folder, file):
     os.makedirs(os.path.dirname(path), exist_ok=True)
     if file.target is not None:
         os.symlink(file.target, path)
+    elif file.is_pipe:
+        os.mkfifo(path)
     else:
         Path(os.fsdecode(path)).write_bytes(file.bytes)
+    if file.mode is not None:
+        os.chmod(path, file.mode)
 
 
 def run(program, folder, words, given=b"", variables=None):
@@ -269,7 +284,15 @@ def failures_of(program, folder, case):
             found.append(f"{name}:\n{text}expected:\n{text_of(expected)}")
         if harmful(output):
             found.append(f"{name} has characters that do harm: {harmful(output)!a}")
-    return found + [fault for file in case.written for fault in differences(folder, file)]
+    found += [fault for file in case.written for fault in differences(folder, file)]
+    return found + [fault for path, mode in case.modes.items() for fault in mode_faults(folder, path, mode)]
+
+
+def mode_faults(folder, path, mode):
+    """What is wrong with the permissions of a file."""
+    got = stat.S_IMODE(os.stat(os.path.join(os.fsencode(folder), path)).st_mode)
+    if got != mode:
+        yield f"{os.fsdecode(path)}: mode {got:o}, expected {mode:o}"
 
 
 def differences(folder, file):

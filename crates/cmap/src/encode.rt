@@ -42,7 +42,11 @@ pub(crate) fn encode(
         missing,
         json: options.of_texts.json,
     };
-    printer.print_strings(rt, &texts)
+    let status = printer.print_strings(rt, &texts)?;
+    if status != ACCEPTED {
+        font.report_missing(rt, bases)?;
+    }
+    Ok(status)
 }
 
 /// The bytes that stand for a character that can't be shown.
@@ -77,11 +81,7 @@ impl Printer {
 
     /// Prints the string of a text, and gives whether it shows the whole text.
     fn print_string(&self, rt: &HostRuntime, text: &str) -> Result<bool, Failure> {
-        let missing = match &self.missing {
-            Some(bytes) => Some(bytes.as_slice()),
-            None => None,
-        };
-        let found = string_of(rt.alloc(), &self.encoder, text, missing)?;
+        let found = string_of(rt.alloc(), &self.encoder, text, self.missing.as_deref())?;
         let mut line = String::new(rt.alloc());
         if self.json {
             push_string_json(rt.alloc(), &mut line, text, &found)?;

@@ -1,14 +1,16 @@
 //! `cmap find`: the codes that have a CID or a text.
 
 use crate::font::{StringOptions, font_of};
+use crate::strings::NOT_UTF8;
 use cmap_files::failure::{Failure, fault};
+use cmap_files::path_text::is_plain;
 use cmap_files::status::{ACCEPTED, REFUSED};
-use cmap_report::find::{Wanted, fault_of, is_found, push_codes, push_json};
+use cmap_report::find::{Wanted, fault_of, push_codes, push_json};
 use cmap_sources::bases::Bases;
 use cmap_unicode::Extractor;
 use std::alloc::{AllocError, Global};
 
-/// Prints the codes that each argument asks for, and gives the status.
+/// Prints the codes that each argument asks for. The status says whether there are codes for each.
 pub(crate) fn find(
     rt: &HostRuntime,
     options: &StringOptions<'_, '_>,
@@ -16,40 +18,35 @@ pub(crate) fn find(
 ) -> Result<u8, Failure> {
     let wanted = wanted_of(rt, options.strings)?;
     let font = font_of(rt, options, bases)?;
-    let lines = lines_of(rt.alloc(), &font.extractor(), &wanted, options.json)?;
+    let mut lines = String::new(rt.alloc());
+    let are_found = push_all(
+        rt.alloc(),
+        &mut lines,
+        &font.extractor(),
+        &wanted,
+        options.json,
+    )?;
     rt.print(lines.as_str())?;
-    Ok(status_of(rt.alloc(), &font.extractor(), &wanted)?)
+    Ok(if are_found { ACCEPTED } else { REFUSED })
 }
 
-/// The status: whether there are codes for each argument.
-fn status_of(
+/// Adds the lines of all arguments, and gives whether there are codes for each.
+fn push_all(
     alloc: Global,
-    font: &Extractor<'_>,
-    wanted: &[(&str, Wanted<'_>)],
-) -> Result<u8, AllocError> {
-    for (_, wanted) in wanted {
-        if !is_found(alloc, font, *wanted)? {
-            return Ok(REFUSED);
-        }
-    }
-    Ok(ACCEPTED)
-}
-
-fn lines_of(
-    alloc: Global,
+    lines: &mut String,
     font: &Extractor<'_>,
     wanted: &[(&str, Wanted<'_>)],
     json: bool,
-) -> Result<String, AllocError> {
-    let mut lines = String::new(alloc);
+) -> Result<bool, AllocError> {
+    let mut are_found = true;
     for (argument, wanted) in wanted {
-        if json {
-            push_json(alloc, &mut lines, font, argument, *wanted)?;
+        are_found &= if json {
+            push_json(alloc, lines, font, argument, *wanted)?
         } else {
-            push_codes(alloc, &mut lines, font, argument, *wanted)?;
-        }
+            push_codes(alloc, lines, font, argument, *wanted)?
+        };
     }
-    Ok(lines)
+    Ok(are_found)
 }
 
 /// What the arguments ask for, each with its argument.
@@ -59,6 +56,9 @@ fn wanted_of<'w>(
 ) -> Result<Vec<(&'w str, Wanted<'w>)>, Failure> {
     let mut asked = Vec::new(rt.alloc());
     for argument in arguments {
+        if !is_plain(argument) {
+            return Err(fault(rt, argument, NOT_UTF8));
+        }
         match Wanted::parse(argument) {
             Some(wanted) => asked.push((*argument, wanted))?,
             None => return Err(fault(rt, argument, fault_of(argument))),

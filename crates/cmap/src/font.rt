@@ -5,10 +5,11 @@ use crate::command_line::{arguments_of, file_of};
 use crate::options::{Sources, manner_of};
 use crate::strings::{strings_of, texts_of};
 use clap::ArgMatches;
-use cmap_files::failure::Failure;
+use cmap_files::failure::{Failure, report_message};
 use cmap_files::inputs::{STANDARD_INPUT, needed};
+use cmap_files::path_text::path_text;
 use cmap_sources::bases::Bases;
-use cmap_sources::maps::{map_needed, map_of};
+use cmap_sources::maps::{map_needed, map_of, unknown_name};
 use cmap_sources::reading::Manner;
 use cmap_unicode::{Extractor, collection_name};
 use hayro_cmap::CMap;
@@ -45,6 +46,8 @@ pub(crate) struct Font {
     to_unicode: Option<CMap>,
     /// From the CIDs of the encoding's collection to Unicode.
     collection: Option<CMap>,
+    /// The name of that CMap, if no file has it.
+    missing: Option<Vec<u8>>,
 }
 
 impl Font {
@@ -63,6 +66,19 @@ impl Font {
             to_unicode: Some(to_unicode.layers()),
             collection,
         }
+    }
+
+    /// Reports that no file has the CMap of the collection, if it lacks. It may be why a code has no text.
+    pub(crate) fn report_missing(
+        &self,
+        rt: &HostRuntime,
+        bases: &Bases<'_>,
+    ) -> Result<(), Failure> {
+        let Some(name) = &self.missing else {
+            return Ok(());
+        };
+        let name = path_text(rt.alloc(), name)?;
+        report_message(rt, unknown_name(rt, name.as_str(), bases))
     }
 }
 
@@ -96,11 +112,14 @@ pub(crate) fn font_of(
 ) -> Result<Font, Failure> {
     let encoding = map_needed(rt, options.file, options.manner, bases)?;
     let to_unicode = to_unicode_of(rt, options, bases)?;
-    let collection = collection_of(rt, &encoding, options, bases)?;
+    let name = collection_name(rt.alloc(), encoding.layers())?;
+    let collection = collection_of(rt, name.as_deref(), options, bases)?;
+    let missing = if collection.is_none() { name } else { None };
     Ok(Font {
         encoding,
         to_unicode,
         collection,
+        missing,
     })
 }
 
@@ -115,21 +134,19 @@ fn to_unicode_of(
     }
 }
 
-/// The CMap from the CIDs of an encoding's collection to Unicode, if a file has its name.
+/// The CMap of this name, from the CIDs of an encoding's collection to Unicode, if a file has the name.
 fn collection_of(
     rt: &HostRuntime,
-    encoding: &CMap,
+    name: Option<&[u8]>,
     options: &StringOptions<'_, '_>,
     bases: &mut Bases<'_>,
 ) -> Result<Option<CMap>, Failure> {
-    let Some(name) = collection_name(rt.alloc(), encoding.layers())? else {
+    let Some(name) = name else {
         return Ok(None);
     };
-    let Ok(path) = str::from_utf8(&name) else {
+    let Some(bytes) = bases.file(rt, name)? else {
         return Ok(None);
     };
-    let Some(bytes) = bases.file(rt, &name)? else {
-        return Ok(None);
-    };
-    Ok(Some(map_of(rt, path, bytes.as_slice(), options.manner, bases)?))
+    let path = path_text(rt.alloc(), name)?;
+    Ok(Some(map_of(rt, path.as_str(), bytes.as_slice(), options.manner, bases)?))
 }

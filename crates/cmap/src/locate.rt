@@ -9,6 +9,7 @@ use cmap_escape::json;
 use cmap_escape::object::Object;
 use cmap_files::failure::{Failure, report_message};
 use cmap_files::folders::is_file;
+use cmap_files::path_text::path_bytes;
 use cmap_files::status::{ACCEPTED, REFUSED};
 use cmap_sources::bases::Bases;
 use cmap_sources::maps::unknown_name;
@@ -61,7 +62,8 @@ fn path_of(
     if is_file(rt, argument) {
         return Ok(Some(String::from_str(rt.alloc(), argument)?));
     }
-    bases.locate(rt, argument.as_bytes(), options.sources.bundle)
+    let name = path_bytes(rt.alloc(), argument)?;
+    bases.locate(rt, &name, options.sources.bundle)
 }
 
 /// Prints the path of the file that an argument stands for.

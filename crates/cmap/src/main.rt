@@ -50,7 +50,7 @@ fn run(rt: &HostRuntime) -> Result<u8, Failure> {
     let command = command(rt.alloc())?;
     match command.try_get_matches_from(arguments.as_slice()) {
         Ok(matches) => run_arguments(rt, &matches),
-        Err(error) => print_usage(rt, &error),
+        Err(error) => print_usage(rt, &arguments, &error),
     }
 }
 

@@ -1,9 +1,10 @@
 //! Options that several subcommands have.
 
 use crate::command_line::flags::{
-    BASE, BUDGET, BUNDLE, FILES_FROM, LENIENT, NAME, NO_PREDEFINED, TO_UNICODE,
+    BASE, BUDGET, BUNDLE, CODES, FILES_FROM, LENIENT, NAME, NO_PREDEFINED, TO_UNICODE,
 };
 use crate::command_line::{arguments_of, files_of, other_of};
+use crate::strings::LISTED_STANDARD_INPUT;
 use clap::ArgMatches;
 use cmap_escape::count::Count;
 use cmap_files::failure::Failure;
@@ -69,8 +70,9 @@ pub(crate) fn manner_of(arguments: &ArgMatches<'_>) -> Manner {
 /// Whether several arguments ask for the standard input, which can be read once.
 pub(crate) fn asks_twice_for_standard_input(arguments: &ArgMatches<'_>) -> bool {
     let mut count = Count::of(0);
-    add_asking(&mut count, files_of(arguments));
-    add_asking(&mut count, arguments_of(arguments));
+    add_asking(&mut count, files_of(arguments), STANDARD_INPUT);
+    add_asking(&mut count, arguments_of(arguments), STANDARD_INPUT);
+    add_asking(&mut count, CODES.texts(arguments), LISTED_STANDARD_INPUT);
     for option in &[BUNDLE, TO_UNICODE, FILES_FROM] {
         if option.text(arguments) == Some(STANDARD_INPUT) {
             count.add_one();
@@ -83,10 +85,10 @@ pub(crate) fn asks_twice_for_standard_input(arguments: &ArgMatches<'_>) -> bool 
     count.get() > 1
 }
 
-/// Adds how many arguments ask for the standard input.
-fn add_asking(count: &mut Count, arguments: &[&str]) {
+/// Adds how many arguments ask for the standard input, which are spelled so.
+fn add_asking(count: &mut Count, arguments: &[&str], spelled: &str) {
     for argument in arguments {
-        if *argument == STANDARD_INPUT {
+        if *argument == spelled {
             count.add_one();
         }
     }

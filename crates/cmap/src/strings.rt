@@ -2,6 +2,13 @@
 
 use cmap_files::failure::{Failure, fault};
 use cmap_files::inputs::{STANDARD_INPUT, needed};
+use cmap_files::path_text::is_plain;
+
+/// The argument of `--codes` that stands for the strings of the standard input.
+pub(crate) const LISTED_STANDARD_INPUT: &str = "@-";
+
+/// What is wrong with a text.
+pub(crate) const NOT_UTF8: &str = "not UTF-8";
 
 /// The strings of the arguments; `-` stands for those of the standard input.
 pub(crate) fn strings_of(rt: &HostRuntime, arguments: &[&str]) -> Result<Vec<Vec<u8>>, Failure> {
@@ -37,6 +44,8 @@ pub(crate) fn texts_of(rt: &HostRuntime, arguments: &[&str]) -> Result<Vec<Strin
     for argument in arguments {
         if *argument == STANDARD_INPUT {
             add_lines(rt, argument, &mut texts)?;
+        } else if !is_plain(argument) {
+            return Err(fault(rt, argument, NOT_UTF8));
         } else {
             texts.push(String::from_str(rt.alloc(), argument)?)?;
         }
@@ -48,7 +57,7 @@ pub(crate) fn texts_of(rt: &HostRuntime, arguments: &[&str]) -> Result<Vec<Strin
 fn add_lines(rt: &HostRuntime, path: &str, texts: &mut Vec<String>) -> Result<(), Failure> {
     let bytes = needed(rt, path)?;
     let Ok(text) = str::from_utf8(&bytes) else {
-        return Err(fault(rt, path, "not UTF-8"));
+        return Err(fault(rt, path, NOT_UTF8));
     };
     for line in text.lines() {
         texts.push(String::from_str(rt.alloc(), line)?)?;
@@ -60,7 +69,7 @@ fn add_lines(rt: &HostRuntime, path: &str, texts: &mut Vec<String>) -> Result<()
 fn add_list(rt: &HostRuntime, path: &str, strings: &mut Vec<Vec<u8>>) -> Result<(), Failure> {
     let bytes = needed(rt, path)?;
     let Ok(text) = str::from_utf8(&bytes) else {
-        return Err(fault(rt, path, "not UTF-8"));
+        return Err(fault(rt, path, NOT_UTF8));
     };
     for digits in text.split_whitespace() {
         strings.push(spelled(rt, digits)?)?;

@@ -14,7 +14,11 @@ pub(crate) fn text(
     bases: &mut Bases<'_>,
 ) -> Result<u8, Failure> {
     let (font, strings) = font_and_strings(rt, options, bases)?;
-    print_texts(rt, options, &font.extractor(), &strings)
+    let status = print_texts(rt, options, &font.extractor(), &strings)?;
+    if status != ACCEPTED {
+        font.report_missing(rt, bases)?;
+    }
+    Ok(status)
 }
 
 fn print_texts(

@@ -1,11 +1,46 @@
 //! The help, and errors of arguments. Arguments are untrusted, so they are escaped.
 
+use crate::command_line::command;
 use clap::Error;
 use cmap_files::failure::Failure;
 use cmap_files::path_text::push_path;
 
 /// Prints the help, the version, or the error of the arguments with the usage, and gives the status.
-pub(crate) fn print_usage(rt: &HostRuntime, error: &Error) -> Result<u8, Failure> {
+pub(crate) fn print_usage(
+    rt: &HostRuntime,
+    arguments: &[String],
+    error: &Error,
+) -> Result<u8, Failure> {
+    match error_in_lines(rt, arguments)? {
+        Some(error) => print_error(rt, &error),
+        None => print_error(rt, error),
+    }
+}
+
+/// The same error where no line ends in an argument.
+fn error_in_lines(rt: &HostRuntime, arguments: &[String]) -> Result<Option<Error>, Failure> {
+    let mut marked = Vec::new(rt.alloc());
+    for argument in arguments {
+        marked.push(without_line_ends(rt, argument.as_str())?)?;
+    }
+    let command = command(rt.alloc())?;
+    Ok(command.try_get_matches_from(marked.as_slice()).err())
+}
+
+/// The argument with its line ends marked, as bytes are that aren't UTF-8.
+fn without_line_ends(rt: &HostRuntime, argument: &str) -> Result<String, Failure> {
+    let mut marked = String::new(rt.alloc());
+    for character in argument.chars() {
+        match character {
+            '\n' => marked.push_str("\x000A")?,
+            _ => marked.push(character)?,
+        }
+    }
+    Ok(marked)
+}
+
+/// Prints an error line by line.
+fn print_error(rt: &HostRuntime, error: &Error) -> Result<u8, Failure> {
     let text = format!(in rt.alloc(); "{error}")?;
     for line in text.lines() {
         let mut shown = String::new(rt.alloc());

@@ -85,7 +85,7 @@ impl Run<'_, '_, '_> {
                     path,
                     bytes: &bytes,
                 };
-                self.report_format(rt, input)?;
+                self.report_format(rt, input, bases)?;
                 let reading = read_over(rt, input, self.options.manner, bases)?;
                 self.print(rt, input, &reading, bases)
             }
@@ -105,8 +105,13 @@ impl Run<'_, '_, '_> {
     }
 
     /// Reports a file that has another format.
-    fn report_format(&mut self, rt: &HostRuntime, input: Input<'_>) -> Result<(), Failure> {
-        if let Some(format) = format_of(rt.alloc(), input.bytes)? {
+    fn report_format(
+        &mut self,
+        rt: &HostRuntime,
+        input: Input<'_>,
+        bases: &Bases<'_>,
+    ) -> Result<(), Failure> {
+        if let Some(format) = format_of(rt.alloc(), input.bytes, bases.bundle)? {
             self.progress.clear(rt)?;
             report_message(rt, fault(rt, input.path, format))?;
         }

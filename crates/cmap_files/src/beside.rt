@@ -1,13 +1,26 @@
 //! A file that is written beside another one and then takes its place, so that a path always has a whole file.
 
-use crate::failure::Failure;
+use crate::failure::{Failure, fault};
 use crate::inputs::failed_at;
 use crate::path_text::is_plain;
-use std::fs::{self, File, OpenOptions};
+use std::fs::{self, File, OpenOptions, Permissions};
 use std::io::{self, ErrorKind, Write};
 
 /// How many names are tried for a file beside another one.
 const MOST_TRIES: u32 = 100;
+
+/// The path that stands for the standard output.
+pub const STANDARD_OUTPUT: &str = "-";
+
+/// Writes these bytes in the place of the file of a path; `-` is the standard output.
+pub fn write_output(rt: &HostRuntime, target: &str, bytes: &[u8]) -> Result<(), Failure> {
+    if target == STANDARD_OUTPUT {
+        let mut output = rt.stdout();
+        output.write_all(bytes)?;
+        return Ok(output.flush()?);
+    }
+    Beside::write(rt, target, bytes)?.put_in_place(rt)
+}
 
 /// A file beside the one whose place it is to take.
 #[derive(Drop)]
@@ -18,15 +31,17 @@ pub struct Beside {
 }
 
 impl Beside {
-    /// Writes a file of these bytes beside that of a path. Where that fails, no file is left.
+    /// Writes a file of these bytes beside that of a path: where a link leads, beside the file there. It has the
+    /// permissions of the file whose place it is to take. What isn't a regular file isn't replaced. Where that
+    /// fails, no file is left.
     pub fn write(rt: &HostRuntime, target: &str, bytes: &[u8]) -> Result<Beside, Failure> {
-        let place = String::from_str(rt.alloc(), target)?;
-        let (path, file) = create_beside(rt, target)?;
+        let place = place_of(rt, target)?;
+        let (path, file) = create_beside(rt, place.path.as_str())?;
         let beside = Beside {
             path,
-            target: place,
+            target: place.path,
         };
-        match write_whole(file, bytes) {
+        match write_whole(file, bytes, place.permissions) {
             Ok(()) => Ok(beside),
             Err(error) => Err(beside.give_up(rt, &error)),
         }
@@ -57,12 +72,55 @@ impl Beside {
     }
 }
 
+/// The place that a file is to take.
+#[derive(Drop)]
+struct Place {
+    path: String,
+    /// Those of the file that is there.
+    permissions: Option<Permissions>,
+}
+
+/// The place of a path, or that no file can take it.
+fn place_of(rt: &HostRuntime, target: &str) -> Result<Place, Failure> {
+    match found_place(rt, target) {
+        Ok(Some(place)) => Ok(place),
+        Ok(None) => Err(fault(rt, target, "can't be written: not a regular file")),
+        Err(error) => Err(unwritable(rt, target, &error)),
+    }
+}
+
+/// The place of a path, unless what is there is neither a file nor a folder. A folder is found out when the file is
+/// put in its place.
+fn found_place(rt: &HostRuntime, target: &str) -> io::Result<Option<Place>> {
+    let path = linked_path(rt, target)?;
+    let permissions = match fs::metadata(rt, path.as_str()) {
+        Ok(metadata) if metadata.is_file() => Some(metadata.permissions()),
+        Ok(metadata) if metadata.is_dir() => None,
+        Ok(_) => return Ok(None),
+        Err(error) if error.kind() == ErrorKind::NotFound => None,
+        Err(error) => return Err(error),
+    };
+    Ok(Some(Place { path, permissions }))
+}
+
+/// The path to which a link leads; a path without a link as it is.
+fn linked_path(rt: &HostRuntime, path: &str) -> io::Result<String> {
+    if !is_plain(path) {
+        return Err(io::Error::from(ErrorKind::InvalidFilename));
+    }
+    match fs::symlink_metadata(rt, path) {
+        Ok(metadata) if metadata.is_symlink() => Ok(fs::canonicalize(rt, path)?.into_string()),
+        Ok(_) => Ok(String::from_str(rt.alloc(), path)?),
+        Err(error) if error.kind() == ErrorKind::NotFound => Ok(String::from_str(
+            rt.alloc(),
+            path,
+        )?),
+        Err(error) => Err(error),
+    }
+}
+
 /// A new file beside that of a path.
 fn create_beside(rt: &HostRuntime, target: &str) -> Result<(String, File), Failure> {
-    if !is_plain(target) {
-        let error = io::Error::from(ErrorKind::InvalidFilename);
-        return Err(unwritable(rt, target, &error));
-    }
     for number in 0..MOST_TRIES {
         let path = format!(in rt.alloc(); "{target}.new-{number}")?;
         let opened = OpenOptions::new()
@@ -79,9 +137,12 @@ fn create_beside(rt: &HostRuntime, target: &str) -> Result<(String, File), Failu
     Err(unwritable(rt, target, &error))
 }
 
-/// Writes all bytes to the disk.
-fn write_whole(mut file: File, bytes: &[u8]) -> io::Result<()> {
+/// Writes all bytes to the disk, and sets the permissions if there are any.
+fn write_whole(mut file: File, bytes: &[u8], permissions: Option<Permissions>) -> io::Result<()> {
     file.write_all(bytes)?;
+    if let Some(permissions) = permissions {
+        file.set_permissions(permissions)?;
+    }
     file.sync_all()
 }
 

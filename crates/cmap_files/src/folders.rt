@@ -34,8 +34,13 @@ pub fn is_folder(rt: &HostRuntime, path: &str) -> bool {
     matches!(kind_of(rt, path), Ok(Kind::Folder))
 }
 
-/// Whether a file has this path.
+/// Whether a file has this path, also a pipe or a device.
 pub fn is_file(rt: &HostRuntime, path: &str) -> bool {
+    matches!(kind_of(rt, path), Ok(Kind::File | Kind::Other))
+}
+
+/// Whether a regular file has this path.
+pub fn is_regular_file(rt: &HostRuntime, path: &str) -> bool {
     matches!(kind_of(rt, path), Ok(Kind::File))
 }
 
@@ -58,8 +63,11 @@ pub fn why_no_folder(rt: &HostRuntime, path: &str) -> io::Error {
 /// What has a path.
 #[derive(Clone, Copy)]
 enum Kind {
+    /// A regular file.
     File,
     Folder,
+    /// A pipe, a socket or a device.
+    Other,
 }
 
 /// What has this path. Links are followed.
@@ -67,11 +75,17 @@ fn kind_of(rt: &HostRuntime, path: &str) -> io::Result<Kind> {
     if !is_plain(path) {
         return Err(io::Error::from(ErrorKind::InvalidFilename));
     }
-    let is_folder = fs::metadata(rt, path)?.is_dir();
-    Ok(if is_folder { Kind::Folder } else { Kind::File })
+    let metadata = fs::metadata(rt, path)?;
+    Ok(if metadata.is_dir() {
+        Kind::Folder
+    } else if metadata.is_file() {
+        Kind::File
+    } else {
+        Kind::Other
+    })
 }
 
-/// The files in a folder and its subfolders, but for hidden files and folders. A link to a file counts
+/// The regular files in a folder and its subfolders, but for hidden files and folders. A link to a file counts
 /// as a file, and a link to a folder isn't followed. Folders that can't be read are reported.
 pub fn files_in(rt: &HostRuntime, folder: &str) -> Result<Found, Failure> {
     let mut found = Found::new(rt.alloc());
@@ -80,7 +94,7 @@ pub fn files_in(rt: &HostRuntime, folder: &str) -> Result<Found, Failure> {
 }
 
 /// Adds a folder, and after it its subfolders in the order of their paths, but for hidden ones and links. A
-/// folder that can't be read has no subfolders.
+/// folder that can't be read has no subfolders, and is reported if it is there.
 pub fn add_with_subfolders(
     rt: &HostRuntime,
     folder: &str,
@@ -88,11 +102,14 @@ pub fn add_with_subfolders(
 ) -> Result<(), Failure> {
     folders.push(String::from_str(rt.alloc(), folder)?)?;
     let mut found = Found::new(rt.alloc());
-    if readable(found.add_entries(rt, folder))?.is_ok() {
-        found.waiting.sort()?;
-        folders.append(&mut found.waiting)?;
+    match readable(found.add_entries(rt, folder))? {
+        Ok(()) => {
+            found.waiting.sort()?;
+            Ok(folders.append(&mut found.waiting)?)
+        }
+        Err(error) if error.kind() == ErrorKind::NotFound => Ok(()),
+        Err(error) => report_unreadable(rt, folder, &error),
     }
-    Ok(())
 }
 
 impl Found {
@@ -137,15 +154,36 @@ impl Found {
         Ok(())
     }
 
-    /// Adds a file, or a folder that isn't read yet. A link to a folder isn't followed. What has a path that isn't
-    /// UTF-8 counts as a file, which then can't be read.
+    /// Adds a file, or a folder that isn't read yet.
     fn add(&mut self, rt: &HostRuntime, path: String) -> io::Result<()> {
-        if is_plain(path.as_str()) && fs::symlink_metadata(rt, path.as_str())?.is_dir() {
-            self.waiting.push(path)?;
-        } else if !is_folder(rt, path.as_str()) {
-            self.files.push(path)?;
+        match entry_at(rt, path.as_str())? {
+            Kind::Folder => self.waiting.push(path)?,
+            Kind::File => self.files.push(path)?,
+            Kind::Other => {}
         }
         Ok(())
+    }
+}
+
+/// What an entry of a folder counts as. What can't be opened counts as a file, which then can't be read; a link to a
+/// folder, and what is gone, as neither a file nor a folder.
+fn entry_at(rt: &HostRuntime, path: &str) -> io::Result<Kind> {
+    if !is_plain(path) {
+        return Ok(Kind::File);
+    }
+    match fs::symlink_metadata(rt, path) {
+        Ok(metadata) if metadata.is_dir() => Ok(Kind::Folder),
+        Ok(_) => Ok(linked_at(rt, path)),
+        Err(error) if error.kind() == ErrorKind::NotFound => Ok(Kind::Other),
+        Err(error) => Err(error),
+    }
+}
+
+/// The same of what is no folder itself.
+fn linked_at(rt: &HostRuntime, path: &str) -> Kind {
+    match kind_of(rt, path) {
+        Ok(Kind::Folder | Kind::Other) => Kind::Other,
+        Ok(Kind::File) | Err(_) => Kind::File,
     }
 }
 

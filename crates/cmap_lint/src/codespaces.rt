@@ -93,10 +93,25 @@ fn add_outside_boxes(
     for range in ranges {
         let count = count_outside(boxes, *range);
         if count > 0 {
-            let code = first_outside(boxes, *range);
-            let byte_len = len.count();
-            finding.add(count, Place::Code { byte_len, code });
+            let first = place_outside(finding, boxes, *range, len);
+            finding.add(count, first);
         }
+    }
+}
+
+/// The first place of a finding, once there are codes of a range in none of the boxes.
+fn place_outside<'m>(
+    finding: &Finding<'m>,
+    boxes: &[CodeBox],
+    range: Range,
+    len: CodeLength,
+) -> Place<'m> {
+    if finding.count > 0 {
+        return finding.first;
+    }
+    Place::Code {
+        byte_len: len.count(),
+        code: first_outside(boxes, range),
     }
 }
 

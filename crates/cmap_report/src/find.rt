@@ -55,27 +55,20 @@ struct Codes {
     range: Range,
 }
 
-/// Whether there are codes that an argument asks for.
-pub fn is_found(
-    alloc: Global,
-    font: &Extractor<'_>,
-    wanted: Wanted<'_>,
-) -> Result<bool, AllocError> {
-    Ok(!codes_of(alloc, font, wanted)?.is_empty())
-}
-
 /// Adds a line for each range of codes that an argument asks for, or one with `-` if there are none. The
-/// argument comes first, in thirteen columns.
+/// argument comes first, in thirteen columns. It gives whether there are codes.
 pub fn push_codes(
     alloc: Global,
     out: &mut String,
     font: &Extractor<'_>,
     argument: &str,
     wanted: Wanted<'_>,
-) -> Result<(), AllocError> {
+) -> Result<bool, AllocError> {
     let mut word = String::new(alloc);
     escape::push_text(&mut word, argument)?;
-    push_found(out, word.as_str(), &codes_of(alloc, font, wanted)?)
+    let found = codes_of(alloc, font, wanted)?;
+    push_found(out, word.as_str(), &found)?;
+    Ok(!found.is_empty())
 }
 
 /// Adds a line for each range of codes.
@@ -95,43 +88,36 @@ fn push_found_line(out: &mut String, word: &str, codes: Codes) -> Result<(), All
     out.push('\n')
 }
 
-/// Adds the object of an argument, and ends the line.
+/// Adds the object of an argument, and ends the line. It gives whether there are codes.
 pub fn push_json(
     alloc: Global,
     out: &mut String,
     font: &Extractor<'_>,
     argument: &str,
     wanted: Wanted<'_>,
-) -> Result<(), AllocError>
+) -> Result<bool, AllocError>
     ensures line { OnOk result (AddsLine (string_bytes out.old) (string_bytes out.new)) }
 
     // Also where memory runs out.
     ensures printable { AddsOfLine (string_bytes out.old) (string_bytes out.new) }
 {
-    let object = codes_object(alloc, font, argument, wanted)?;
-    json::push_line(alloc, out, &object)
+    let found = codes_of(alloc, font, wanted)?;
+    let object = codes_object(alloc, argument, &found)?;
+    json::push_line(alloc, out, &object)?;
+    Ok(!found.is_empty())
 }
 
-fn codes_object(
-    alloc: Global,
-    font: &Extractor<'_>,
-    argument: &str,
-    wanted: Wanted<'_>,
-) -> Result<Value, AllocError> {
+fn codes_object(alloc: Global, argument: &str, found: &[Codes]) -> Result<Value, AllocError> {
     let mut object = Object::new(alloc);
     object.set_text("word", argument);
-    object.set_list("codes", code_lists(alloc, font, wanted));
+    object.set_list("codes", code_lists(alloc, found));
     object.finish()
 }
 
-/// The codes that are asked for, each range as a list of its two ends.
-fn code_lists(
-    alloc: Global,
-    font: &Extractor<'_>,
-    wanted: Wanted<'_>,
-) -> Result<Vec<Value>, AllocError> {
+/// Codes, each range as a list of its two ends.
+fn code_lists(alloc: Global, found: &[Codes]) -> Result<Vec<Value>, AllocError> {
     let mut ranges = Vec::new(alloc);
-    for codes in &codes_of(alloc, font, wanted)? {
+    for codes in found {
         ranges.push(range_list(alloc, *codes)?)?;
     }
     Ok(ranges)

@@ -27,7 +27,7 @@ pub(crate) fn binary_of(
         Err(Fault::Refused(Obstacle::NoWord)) => Err(fault(
             rt,
             path,
-            "the bundle has no code word for one of its numbers",
+            "the bundle has no code word for a number of the file",
         )),
         Err(Fault::Refused(obstacle)) => {
             Err(Failure::Message(obstacle_line(rt.alloc(), path, obstacle)?))

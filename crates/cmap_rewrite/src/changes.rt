@@ -18,23 +18,23 @@ use cmap_values::range::{HasRange, Range};
 use hayro_cmap::{CMap, Layer};
 use std::alloc::{AllocError, Global};
 
-/// The most rows of 256 codes for which declarations are made. A range of a few bytes can have 2^24.
+/// The most rows of 256 codes that the declarations of a file may have in all to be made tidy. One declaration can have
+/// 2^24.
 const MOST_ROWS: u64 = 1 << 20;
 
-/// One file that answers as the map, or for the codes of these strings alone.
+/// One file that answers as the map, or if strings are kept, for their codes alone.
 pub(crate) fn one_file<'d>(
     alloc: Global,
     path: &str,
     map: &CMap,
-    strings: &[Vec<u8>],
+    kept: Option<&[Vec<u8>]>,
 ) -> Result<File<'d>, Failure> {
-    let made = if strings.is_empty() {
-        if rows_of_map(map) > MOST_ROWS {
+    let made = match kept {
+        Some(strings) => subset(alloc, map.layers(), &codes_of(alloc, map, strings)?),
+        None if rows_of_map(map) > MOST_ROWS => {
             return Err(Failure::Message(large_line(alloc, path)?));
         }
-        flatten(alloc, map.layers())
-    } else {
-        subset(alloc, map.layers(), &codes_of(alloc, map, strings)?)
+        None => flatten(alloc, map.layers()),
     };
     match made {
         Ok(file) => Ok(ordered(file)?),
@@ -73,10 +73,15 @@ fn add_codes(codes: &mut Vec<Codes>, map: &CMap, string: &[u8]) -> Result<(), Al
 
 /// The file in the fewest declarations. One whose ranges have too many rows of codes stays as it is.
 pub(crate) fn tidied<'d>(alloc: Global, file: File<'d>) -> Result<File<'d>, AllocError> {
-    if rows_of_file(&file.lists) > MOST_ROWS {
+    if is_large(&file) {
         return Ok(file);
     }
     ordered(tidy(alloc, &file)?)
+}
+
+/// Whether the ranges of a file have too many rows of codes.
+fn is_large(file: &File<'_>) -> bool {
+    rows_of_file(&file.lists) > MOST_ROWS
 }
 
 /// The file with the CIDs of single codes before those of ranges.
@@ -85,30 +90,15 @@ fn ordered<'d>(mut file: File<'d>) -> Result<File<'d>, AllocError> {
     Ok(file)
 }
 
-/// The file in the fewest declarations that all readers take: no range of texts lies in a codespace range in part.
+/// The file in the fewest declarations that all readers take: no range of texts lies in a codespace range in part. One
+/// whose ranges have too many rows of codes stays as it is.
 pub(crate) fn repaired<'d>(alloc: Global, file: File<'d>) -> Result<File<'d>, AllocError> {
-    let File {
-        metadata,
-        lists,
-        uses,
-    } = tidied(alloc, file)?;
-    let Lists {
-        cids,
-        notdefs,
-        bfs,
-        spaces,
-    } = lists;
-    let bfs = cut_texts(alloc, &bfs, &spaces)?;
-    Ok(File {
-        metadata,
-        lists: Lists {
-            cids,
-            notdefs,
-            bfs,
-            spaces,
-        },
-        uses,
-    })
+    if is_large(&file) {
+        return Ok(file);
+    }
+    let mut file = tidied(alloc, file)?;
+    file.lists.bfs = cut_texts(alloc, &file.lists.bfs, &file.lists.spaces)?;
+    Ok(file)
 }
 
 /// How many rows of 256 codes the declarations of a file are for, each counted by itself.
@@ -171,7 +161,7 @@ fn rows_in(range: &Range) -> u64 {
     }
 }
 
-/// That a file has too many codes.
+/// The line that says that declarations have too many rows of codes.
 fn large_line(alloc: Global, path: &str) -> Result<String, AllocError> {
     let mut line = String::new(alloc);
     push_text(&mut line, path)?;

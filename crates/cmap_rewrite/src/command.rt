@@ -1,12 +1,12 @@
-//! The two subcommands.
+//! `cmap write` and `cmap repair`.
 
 use crate::binary::binary_of;
 use crate::changes::{one_file, repaired, tidied};
 use crate::obstacle::push_obstacle;
 use cmap_escape::escape::push_text;
-use cmap_files::beside::Beside;
-use cmap_files::failure::{Failure, fault};
-use cmap_files::inputs::STANDARD_INPUT;
+use cmap_files::beside::write_output;
+use cmap_files::failure::Failure;
+use cmap_files::path_text::path_bytes;
 use cmap_files::status::ACCEPTED;
 use cmap_sources::alone::file_of;
 use cmap_sources::bases::Bases;
@@ -15,7 +15,6 @@ use cmap_sources::reading::{Input, Manner};
 use cmap_text_writer::{Obstacle, TextLengths, write_text_by};
 use cmap_values::fault::Fault;
 use cmap_values::file::File;
-use cmap_values::metadata::Metadata;
 use std::alloc::{AllocError, Global};
 
 /// What becomes of the declarations of a file.
@@ -34,15 +33,15 @@ pub enum Change {
 pub struct RewriteOptions<'m, 'w> {
     /// The file, by its path or its name.
     pub file: &'w str,
-    /// The path of what is written.
+    /// The path of what is written; `-` is the standard output.
     pub output: &'w str,
-    /// How it is read.
+    /// How the file is read.
     pub manner: Manner,
     /// Whether one file is made of all layers.
     pub is_flat: bool,
     /// What becomes of its declarations.
     pub change: Change,
-    /// Its new name.
+    /// The new name of what is written.
     pub name: Option<&'w str>,
     /// Whether it is written in the binary form.
     pub is_binary: bool,
@@ -58,10 +57,10 @@ pub fn rewrite(
     strings: &[Vec<u8>],
     bases: &mut Bases<'_>,
 ) -> Result<u8, Failure> {
-    check_output(rt, options.output)?;
     if options.is_flat || !options.codes.is_empty() {
         let map = map_needed(rt, options.file, options.manner, bases)?;
-        let file = one_file(rt.alloc(), options.file, &map, strings)?;
+        let kept = (!options.codes.is_empty()).then_some(strings);
+        let file = one_file(rt.alloc(), options.file, &map, kept)?;
         return finish(rt, options, file, bases);
     }
     let bytes = bytes_needed(rt, options.file, bases)?;
@@ -85,10 +84,10 @@ fn finish(
     file: File<'_>,
     bases: &Bases<'_>,
 ) -> Result<u8, Failure> {
-    let file = match options.name {
-        Some(name) => named(rt.alloc(), file, name)?,
-        None => file,
-    };
+    let mut file = file;
+    if let Some(name) = options.name {
+        file.metadata.name = Some(path_bytes(rt.alloc(), name)?);
+    }
     let bytes = if options.is_binary {
         binary_of(rt, options.file, &file, bases.bundle)?
     } else {
@@ -99,36 +98,8 @@ fn finish(
             TextLengths::by(&file.lists.spaces),
         )?
     };
-    Beside::write(rt, options.output, &bytes)?.put_in_place(rt)?;
+    write_output(rt, options.output, &bytes)?;
     Ok(ACCEPTED)
-}
-
-/// The file with another name.
-fn named<'d>(alloc: Global, file: File<'d>, name: &str) -> Result<File<'d>, AllocError> {
-    let File {
-        metadata,
-        lists,
-        uses,
-    } = file;
-    let name = Some(Vec::from_slice(alloc, name.as_bytes())?);
-    let metadata = Metadata {
-        character_collection: metadata.character_collection,
-        name,
-        writing_mode: metadata.writing_mode,
-    };
-    Ok(File {
-        metadata,
-        lists,
-        uses,
-    })
-}
-
-/// Checks that the output isn't `-`.
-pub(crate) fn check_output(rt: &HostRuntime, output: &str) -> Result<(), Failure> {
-    if output == STANDARD_INPUT {
-        return Err(fault(rt, output, "a CMap is written to a file"));
-    }
-    Ok(())
 }
 
 /// The text of a file, with these lengths of the codes of texts. `path` is that of what it was read from.

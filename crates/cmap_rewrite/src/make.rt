@@ -1,10 +1,11 @@
 //! `cmap make`: a file of what a table says.
 
-use crate::command::{check_output, text_of};
+use crate::command::text_of;
 use crate::table::{TableFault, declared_by};
-use cmap_files::beside::Beside;
+use cmap_files::beside::write_output;
 use cmap_files::failure::{Failure, fault};
 use cmap_files::inputs::needed;
+use cmap_files::path_text::{is_plain, path_bytes};
 use cmap_files::status::ACCEPTED;
 use cmap_values::character_collection::{CharacterCollection, CidFamily};
 use cmap_values::fault::Fault;
@@ -18,7 +19,7 @@ use std::alloc::{AllocError, Global};
 pub struct MakeOptions<'m, 'w> {
     /// The path of the table; `-` is the standard input.
     pub table: &'w str,
-    /// The path of the file.
+    /// The path of the file; `-` is the standard output.
     pub output: &'w str,
     /// The name of the file.
     pub name: Option<&'w str>,
@@ -32,7 +33,6 @@ pub struct MakeOptions<'m, 'w> {
 
 /// Writes a file of what a table says, and gives the status.
 pub fn make(rt: &HostRuntime, options: &MakeOptions<'_, '_>) -> Result<u8, Failure> {
-    check_output(rt, options.output)?;
     let metadata = metadata_of(rt, options)?;
     let bytes = needed(rt, options.table)?;
     let Ok(table) = str::from_utf8(&bytes) else {
@@ -44,13 +44,14 @@ pub fn make(rt: &HostRuntime, options: &MakeOptions<'_, '_>) -> Result<u8, Failu
         Err(Fault::Memory) => return Err(Failure::Memory),
     };
     let lengths = declared.text_lengths();
+    let names = names_of(rt.alloc(), options.uses)?;
     let file = File {
         metadata,
         lists: declared.lists,
-        uses: names_of(rt.alloc(), options.uses)?,
+        uses: slices_of(rt.alloc(), &names)?,
     };
     let text = text_of(rt.alloc(), options.table, &file, lengths)?;
-    Beside::write(rt, options.output, &text)?.put_in_place(rt)?;
+    write_output(rt, options.output, &text)?;
     Ok(ACCEPTED)
 }
 
@@ -70,7 +71,7 @@ fn metadata_of(rt: &HostRuntime, options: &MakeOptions<'_, '_>) -> Result<Metada
         None => None,
     };
     let name = match options.name {
-        Some(name) => Some(Vec::from_slice(rt.alloc(), name.as_bytes())?),
+        Some(name) => Some(path_bytes(rt.alloc(), name)?),
         None => None,
     };
     Ok(Metadata {
@@ -82,6 +83,9 @@ fn metadata_of(rt: &HostRuntime, options: &MakeOptions<'_, '_>) -> Result<Metada
 
 /// The collection that is spelled, as Adobe-Japan1-6.
 fn collection_of(rt: &HostRuntime, spelled: &str) -> Result<CharacterCollection, Failure> {
+    if !is_plain(spelled) {
+        return Err(fault(rt, spelled, "not UTF-8"));
+    }
     let Some((registry, ordering, supplement)) = parts_of(spelled) else {
         return Err(fault(rt, spelled, "not REGISTRY-ORDERING-SUPPLEMENT"));
     };
@@ -101,6 +105,14 @@ fn parts_of(spelled: &str) -> Option<(&str, &str, i32)> {
 }
 
 /// The bytes of the names.
-fn names_of<'w>(alloc: Global, names: &[&'w str]) -> Result<Vec<&'w [u8]>, AllocError> {
-    names.iter().map(|name| name.as_bytes()).collect(alloc)
+fn names_of(alloc: Global, arguments: &[&str]) -> Result<Vec<Vec<u8>>, AllocError> {
+    let mut names = Vec::new(alloc);
+    for argument in arguments {
+        names.push(path_bytes(alloc, argument)?)?;
+    }
+    Ok(names)
+}
+
+fn slices_of(alloc: Global, names: &[Vec<u8>]) -> Result<Vec<&[u8]>, AllocError> {
+    names.iter().map(|name| name.as_slice()).collect(alloc)
 }

@@ -18,7 +18,7 @@ pub fn file_of<'d>(
     faults: Faults,
     bases: &Bases<'_>,
 ) -> Result<File<'d>, Failure> {
-    report_format(rt, input.path, input.bytes)?;
+    report_format(rt, input.path, input.bytes, bases.bundle)?;
     match faults {
         Faults::First => read_strictly(rt, input, bases),
         Faults::All => read_past(rt, input, bases),

@@ -1,27 +1,51 @@
 //! Files of other formats, by their first bytes.
 
+use cmap_binary::is_marked_binary;
 use cmap_files::failure::{Failure, fault, report_message};
 use hayro_cmap::Bundle;
 use std::alloc::{AllocError, Global};
 
-/// Reports a file that is a PDF file, a font or a bundle.
-pub fn report_format(rt: &HostRuntime, path: &str, bytes: &[u8]) -> Result<(), Failure> {
-    if let Some(format) = format_of(rt.alloc(), bytes)? {
+/// Reports a file that has another format, or one in the binary form without a bundle.
+pub fn report_format(
+    rt: &HostRuntime,
+    path: &str,
+    bytes: &[u8],
+    bundle: Option<&Bundle<'_>>,
+) -> Result<(), Failure> {
+    if let Some(format) = format_of(rt.alloc(), bytes, bundle)? {
         report_message(rt, fault(rt, path, format))?;
     }
     Ok(())
 }
 
-/// Which format a file has, if it is none of a CMap.
-pub fn format_of(alloc: Global, bytes: &[u8]) -> Result<Option<&'static str>, AllocError> {
+/// Which format a file has, if it is none of a CMap that is read with this bundle, or without one.
+pub fn format_of(
+    alloc: Global,
+    bytes: &[u8],
+    bundle: Option<&Bundle<'_>>,
+) -> Result<Option<&'static str>, AllocError> {
     if bytes.starts_with(b"%PDF-") {
         Ok(Some("this is a PDF file, not a CMap file"))
     } else if is_font(bytes) {
         Ok(Some("this is a font, not a CMap file"))
     } else if Bundle::parse(alloc, bytes)?.is_some() {
         Ok(Some("this is a bundle, which the option --bundle takes"))
+    } else if bundle.is_none() && is_marked_binary(bytes) {
+        Ok(Some("this is in the binary form, for which --bundle has the tables"))
     } else {
-        Ok(None)
+        Ok(encoding_of(bytes))
+    }
+}
+
+/// How a file is compressed, or of which units its text is, if its first bytes tell.
+fn encoding_of(bytes: &[u8]) -> Option<&'static str> {
+    match bytes {
+        [0x1F, 0x8B, ..] => Some("this is compressed by gzip"),
+        [0x78, 0x01 | 0x9C | 0xDA, ..] => Some("this is compressed by zlib, as by /FlateDecode"),
+        [0xFD, b'7', b'z', b'X', b'Z', 0, ..] => Some("this is compressed by xz"),
+        [b'P', b'K', 3, 4, ..] => Some("this is a zip archive"),
+        [0xFE, 0xFF, ..] | [0xFF, 0xFE, ..] => Some("this is UTF-16, not the bytes of a CMap file"),
+        _ => None,
     }
 }
 

@@ -5,8 +5,9 @@ use crate::format::report_format;
 use crate::reading::{Input, Manner, read_over};
 use cmap_files::failure::{Failure, fault};
 use cmap_files::file_bytes::FileBytes;
-use cmap_files::folders::{is_file, why_no_file};
+use cmap_files::folders::{is_file, is_folder, why_no_file};
 use cmap_files::inputs::{STANDARD_INPUT, needed, unreadable};
+use cmap_files::path_text::path_bytes;
 use hayro_cmap::{CMap, Fault, identity_text};
 
 /// A file that is read, with its map.
@@ -40,7 +41,7 @@ fn bytes_of<'b>(
     if argument == STANDARD_INPUT || is_file(rt, argument) {
         return Ok(Some(FileBytes::of(needed(rt, argument)?)?));
     }
-    bases.file(rt, argument.as_bytes())
+    bases.file(rt, &path_bytes(rt.alloc(), argument)?)
 }
 
 /// The bytes of a file that a run needs, by its path or its name. Identity-H and Identity-V have a text without a file.
@@ -104,7 +105,7 @@ pub fn map_of(
     manner: Manner,
     bases: &mut Bases<'_>,
 ) -> Result<CMap, Failure> {
-    report_format(rt, path, bytes)?;
+    report_format(rt, path, bytes, bases.bundle)?;
     let mut reading = read_over(rt, Input { path, bytes }, manner, bases)?;
     bases.report(rt)?;
     report_faults(rt, &reading.faults)?;
@@ -120,7 +121,7 @@ fn report_faults(rt: &HostRuntime, faults: &[String]) -> Result<(), Failure> {
 
 /// The failure of an argument that is neither the path nor the name of a file.
 fn missing(rt: &HostRuntime, argument: &str, bases: &Bases<'_>) -> Failure {
-    if bases.may_be_predefined(argument.as_bytes()) {
+    if bases.may_be_predefined(argument.as_bytes()) && !is_folder(rt, argument) {
         unknown_name(rt, argument, bases)
     } else {
         unreadable(rt, argument, &why_no_file(rt, argument))

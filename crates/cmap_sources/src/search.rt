@@ -2,7 +2,7 @@
 
 use cmap_files::failure::{Failure, fault};
 use cmap_files::file_names::file_name;
-use cmap_files::folders::{add_with_subfolders, is_file};
+use cmap_files::folders::{add_with_subfolders, is_regular_file};
 use std::alloc::{AllocError, Global};
 use std::collections::BTreeSet;
 use std::env::{self, VarError};
@@ -100,7 +100,7 @@ impl Search {
     fn find_file(&self, rt: &HostRuntime, name: &str) -> Result<Option<String>, Failure> {
         for folder in &self.folders {
             let path = format!(in rt.alloc(); "{folder}/{name}")?;
-            if is_file(rt, path.as_str()) {
+            if is_regular_file(rt, path.as_str()) {
                 return Ok(Some(path));
             }
         }

@@ -227,7 +227,7 @@ pub(crate) const TEXT_OUTPUT: Flag = Flag {
     short: Some('o'),
     long: "output",
     value: Value::Needed("OUT"),
-    help: "The CMap file, which is written as a whole or not at all",
+    help: "The CMap file, which is written as a whole or not at all; - is the standard output",
 };
 
 pub(crate) const NAME: Flag = Flag {
@@ -291,7 +291,7 @@ pub(crate) const CODES: Flag = Flag {
     short: None,
     long: "codes",
     value: Value::Texts("HEX|@LIST"),
-    help: "As --flatten, with answers for the codes of these strings alone; @LIST is a file of strings",
+    help: "As --flatten, with answers for the codes of these strings alone; @LIST is a file of strings, and @- the standard input",
 };
 
 pub(crate) const TIDY: Flag = Flag {
