@@ -2,6 +2,7 @@
 
 use cmap_binary::is_marked_binary;
 use cmap_files::failure::{Failure, fault};
+use cmap_files::folders::name_of;
 use cmap_files::inputs::STANDARD_INPUT;
 use cmap_lint::finding::Finding;
 use cmap_lint::lint::{Subject, findings_of, nothing_declared};
@@ -107,18 +108,12 @@ pub(crate) fn subject_of<'m>(
     Subject {
         map,
         text: (!is_binary).then_some(input.bytes),
-        file_name: file_name(input.path),
+        file_name: name_in(input.path),
         to_unicode: options.to_unicode,
     }
 }
 
-/// The last part of a path; the standard input has none.
-fn file_name(path: &str) -> Option<&[u8]> {
-    if path == STANDARD_INPUT {
-        return None;
-    }
-    match path.rsplit_once('/') {
-        Some((_, name)) => Some(name.as_bytes()),
-        None => Some(path.as_bytes()),
-    }
+/// The name of the file of a path; the standard input has none.
+fn name_in(path: &str) -> Option<&[u8]> {
+    (path != STANDARD_INPUT).then_some(name_of(path).as_bytes())
 }

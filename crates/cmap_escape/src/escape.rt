@@ -62,8 +62,8 @@ fn push_name_byte(out: &mut String, byte: u8) -> Result<(), AllocError>
     }
 }
 
-/// Adds a text. A character is added as it is, but `\` as `\\`, `"` as `\"`, and as `\u{H..}` those that
-/// are invisible or change how others look.
+/// Adds a text. A character is added as it is, but `\` as `\\`, `"` as `\"`, and as `\u{H..}` control and format
+/// characters, separators of lines and paragraphs, and those for private use or unassigned.
 pub fn push_text(out: &mut String, text: &str) -> Result<(), AllocError>
     ensures shown { OnOk result (string_bytes out.new
         ≡ string_bytes out.old ++ text_shown text.now) }
@@ -115,8 +115,8 @@ fn push_by_number(out: &mut String, character: char) -> Result<(), AllocError>
     out.push('}')
 }
 
-/// Whether a character is visible and leaves the others as they are: it isn't a control or format character,
-/// a separator of lines or paragraphs, for private use, or unassigned.
+/// Whether a character is printed as it is: it isn't a control or format character, a separator of lines or
+/// paragraphs, for private use, or unassigned.
 fn is_shown(character: char) -> bool
     ensures { result ≡ not (is_hidden (general_category character)) }
 {

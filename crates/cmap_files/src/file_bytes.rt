@@ -33,6 +33,7 @@ impl<'b> FileBytes<'b> {
         }
     }
 
+    /// The bytes.
     pub fn as_slice(&self) -> &[u8]
         ensures { result.now ≡ bytes_seen self.now }
     {

@@ -21,7 +21,7 @@ const NAMES_ROOM: usize = 32768;
 /// What lies in a folder and its subfolders.
 #[derive(Drop)]
 pub struct Found {
-    /// The paths of the files, in the order of their texts.
+    /// The paths of the files, in the order of their texts; that of a path that isn't UTF-8 has marks.
     pub files: Vec<String>,
     /// How many folders can't be read.
     pub unreadable: Count,

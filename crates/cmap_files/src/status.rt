@@ -3,7 +3,8 @@
 /// The status if all files are accepted.
 pub const ACCEPTED: u8 = 0;
 
-/// The status if a file is refused.
+/// The status if a file is refused, or something that is asked for isn't there: a name, a code, a text, a string, or a
+/// place in a bundle.
 pub const REFUSED: u8 = 1;
 
 /// The status if two files differ.

@@ -37,7 +37,7 @@ pub enum Warning {
     CountDiffers,
     /// Sections have more than 100 entries. Adobe Technical Note 5014.
     LongSection,
-    /// After `begincmap` comes no `endcmap`. Adobe Technical Note 5014.
+    /// After the last `begincmap` comes no `endcmap`. Adobe Technical Note 5014.
     NoEndcmap,
     /// Codes have a length that no codespace range has.
     CodeLength,

@@ -8,12 +8,15 @@ use cmap_escape::digits::code_digits;
 use cmap_escape::object::Object;
 use cmap_escape::{escape, json};
 use cmap_queries::arguments::decimal;
-use cmap_queries::code_lengths::{LENGTHS, has_codes, text_code_len};
+use cmap_queries::code_lengths::{LENGTHS, fewest_bytes, has_codes, text_code_len};
 use cmap_unicode::Extractor;
 use hayro_cmap::runs::Range;
 use hayro_cmap::{CodeLength, Layers};
 use serde_json::Value;
 use std::alloc::{AllocError, Global};
+
+/// The most codes of a range that are looked at one by one.
+const MOST_CODES: u32 = 1 << 16;
 
 /// What codes are asked for.
 #[derive(Clone, Copy)]
@@ -190,12 +193,53 @@ fn codes_of_text_in(
 ) -> Result<Vec<Codes>, AllocError> {
     let mut found = Vec::new(alloc);
     for range in &map.codes_of_text(alloc, text)? {
-        found.push(Codes {
-            byte_len: text_code_len(encoding, *range),
-            range: *range,
-        })?;
+        add_with_lengths(&mut found, encoding, *range)?;
     }
     Ok(found)
+}
+
+/// Adds the codes of a range: of each length those that strings are read as, and those in no codespace range with the
+/// fewest bytes.
+fn add_with_lengths(
+    found: &mut Vec<Codes>,
+    encoding: &Layers,
+    range: Range,
+) -> Result<(), AllocError> {
+    if is_long(range) {
+        let byte_len = text_code_len(encoding, range);
+        found.push(Codes { byte_len, range })?;
+        return Ok(());
+    }
+    for len in LENGTHS {
+        add_read(found, encoding, range, *len)?;
+    }
+    add_outside(found, encoding, range)
+}
+
+/// Adds those codes of a range that strings are read as, with this length.
+fn add_read(
+    found: &mut Vec<Codes>,
+    encoding: &Layers,
+    range: Range,
+    len: CodeLength,
+) -> Result<(), AllocError> {
+    for code in range.start..=range.end {
+        if is_read(encoding, code, len) {
+            add_code(found, len.count(), code)?;
+        }
+    }
+    Ok(())
+}
+
+/// Adds those codes of a range that lie in no codespace range.
+fn add_outside(found: &mut Vec<Codes>, encoding: &Layers, range: Range) -> Result<(), AllocError> {
+    for code in range.start..=range.end {
+        if !is_in_codespace(encoding, code) {
+            let (start, end) = (code, code);
+            add_code(found, fewest_bytes(Range { start, end }), code)?;
+        }
+    }
+    Ok(())
 }
 
 /// The codes of a text, for each length that codes of the font have.
@@ -207,32 +251,71 @@ fn codes_of_text(
     let mut found = Vec::new(alloc);
     for len in LENGTHS {
         if has_codes(font.encoding, *len) {
-            let ranges = font.codes_of_text(alloc, text, *len)?;
-            add_readable(&mut found, font.encoding, &ranges, *len)?;
+            for range in &font.codes_of_text(alloc, text, *len)? {
+                add_readable(&mut found, font.encoding, *range, *len)?;
+            }
         }
     }
     Ok(found)
 }
 
-/// Adds ranges of codes of this length, but for those whose first code lies in a codespace range of another
-/// length alone: a ToUnicode CMap gives texts to codes of any length.
+/// Adds those codes of a range of this length that strings are read as, or that lie in no codespace range: a ToUnicode
+/// CMap gives texts to codes of any length.
 fn add_readable(
     found: &mut Vec<Codes>,
     encoding: &Layers,
-    ranges: &[Range],
+    range: Range,
     len: CodeLength,
 ) -> Result<(), AllocError> {
-    for range in ranges {
-        if encoding.in_codespace(range.start, len.count())
-            || !is_in_codespace(encoding, range.start)
-        {
-            found.push(Codes {
-                byte_len: len.count(),
-                range: *range,
-            })?;
+    if is_long(range) {
+        if is_readable(encoding, range.start, len) {
+            let byte_len = len.count();
+            found.push(Codes { byte_len, range })?;
+        }
+        return Ok(());
+    }
+    for code in range.start..=range.end {
+        if is_readable(encoding, code, len) {
+            add_code(found, len.count(), code)?;
         }
     }
     Ok(())
+}
+
+/// Whether a range has too many codes to look at each. Then its first code stands for all.
+fn is_long(range: Range) -> bool {
+    range.end.saturating_sub(range.start) >= MOST_CODES
+}
+
+/// Adds a code, to the range before if it ends with the code before.
+fn add_code(found: &mut Vec<Codes>, byte_len: u8, code: u32) -> Result<(), AllocError> {
+    if let Some(last) = found.last_mut()
+        && last.byte_len == byte_len
+        && last.range.end.checked_add(1) == Some(code)
+    {
+        last.range.end = code;
+        return Ok(());
+    }
+    let (start, end) = (code, code);
+    found.push(Codes {
+        byte_len,
+        range: Range { start, end },
+    })?;
+    Ok(())
+}
+
+/// Whether a code of this length is read as itself, or lies in no codespace range.
+fn is_readable(encoding: &Layers, code: u32, len: CodeLength) -> bool {
+    is_read(encoding, code, len) || !is_in_codespace(encoding, code)
+}
+
+/// Whether a string of the bytes of a code is read as this code, which lies in a codespace range.
+fn is_read(encoding: &Layers, code: u32, len: CodeLength) -> bool {
+    let bytes = code.to_be_bytes();
+    match encoding.next_code(&bytes[4 - usize::from(len.count())..]) {
+        Some(read) => code <= len.last_code() && read.in_codespace && read.byte_len == len.count(),
+        None => false,
+    }
 }
 
 /// Whether a code lies in a codespace range, as a code of some length.

@@ -87,7 +87,7 @@ pub struct Bases<'b> {
     pub search: Search,
     /// The bases that were read.
     read: Vec<Base<'b>>,
-    /// The files that these use were read ahead, up to this index.
+    /// Of how many of these the files that they use were read ahead.
     asked: usize,
     /// Files that can't be read, and aren't reported yet.
     unreadable: Vec<Unreadable>,

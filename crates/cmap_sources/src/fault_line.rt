@@ -5,8 +5,8 @@ ghost use Rattle.cmap_sources.specs.LineEnds.{line_ends};
 
 use cmap_escape::count::Count;
 
-/// How many line ends these bytes have, after a carriage return or not. A line ends with LF, CR, or CR and
-/// LF.
+/// How many lines end in these bytes. A line ends with LF, CR, or CR and LF: after a carriage return a line feed at their
+/// start ends no further line.
 pub fn ends_in(bytes: &[u8], is_after_return: bool) -> usize
     ensures { result ≡ line_ends is_after_return bytes.now }
 {
