@@ -96,9 +96,28 @@ pub(crate) fn repaired<'d>(alloc: Global, file: File<'d>) -> Result<File<'d>, Al
     if is_large(&file) {
         return Ok(file);
     }
-    let mut file = tidied(alloc, file)?;
-    file.lists.bfs = cut_texts(alloc, &file.lists.bfs, &file.lists.spaces)?;
-    Ok(file)
+    let File {
+        metadata,
+        lists,
+        uses,
+    } = tidied(alloc, file)?;
+    let Lists {
+        cids,
+        notdefs,
+        bfs,
+        spaces,
+    } = lists;
+    let bfs = cut_texts(alloc, &bfs, &spaces)?;
+    Ok(File {
+        metadata,
+        lists: Lists {
+            cids,
+            notdefs,
+            bfs,
+            spaces,
+        },
+        uses,
+    })
 }
 
 /// How many rows of 256 codes the declarations of a file are for, each counted by itself.

@@ -15,6 +15,7 @@ use cmap_sources::reading::{Input, Manner};
 use cmap_text_writer::{Obstacle, TextLengths, write_text_by};
 use cmap_values::fault::Fault;
 use cmap_values::file::File;
+use cmap_values::metadata::Metadata;
 use std::alloc::{AllocError, Global};
 
 /// What becomes of the declarations of a file.
@@ -84,10 +85,10 @@ fn finish(
     file: File<'_>,
     bases: &Bases<'_>,
 ) -> Result<u8, Failure> {
-    let mut file = file;
-    if let Some(name) = options.name {
-        file.metadata.name = Some(path_bytes(rt.alloc(), name)?);
-    }
+    let file = match options.name {
+        Some(name) => named(file, path_bytes(rt.alloc(), name)?),
+        None => file,
+    };
     let bytes = if options.is_binary {
         binary_of(rt, options.file, &file, bases.bundle)?
     } else {
@@ -100,6 +101,24 @@ fn finish(
     };
     write_output(rt, options.output, &bytes)?;
     Ok(ACCEPTED)
+}
+
+/// The file with another name.
+fn named<'d>(file: File<'d>, name: Vec<u8>) -> File<'d> {
+    let File {
+        metadata,
+        lists,
+        uses,
+    } = file;
+    File {
+        metadata: Metadata {
+            character_collection: metadata.character_collection,
+            name: Some(name),
+            writing_mode: metadata.writing_mode,
+        },
+        lists,
+        uses,
+    }
 }
 
 /// The text of a file, with these lengths of the codes of texts. `path` is that of what it was read from.

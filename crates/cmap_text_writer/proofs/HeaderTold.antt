@@ -12,7 +12,7 @@ use Rattle.cmap_tokens.specs.Gaps.{comment_after, ends_comment}
 use Rattle.cmap_tokens.specs.Tokens.{IsToken, Token, is_bracket}
 use Rattle.cmap_text.specs.TextFiles.{Item, other, use_word}
 use Rattle.cmap_text.specs.TextReading.{is_executable, key_in, opened_by}
-use Rattle.cmap_text_writer.specs.FileItems.{comments_text, footer_items, footer_text, header_items, header_text, name, number, resource_text, type_text, word}
+use Rattle.cmap_text_writer.specs.FileItems.{comments_text, end_text, footer_items, footer_text, header_items, header_text, name, number, resource_text, type_text, word}
 use Rattle.cmap_text_writer.specs.Fits.{IsSayableName}
 use Rattle.cmap_text_writer.specs.Told.{TellsItems, TellsTokens}
 use Rattle.cmap_text_writer.proofs.ItemsTold.{gap_items, items_both, other_item}
@@ -117,9 +117,13 @@ header_told is_to_unicode =
     (join (lined_word (codes "begincmap") refl)
     (type_told is_to_unicode)))))))))
 
-pub footer_told : TellsItems footer_items footer_text
+end_told : (has_name : Bool) → TellsItems [] (end_text has_name)
+end_told true = gap_items (codes "%%EndResource\n%%EOF\n") (gap_told (codes "%%EndResource\n%%EOF\n") (λ rest. refl))
+end_told false = gap_items (codes "%%EOF\n") (gap_told (codes "%%EOF\n") (λ rest. refl))
+
+pub footer_told : (has_name : Bool) → TellsItems footer_items (footer_text has_name)
 unfolding numeral integer radix_integer is_real
-footer_told =
+footer_told has_name =
     join (lined_word (codes "endcmap") refl)
     (join (spaced_word (codes "CMapName") refl)
     (join (spaced_word (codes "currentdict") refl)
@@ -128,4 +132,4 @@ footer_told =
     (join (lined_word (codes "pop") refl)
     (join (lined_word (codes "end") refl)
     (join (lined_word (codes "end") refl)
-    (gap_items (codes "%%EOF\n") (gap_told (codes "%%EOF\n") (λ rest. refl))))))))))
+    (end_told has_name))))))))

@@ -1,7 +1,7 @@
 -- A whole file.
 use Rattle.std.proofs.Math.Path.{fun_ext}
 use Rattle.std.proofs.Common.{◌≡◌, ◌∙◌, ℕ, Bool, true, inl, inr, length, List, [], ◌∷◌, ◌++◌, Some, None, refl, sym, ap, subst}
-use Rattle.std.specs.Prelude.{All, IfSome, Option, flat_map, nat_le}
+use Rattle.std.specs.Prelude.{All, IfSome, Option, flat_map, is_some, nat_le}
 use Rattle.std.specs.List.{AllByRecursion, list_all}
 use Rattle.std.proofs.lemmas.Bool.{and_from, and_parts, cases_Bool, le-leb}
 use Rattle.std.proofs.lemmas.List.{append_assoc, append-nil}
@@ -117,7 +117,7 @@ metadata_part : (m : FileMetadata) → IfSome m.collection CollectionFits → If
 metadata_part m fits sayable = items_both (from_option collection_items m.collection) (from_option name_items m.name ++ from_option mode_items m.mode) _ _ (collection_part m.collection fits) (items_both (from_option name_items m.name) (from_option mode_items m.mode) _ _ (name_part m.name sayable) (mode_part m.mode))
 
 -- ---- all of it
-whole_told : (lengths : ℕ → ℕ) (file : File) (body : List ℕ) → IsSayable file → IfSome file.metadata.collection CollectionFits → TellsSections lengths (declarations_of file.lists) body → IsWritten lengths file (front_text file ++ (body ++ footer_text))
+whole_told : (lengths : ℕ → ℕ) (file : File) (body : List ℕ) → IsSayable file → IfSome file.metadata.collection CollectionFits → TellsSections lengths (declarations_of file.lists) body → IsWritten lengths file (front_text file ++ (body ++ footer_text (is_some file.metadata.name)))
 whole_told lengths file body sayable fits h =
     let m = file.metadata in
     let type = type_number (is_to_unicode file.lists) in
@@ -126,28 +126,31 @@ whole_told lengths file body sayable fits h =
     let head = header_text (is_to_unicode file.lists) in
     let uses = flat_map use_text file.uses in
     let meta = metadata_text m in
-    let tail = body ++ footer_text in
-    let last = items_both sections footer_items body footer_text h.told footer_told in
+    let footer = footer_text (is_some m.name) in
+    let tail = body ++ footer in
+    let last = items_both sections footer_items body footer h.told (footer_told (is_some m.name)) in
     let later = items_both (flat_map use_items file.uses) (metadata_items m ++ (sections ++ footer_items)) uses (meta ++ tail) (uses_told file.uses sayable.uses) (items_both (metadata_items m) (sections ++ footer_items) meta tail (metadata_part m fits sayable.name) last) in
     let all = items_both [] (file_items type m file.uses sections) c (head ++ (uses ++ (meta ++ tail))) (comments_told m.name sayable.name) (items_both (header_items type) (flat_map use_items file.uses ++ (metadata_items m ++ (sections ++ footer_items))) head (uses ++ (meta ++ tail)) (header_told (is_to_unicode file.lists)) later) in
     let told = subst (TellsItems (file_items type m file.uses sections)) (sym (parts_front c head uses meta tail)) all in record {
       is = file_is type file sections (front_text file ++ tail) told h.all h.flat fits;
-      laid = record { blocks = h.blocks; declared = h.says; spelled = ap (λ bs. front_text file ++ (bs ++ footer_text)) h.spelled };
+      laid = record { blocks = h.blocks; declared = h.says; spelled = ap (λ bs. front_text file ++ (bs ++ footer)) h.spelled };
       short = has_short type m file.uses sections (front_text file ++ tail) told h.all;
     }
   where
     parts_front : (c head uses meta tail : List ℕ) → (c ++ (head ++ (uses ++ meta))) ++ tail ≡ c ++ (head ++ (uses ++ (meta ++ tail)))
     parts_front c head uses meta tail = append_assoc c (head ++ (uses ++ meta)) tail ∙ ap (λ bs. c ++ bs) (append_assoc head (uses ++ meta) tail ∙ ap (λ bs. head ++ bs) (append_assoc uses meta tail))
 
-pub whole_appended : (lengths : ℕ → ℕ) (file : File) (type : Bool) (old o a b c d new : List ℕ) → type ≡ is_to_unicode file.lists → o ≡ old ++ comments_text file.metadata.name → a ≡ o ++ header_text type → b ≡ a ++ flat_map use_text file.uses → c ≡ b ++ metadata_text file.metadata
-    → Appends c d (TellsSections lengths (declarations_of file.lists)) → new ≡ d ++ footer_text → IsSayable file → IfSome file.metadata.collection CollectionFits → Appends old new (IsWritten lengths file)
-whole_appended lengths file type old o a b c d new same first second third fourth (body, fifth, told) last sayable fits =
+pub whole_appended : (lengths : ℕ → ℕ) (file : File) (type has_name : Bool) (old o a b c d new : List ℕ) → type ≡ is_to_unicode file.lists → has_name ≡ is_some file.metadata.name → o ≡ old ++ comments_text file.metadata.name → a ≡ o ++ header_text type → b ≡ a ++ flat_map use_text file.uses → c ≡ b ++ metadata_text file.metadata
+    → Appends c d (TellsSections lengths (declarations_of file.lists)) → new ≡ d ++ footer_text has_name → IsSayable file → IfSome file.metadata.collection CollectionFits → Appends old new (IsWritten lengths file)
+whole_appended lengths file type has_name old o a b c d new same named first second third fourth (body, fifth, told) last sayable fits =
     let head = header_text type in
     let uses = flat_map use_text file.uses in
     let meta = metadata_text file.metadata in
+    let footer = footer_text (is_some file.metadata.name) in
+    let ends : new ≡ d ++ footer = last ∙ ap (λ n. d ++ footer_text n) named in
     let front : c ≡ old ++ (comments_text file.metadata.name ++ (head ++ (uses ++ meta))) = joined old o c (comments_text file.metadata.name) (head ++ (uses ++ meta)) first (joined o a c head (uses ++ meta) second (joined a b c uses meta third fourth)) in (
-      front_text file ++ (body ++ footer_text),
-      joined old c new (front_text file) (body ++ footer_text) (front ∙ ap (λ t. old ++ (comments_text file.metadata.name ++ (header_text t ++ (uses ++ meta)))) same) (joined c d new body footer_text fifth last),
+      front_text file ++ (body ++ footer),
+      joined old c new (front_text file) (body ++ footer) (front ∙ ap (λ t. old ++ (comments_text file.metadata.name ++ (header_text t ++ (uses ++ meta)))) same) (joined c d new body footer fifth ends),
       whole_told lengths file body sayable fits told,
     )
 

@@ -95,8 +95,13 @@ type_text false = codes "/CMapType 1 def\n"
 abbrev pub header_text : Bool → List ℕ
 header_text is_to_unicode = codes "/CIDInit /ProcSet findresource begin\n12 dict begin\nbegincmap\n" ++ type_text is_to_unicode
 
-abbrev pub footer_text : List ℕ
-footer_text = codes "endcmap\nCMapName currentdict /CMap defineresource pop\nend\nend\n%%EOF\n"
+-- the comments after it: the resource is ended where it has a name
+abbrev pub end_text : Bool → List ℕ
+end_text true = codes "%%EndResource\n%%EOF\n"
+end_text false = codes "%%EOF\n"
+
+abbrev pub footer_text : Bool → List ℕ
+footer_text has_name = codes "endcmap\nCMapName currentdict /CMap defineresource pop\nend\nend\n" ++ end_text has_name
 
 abbrev pub use_text : List ℕ → List ℕ
 use_text bytes = slash ∷ bytes ++ (if is_key bytes then codes " () usecmap\n" else codes " usecmap\n")

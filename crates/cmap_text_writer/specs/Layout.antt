@@ -1,5 +1,5 @@
 -- How a file is laid out as text: each byte, but for where sections end and which texts stand in arrays.
-use Rattle.std.specs.Prelude.{◌≡◌, ℕ, ◌+◌, ◌==◌, ◌&&◌, Bool, not, List, [], ◌∷◌, ◌++◌, codes, flat_map, length, map}
+use Rattle.std.specs.Prelude.{◌≡◌, ℕ, ◌+◌, ◌==◌, ◌&&◌, Bool, not, List, [], ◌∷◌, ◌++◌, codes, flat_map, length, map, is_some}
 use Rattle.cmap_values.specs.Files.{BfEntry, ByLength, CidEntry, Codespace, Declaration, File, FileMetadata, Lists}
 use Rattle.cmap_values.specs.ListsByKind.{declarations_of}
 use Rattle.cmap_tokens.specs.Ascii.{space}
@@ -71,4 +71,4 @@ front_text file = comments_text file.metadata.name ++ (header_text (is_to_unicod
 pub record IsLaidOut (lengths : ℕ → ℕ) (file : File) (text : List ℕ) : Type 0 where
   pub blocks : List Block
   pub declared : flat_map declared_in blocks ≡ declarations_of file.lists
-  pub spelled : text ≡ front_text file ++ (flat_map (block_spelled lengths) blocks ++ footer_text)
+  pub spelled : text ≡ front_text file ++ (flat_map (block_spelled lengths) blocks ++ footer_text (is_some file.metadata.name))

@@ -11,7 +11,7 @@ ghost use Rattle.cmap_text_writer.specs.Lengths.{length_by, text_length};
 ghost use Rattle.cmap_text_writer.specs.Obstacles.{IsObstacle, NoTextSays};
 ghost use Rattle.cmap_text_writer.specs.Written.{HasShortSections, IsWritten};
 ghost use Rattle.cmap_text_writer.specs.Told.{Appends};
-ghost use Rattle.cmap_text_writer.specs.FileItems.{comments_text, footer_text, header_text, resource_text, type_text};
+ghost use Rattle.cmap_text_writer.specs.FileItems.{comments_text, end_text, footer_text, header_text, resource_text, type_text};
 
 use crate::check::check_file;
 use crate::lists::push_lists;
@@ -70,7 +70,7 @@ fn push_file(
     push_uses(out, &file.uses)?;
     push_metadata(out, &file.metadata)?;
     push_lists(alloc, out, &file.lists, lengths)?;
-    push_footer(out)
+    push_footer(out, file.metadata.name.is_some())
 }
 
 /// Whether codes stand for Unicode texts alone, and not for CIDs.
@@ -129,10 +129,20 @@ fn push_type(out: &mut Vec<u8>, is_to_unicode: bool) -> Result<(), AllocError>
 }
 
 /// Writes the last lines.
-fn push_footer(out: &mut Vec<u8>) -> Result<(), AllocError>
-    ensures { OnOk result (out.new.items ≡ out.old.items ++ footer_text) }
+fn push_footer(out: &mut Vec<u8>, has_name: bool) -> Result<(), AllocError>
+    ensures { OnOk result (out.new.items ≡ out.old.items ++ footer_text has_name) }
 {
-    out.extend_from_slice(
-        b"endcmap\nCMapName currentdict /CMap defineresource pop\nend\nend\n%%EOF\n",
-    )
+    out.extend_from_slice(b"endcmap\nCMapName currentdict /CMap defineresource pop\nend\nend\n")?;
+    push_end(out, has_name)
+}
+
+/// Writes the comments after a file. The resource is ended where it has a name.
+fn push_end(out: &mut Vec<u8>, has_name: bool) -> Result<(), AllocError>
+    ensures { OnOk result (out.new.items ≡ out.old.items ++ end_text has_name) }
+{
+    if has_name {
+        out.extend_from_slice(b"%%EndResource\n%%EOF\n")
+    } else {
+        out.extend_from_slice(b"%%EOF\n")
+    }
 }
