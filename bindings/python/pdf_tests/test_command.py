@@ -144,7 +144,10 @@ class Command(Folder):
     def test_repair_of_a_file_that_cannot_be_written(self):
         status, _, fault = self.command("repair", "bad.pdf", "none/out.pdf")
         self.assertEqual(status, 2)
-        self.assertIn("out.pdf can't be written", fault)
+        self.assertIn("out.pdf can't be written: No such file or directory", fault)
+        self.path("out.pdf").mkdir()
+        status, _, fault = self.command("repair", "bad.pdf", "out.pdf")
+        self.assertEqual((status, fault.split(": ")[-1]), (2, "it is no regular file\n"))
 
     def test_repair_in_place(self):
         self.assertEqual(self.command("repair", "bad.pdf", "bad.pdf")[0], 0)

@@ -1,10 +1,13 @@
 """ToUnicode CMaps that are written anew."""
 
+import os
 import shutil
+import stat
 import subprocess
 import tempfile
 import unittest
 from pathlib import Path
+from unittest import mock
 
 import pikepdf
 from pikepdf import Array, Dictionary, Name
@@ -150,6 +153,64 @@ class Saved(unittest.TestCase):
         with self.assertRaises((OSError, RuntimeError)):
             pdf.save(file.pdf, self.folder / "none" / "b.pdf")
         self.assertEqual(list(self.folder.iterdir()), [])
+
+    def names(self):
+        """The names of all files there."""
+        return sorted(it.name for it in self.folder.iterdir())
+
+    def test_files_beside_it_stay(self):
+        """Those too that have the names of the files which are written beside others."""
+        names = ["b.pdf.new", "b.pdf.new-0", "b.pdf.new-1"]
+        for name in names:
+            (self.folder / name).write_bytes(name.encode())
+        self.repaired(showing(b"A", BAD))
+        self.assertEqual([(self.folder / name).read_bytes().decode() for name in names], names)
+        self.assertEqual(self.names(), ["a.pdf", "b.pdf", *names])
+
+    def test_what_breaks_off(self):
+        """The file that was there stays, and no other one is left."""
+        names = ["b.pdf", "b.pdf.new"]
+        for name in names:
+            (self.folder / name).write_bytes(name.encode())
+        for fault in [RuntimeError, KeyboardInterrupt]:
+            with mock.patch.object(pikepdf.Pdf, "save", side_effect=fault), self.assertRaises(fault):
+                pdf.save(showing(b"A", BAD).pdf, self.folder / "b.pdf")
+        self.assertEqual([(self.folder / name).read_bytes().decode() for name in names], names)
+        self.assertEqual(self.names(), names)
+
+    def test_permissions(self):
+        """They are those of the file that is replaced, else those of any new file."""
+        after = self.folder / "b.pdf"
+        self.addCleanup(os.umask, os.umask(0o027))
+        self.repaired(showing(b"A", BAD))
+        self.assertEqual(stat.S_IMODE(after.stat().st_mode), 0o640)
+        for permissions in [0o600, 0o664]:
+            after.chmod(permissions)
+            self.repaired(showing(b"A", BAD))
+            self.assertEqual(stat.S_IMODE(after.stat().st_mode), permissions)
+
+    def test_a_link(self):
+        """It stays, and the file that it leads to is replaced or made, beside which the new one is written."""
+        below, after = self.folder / "below", self.folder / "b.pdf"
+        below.mkdir()
+        after.symlink_to(below / "c.pdf")
+        for _ in range(2):
+            self.repaired(showing(b"A", BAD))
+            self.assertTrue(after.is_symlink())
+            self.assertEqual([it.name for it in below.iterdir()], ["c.pdf"])
+            with pikepdf.open(below / "c.pdf") as read:
+                self.assertEqual(pdf.check(read).refused, 0)
+
+    def test_what_is_no_file(self):
+        """It isn't replaced."""
+        pipe, folder = self.folder / "pipe", self.folder / "folder"
+        os.mkfifo(pipe)
+        folder.mkdir()
+        for place in [pipe, folder]:
+            with self.assertRaisesRegex(OSError, "it is no regular file"):
+                pdf.save(showing(b"A", BAD).pdf, place)
+        self.assertTrue(pipe.is_fifo() and folder.is_dir())
+        self.assertEqual(self.names(), ["folder", "pipe"])
 
     @unittest.skipUnless(shutil.which("pdftotext"), "Debian's package poppler-utils isn't installed")
     def test_another_reader(self):

@@ -95,7 +95,8 @@ def run_repair(path, pdf, options, progress) -> Result:
         if any(it.kept for it in done):
             save(pdf, options["output"])
     except (pikepdf.PdfError, OSError, RuntimeError) as fault:
-        return Result(path, 2, fault=f"{options['output']} can't be written: {fault}")
+        reason = getattr(fault, "strerror", None) or fault
+        return Result(path, 2, fault=f"{options['output']} can't be written: {reason}")
     lines, objects = [], []
     for it in done:
         reports = [before[font.number] for font in it.fonts if font.number in before]

@@ -6,6 +6,7 @@ from typing import Any, Dict, List, NamedTuple, Tuple, Union
 import pikepdf
 
 from .. import CMap, CMapWriter, Codespace
+from ._beside import written_beside
 from ._fonts import Fault, Font, fonts
 from ._objects import dictionary_at, integer_at, object_number, stream_at
 
@@ -125,12 +126,13 @@ def save(pdf: pikepdf.Pdf, path: Union[str, "os.PathLike[str]"]) -> None:
     """Writes a file with all objects as they are, and their streams byte for byte; an encrypted one stays encrypted,
     and then its streams are what they were once they are decoded.
 
-    It is written beside its place and then put there, so that another file of this name stays as it is if that fails.
+    It is written beside its place and then put there: where that fails, a file that was there stays as it is, else its
+    permissions stay. A link there stays, and the file that it leads to is replaced. OSError where something else than a
+    file is there.
     """
-    new = f"{os.fspath(path)}.new"
-    try:
+    with written_beside(path) as file:
         pdf.save(
-            new,
+            file,
             preserve_pdfa=False,
             fix_metadata_version=False,
             # pikepdf takes no level together with an encryption
@@ -138,7 +140,3 @@ def save(pdf: pikepdf.Pdf, path: Union[str, "os.PathLike[str]"]) -> None:
             object_stream_mode=pikepdf.ObjectStreamMode.preserve,
             encryption=pdf.is_encrypted,
         )
-        os.replace(new, path)
-    finally:
-        if os.path.exists(new):
-            os.remove(new)
