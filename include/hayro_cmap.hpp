@@ -1052,13 +1052,14 @@ inline std::optional<std::string> bytes_of(const std::filesystem::path &path) {
     return bytes;
 }
 
-// The folders in a folder, in order; none where it can't be read.
+// The folders in a folder that aren't hidden, in order; none where it can't be read.
 inline std::vector<std::filesystem::path> subfolders(const std::filesystem::path &folder) {
     std::vector<std::filesystem::path> found;
     std::error_code fault;
     std::filesystem::directory_iterator entry(folder, fault), end;
     for (; !fault && entry != end; entry.increment(fault))
-        if (std::error_code none; std::filesystem::is_directory(entry->symlink_status(none)))
+        if (std::error_code none; entry->path().filename().native()[0] != '.' &&
+                                  std::filesystem::is_directory(entry->symlink_status(none)))
             found.push_back(entry->path());
     std::sort(found.begin(), found.end());
     return found;
@@ -1081,8 +1082,8 @@ inline std::vector<std::string> predefined_folders() {
 // The predefined CMap file of a name, as 90ms-RKSJ-H; nothing where the system has none. It is looked up
 // in the folders of the environment variable CMAP_PATH, with colons between them, and without the
 // variable where packages of Linux put these files; in each folder first, and then in its subfolders. A
-// name stands for nothing outside of them, and for no hidden file. std::filesystem::filesystem_error where
-// a file can't be read.
+// name stands for nothing outside of them, and for no hidden file and none of a hidden subfolder.
+// std::filesystem::filesystem_error where a file can't be read.
 inline std::optional<std::string> predefined_file(const std::string &name) {
     if (name.empty() || name[0] == '.' || name.find('/') != std::string::npos ||
         name.find('\0') != std::string::npos)

@@ -11,8 +11,9 @@ Path = Union[str, "os.PathLike[str]"]
 def folder(*paths: Path) -> Callable[[Name], Optional[bytes]]:
     """Gives the files in these folders and their subfolders, each when it is asked for by its name.
 
-    A name stands for a file that was there when the folders were gone through, and for nothing outside of them. The
-    first folder that has it counts, and in a folder the first path. OSError where a folder can't be read.
+    A name stands for a file that was there when the folders were gone through, and for nothing outside of them. Files
+    and subfolders that are hidden, whose names begin with a dot, are passed over. The first folder that has a name
+    counts, and in a folder the first path. OSError where a folder can't be read.
     """
     found: Dict[bytes, bytes] = {}
     for path in paths:
@@ -30,13 +31,20 @@ def folder(*paths: Path) -> Callable[[Name], Optional[bytes]]:
 
 
 def files_below(path):
-    """The paths of all files in a folder and its subfolders. A link to a folder isn't followed."""
+    """The paths of all files in a folder and its subfolders, but for hidden ones. A link to a folder isn't followed."""
 
     def stop(fault):
         raise fault
 
-    for below, _, names in os.walk(path, onerror=stop):
-        for name in names:
+    for below, subfolders, names in os.walk(path, onerror=stop):
+        # the walk goes on to those that are left
+        subfolders[:] = seen(subfolders)
+        for name in seen(names):
             file = os.path.join(below, name)
             if os.path.isfile(file):
                 yield file
+
+
+def seen(names):
+    """The names that aren't hidden."""
+    return [name for name in names if not name.startswith(b".")]

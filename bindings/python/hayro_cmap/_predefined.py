@@ -16,7 +16,8 @@ def predefined(name: Name) -> Optional[bytes]:
 
     It is looked up in the folders of the environment variable CMAP_PATH, with colons between them, and without the
     variable where packages of Linux put these files. A folder's own file counts before those of its subfolders. A name
-    stands for nothing outside of the folders, and for no hidden file. OSError where a file is there and can't be read.
+    stands for nothing outside of the folders, and for no hidden file and none of a hidden subfolder. OSError where a
+    file is there and can't be read.
     """
     path = path_of(name_of(name))
     if path is None:
@@ -100,10 +101,14 @@ def places(name: bytes) -> Iterator[bytes]:
 
 
 def subfolders(folder: bytes) -> List[bytes]:
-    """The folders in a folder, in order; none where it can't be read."""
+    """The folders in a folder that aren't hidden, in order; none where it can't be read."""
     try:
         with os.scandir(folder) as entries:
-            return sorted(entry.path for entry in entries if entry.is_dir(follow_symlinks=False))
+            return sorted(
+                entry.path
+                for entry in entries
+                if not entry.name.startswith(b".") and entry.is_dir(follow_symlinks=False)
+            )
     except OSError:
         return []
 

@@ -64,6 +64,18 @@ class Predefined(unittest.TestCase):
         with self.path(), self.assertRaises(Refused):
             CMap.open("Small-V")
 
+    def test_nothing_hidden(self):
+        """But a folder that is asked for may be hidden."""
+        hidden = Path(self.folder, ".hidden")
+        hidden.mkdir()
+        (hidden / "Hidden-H").write_bytes(SMALL)
+        (hidden / ".Hidden-H").write_bytes(SMALL)
+        with self.path(self.folder):
+            found = [predefined(name) for name in ["Hidden-H", ".Hidden-H", "Small-H"]]
+            self.assertEqual(found, [None, None, SMALL])
+        with self.path(str(hidden)):
+            self.assertEqual([predefined("Hidden-H"), predefined(".Hidden-H")], [SMALL, None])
+
     @needs_resources
     def test_system(self):
         with unittest.mock.patch.dict(os.environ):
@@ -193,6 +205,18 @@ class Folders(unittest.TestCase):
             for outside in [b"../Outside", b"Outside", b"deep/Small-H", b"", b".", b"..", b"a\0"]:
                 self.assertIsNone(files(outside))
             self.assertRaises(OSError, folder, top / "nowhere")
+
+    def test_nothing_hidden(self):
+        """But a folder that is given may be hidden."""
+        with tempfile.TemporaryDirectory() as name:
+            top = Path(name, ".top")
+            for path in ["a/.hidden/A", "a/.hidden/deep/B", "a/.C", ".hidden/D", "a/b/E"]:
+                (top / path).parent.mkdir(parents=True, exist_ok=True)
+                (top / path).write_bytes(SMALL)
+            files = folder(top)
+            self.assertEqual([files(it) for it in ["A", "B", "C", ".C", "D", "E"]], [None] * 5 + [SMALL])
+            files = folder(top / ".hidden", top / "a" / ".hidden")
+            self.assertEqual([files(it) for it in ["A", "B", "D", "E"]], [SMALL] * 3 + [None])
 
 
 if __name__ == "__main__":

@@ -22,7 +22,8 @@ const SYSTEM_FOLDERS: [&str; 3] =
 ///
 /// It is looked up in the folders of the environment variable `CMAP_PATH`, with colons between them, and
 /// without the variable where packages of Linux put these files; in each folder first, and then in its
-/// subfolders. A name stands for nothing outside of them, and for no hidden file.
+/// subfolders. A name stands for nothing outside of them, and for no hidden file and none of a hidden
+/// subfolder.
 pub fn predefined_file(name: CMapName<'_>) -> io::Result<Option<Vec<u8>>> {
     let name = name.to_bytes();
     if matches!(name, [] | [b'.', ..]) || name.contains(&b'/') || name.contains(&0) {
@@ -50,14 +51,16 @@ fn folders() -> Vec<PathBuf> {
     }
 }
 
-/// The folders in a folder, in the order of their names; none where it can't be read.
+/// The folders in a folder that aren't hidden, in the order of their names; none where it can't be read.
 fn subfolders(folder: &Path) -> Vec<PathBuf> {
     let Ok(entries) = fs::read_dir(folder) else {
         return Vec::new();
     };
+    let is_hidden = |entry: &fs::DirEntry| entry.file_name().as_bytes().starts_with(b".");
     let is_folder = |entry: &fs::DirEntry| entry.file_type().is_ok_and(|kind| kind.is_dir());
+    let is_seen = |entry: &fs::DirEntry| !is_hidden(entry) && is_folder(entry);
     let mut found: Vec<PathBuf> =
-        entries.flatten().filter(is_folder).map(|entry| entry.path()).collect();
+        entries.flatten().filter(is_seen).map(|entry| entry.path()).collect();
     found.sort();
     found
 }

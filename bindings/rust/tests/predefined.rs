@@ -10,11 +10,13 @@ fn has_file(name: &[u8]) -> bool {
 #[test]
 fn predefined_files_are_found() {
     let folder = env::temp_dir().join(format!("cmap-{}", process::id()));
-    let below = folder.join("below");
+    let (below, hidden) = (folder.join("below"), folder.join(".hidden"));
     fs::create_dir_all(&below).unwrap();
+    fs::create_dir_all(&hidden).unwrap();
     fs::write(below.join("Top"), "/Base usecmap begincidchar <02> 2 endcidchar").unwrap();
     fs::write(below.join("Base"), "begincidchar <01> 1 endcidchar").unwrap();
     fs::write(folder.join("Outside"), "begincidchar <01> 1 endcidchar").unwrap();
+    fs::write(hidden.join("Hidden"), "begincidchar <01> 1 endcidchar").unwrap();
 
     let path = env::join_paths(["/nowhere".as_ref(), folder.as_path()]).unwrap();
     // SAFETY: no other thread reads the environment.
@@ -25,10 +27,14 @@ fn predefined_files_are_found() {
     assert!(CMap::open_predefined(CMapName::IdentityV).unwrap().is_some());
     assert!(CMap::open_predefined("Top").unwrap().is_some());
     assert!(!has_file(b"below") && !has_file(b"") && !has_file(b"..") && !has_file(b"Top\0"));
+    assert!(!has_file(b"Hidden"));
 
     // SAFETY: as above.
     unsafe { env::set_var("CMAP_PATH", &below) };
     assert!(has_file(b"Top") && !has_file(b"../Outside"));
+    // SAFETY: as above.
+    unsafe { env::set_var("CMAP_PATH", &hidden) };
+    assert!(has_file(b"Hidden"));
     // SAFETY: as above.
     unsafe { env::set_var("CMAP_PATH", "") };
     assert!(!has_file(b"Top"));
