@@ -1,7 +1,9 @@
 """The codes of a font that may have texts."""
 
 import bisect
-from typing import Iterable, Iterator, List, Optional, Tuple
+from typing import Iterable, Iterator, List, Tuple
+
+from ._codespaces import Codespaces
 
 #: The first and the last of numbers in a row.
 Range = Tuple[int, int]
@@ -17,7 +19,7 @@ def candidates(encoding, to_unicode, collection) -> Iterator[bytes]:
         cids = [it for layer in layers for it in layer.cids if it.byte_len == byte_len]
         notdefs = [it for layer in layers for it in layer.notdefs if it.byte_len == byte_len]
         declared = [*counted(cids, of_cids), *same(notdefs, of_cids)]
-        lying_in = [it for it in codespaces if it.byte_len == byte_len]
+        lying_in = Codespaces(it for it in codespaces if it.byte_len == byte_len)
         for first, last in union([*of_codes, *declared]):
             for code in codes_in(first, min(last, 256**byte_len - 1), lying_in):
                 yield code.to_bytes(byte_len, "big")
@@ -53,34 +55,15 @@ def counted(cids, with_text: List[Range]) -> Iterator[Range]:
 
 def same(notdefs, with_text: List[Range]) -> Iterator[Range]:
     """The codes of notdefs whose CID is one of these."""
+    firsts = [first for first, _ in with_text]
     for it in notdefs:
-        if any(first <= it.cid <= last for first, last in with_text):
+        before = bisect.bisect_right(firsts, it.cid)
+        if before and it.cid <= with_text[before - 1][1]:
             yield it.first, it.last
 
 
-def codes_in(first: int, last: int, codespaces) -> Iterator[int]:
-    """The codes of a row that lie in one of these codespace ranges, which are of one length."""
-    code = first
-    while code <= last:
-        following = ((next_in(code, codespace), codespace.high) for codespace in codespaces)
-        # each with the last code that has the same bytes but for its last one
-        rows = [(it, it - it % 0x100 + high % 0x100) for it, high in following if it is not None]
-        start, end = min(rows, default=(last + 1, last))
-        yield from range(start, min(end, last) + 1)
-        code = end + 1
-
-
-def next_in(code: int, codespace) -> Optional[int]:
-    """The least code from this one on that lies in a codespace range; None where there is none."""
-    low, at, high = (it.to_bytes(codespace.byte_len, "big") for it in (codespace.low, code, codespace.high))
-    if any(least > most for least, most in zip(low, high)):
-        return None
-    for index, (least, byte, most) in enumerate(zip(low, at, high)):
-        if byte < least:
-            return int.from_bytes(at[:index] + low[index:], "big")
-        if byte > most:
-            grown = [before for before in range(index) if at[before] < high[before]]
-            if not grown:
-                return None
-            return int.from_bytes(at[: grown[-1]] + bytes([at[grown[-1]] + 1]) + low[grown[-1] + 1 :], "big")
-    return code
+def codes_in(first: int, last: int, codespaces: Codespaces) -> Iterator[int]:
+    """The codes of a row that lie in a codespace range."""
+    for start, end, byte_len in codespaces.parts(first, last):
+        if byte_len:
+            yield from range(start, end + 1)

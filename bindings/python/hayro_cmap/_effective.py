@@ -4,6 +4,8 @@ import heapq
 import itertools
 from typing import Iterable, Iterator, List, NamedTuple, Sequence, Tuple
 
+from ._codespaces import PLACES, Codespaces
+
 #: The last units that a text may have, by whether a high surrogate stands before them.
 SINGLE_UNITS = [(0x0000, 0xD7FF), (0xE000, 0xFFFF)]
 LOW_SURROGATES = [(0xDC00, 0xDFFF)]
@@ -21,11 +23,12 @@ class TextRun(NamedTuple):
 
 def effective(declared, codespaces) -> List[TextRun]:
     """The texts of declarations, of which the first one that has a code decides, in the order of the codes."""
+    lengths = Codespaces(codespaces)
     return [
         TextRun(low, high, text_at(text, low - first), byte_len)
         for start, end, declaration in decided([it for it in declared if it.first <= it.last])
         for first, last, text in with_texts(start, end, declaration)
-        for low, high, byte_len in by_length(first, last, codespaces)
+        for low, high, byte_len in by_length(first, last, lengths)
     ]
 
 
@@ -49,14 +52,14 @@ def decided(declared: Sequence) -> Iterator[Tuple[int, int, object]]:
             yield first, last, declared[index]
 
 
-def joined(rows):
-    """Rows that lie side by side, and that one declaration decides on, as one."""
-    found = []
-    for first, last, index in rows:
-        if found and found[-1][2] == index and found[-1][1] + 1 == first:
-            found[-1] = (found[-1][0], last, index)
+def joined(rows: Iterable[Tuple[int, int, int]]) -> List[Tuple[int, int, int]]:
+    """Rows that lie side by side and have the same third number, as one."""
+    found: List[Tuple[int, int, int]] = []
+    for first, last, number in rows:
+        if found and found[-1][2] == number and found[-1][1] + 1 == first:
+            found[-1] = (found[-1][0], last, number)
         else:
-            found.append((first, last, index))
+            found.append((first, last, number))
     return found
 
 
@@ -90,34 +93,22 @@ def text_at(text: str, offset: int) -> str:
     return (units[:-2] + (int.from_bytes(units[-2:], "big") + offset).to_bytes(2, "big")).decode("utf-16-be")
 
 
-def by_length(first: int, last: int, codespaces) -> Iterator[Tuple[int, int, int]]:
-    """Codes in a row, cut where the length of their bytes changes."""
-    lengths = {it.byte_len for it in codespaces}
-    if len(lengths) == 1 and last < 256 ** max(lengths):
-        yield first, last, max(lengths)
-        return
-    edges = {0} | {it.low & 0xFF for it in codespaces} | {(it.high & 0xFF) + 1 for it in codespaces}
-    cuts = sorted(
-        {first}
-        | {row + edge for row in range(first & ~0xFF, last + 1, 0x100) for edge in edges if first < row + edge <= last}
+def by_length(first: int, last: int, codespaces: Codespaces) -> List[Tuple[int, int, int]]:
+    """Codes in a row, cut where the length of their bytes changes. A code has as many as the shortest codespace range
+    that has it; else the fewest that write it, and no fewer than the shortest codes have."""
+    lengths = codespaces.lengths or [1]
+    if len(lengths) == 1 and last < 256 ** lengths[0]:
+        return [(first, last, lengths[0])]
+    return joined(
+        part
+        for start, end, byte_len in codespaces.parts(first, last)
+        for part in ([(start, end, byte_len)] if byte_len else by_size(start, end, lengths[0]))
     )
-    lengths = [(low, code_length(low, codespaces)) for low in cuts]
-    starts = [next(group) for _, group in itertools.groupby(lengths, key=lambda it: it[1])]
-    for (low, byte_len), (after, _) in zip(starts, [*starts[1:], (last + 1, 0)]):
-        yield low, after - 1, byte_len
 
 
-def code_length(code: int, codespaces: Iterable) -> int:
-    """How many bytes a code has: as many as in the shortest codespace range that has it; else the fewest that write
-    it, and no fewer than the shortest codes have."""
-    lengths = [it.byte_len for it in codespaces]
-    found = [it.byte_len for it in codespaces if lies_in(code, it)]
-    return min(found) if found else max((code.bit_length() + 7) // 8, min(lengths, default=1))
-
-
-def lies_in(code: int, codespace) -> bool:
-    """Whether a code lies in a codespace range, byte by byte (ISO 32000-1, 9.7.6.2)."""
-    if code >> 8 * codespace.byte_len:
-        return False
-    low, byte, high = (it.to_bytes(codespace.byte_len, "big") for it in (codespace.low, code, codespace.high))
-    return all(least <= value <= most for least, value, most in zip(low, byte, high))
+def by_size(first: int, last: int, fewest: int) -> Iterator[Tuple[int, int, int]]:
+    """Codes in a row, cut where more bytes are needed to write them than before, and `fewest` at least."""
+    for byte_len in range(fewest, PLACES + 1):
+        start, end = max(first, 256 ** (byte_len - 1) if byte_len > fewest else 0), min(last, 256**byte_len - 1)
+        if start <= end:
+            yield start, end, byte_len
