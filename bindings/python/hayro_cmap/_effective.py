@@ -1,8 +1,8 @@
 """Which text each code of a map has, over all declarations of its layers."""
 
+import contextlib
 import heapq
-import itertools
-from typing import Iterable, Iterator, List, NamedTuple, Sequence, Tuple
+from typing import Dict, Iterable, Iterator, List, NamedTuple, Sequence, Tuple
 
 from ._codespaces import PLACES, Codespaces
 
@@ -21,19 +21,39 @@ class TextRun(NamedTuple):
     byte_len: int
 
 
-def effective(declared, codespaces) -> List[TextRun]:
+class TextRow(NamedTuple):
+    """Codes in a row that have texts, whatever their lengths are. Each is `start` and one character more: that of
+    `first` is `character`, and it counts on from code to code."""
+
+    first: int
+    last: int
+    start: str
+    character: int
+
+
+def effective(declared, codespaces) -> Iterator[TextRun]:
     """The texts of declarations, of which the first one that has a code decides, in the order of the codes."""
     lengths = Codespaces(codespaces)
-    return [
-        TextRun(low, high, text_at(text, low - first), byte_len)
-        for start, end, declaration in decided([it for it in declared if it.first <= it.last])
-        for first, last, text in with_texts(start, end, declaration)
-        for low, high, byte_len in by_length(first, last, lengths)
-    ]
+    for row in text_rows(declared):
+        for first, last, byte_len in by_length(row.first, row.last, lengths):
+            yield TextRun(first, last, row.start + chr(row.character + first - row.first), byte_len)
 
 
-def decided(declared: Sequence) -> Iterator[Tuple[int, int, object]]:
-    """Codes in a row, the first and the last one, with the declaration that decides on all of them."""
+def text_rows(declared) -> Iterator[TextRow]:
+    """The same as rows, of which those of one declaration share what their texts begin with."""
+    given = [it for it in declared if it.first <= it.last]
+    made: Dict[int, List[TextRow]] = {}
+    for start, end, index in decided(given):
+        if index not in made:
+            made[index] = rows_of(given[index])
+        for row in made[index]:
+            first, last = max(start, row.first), min(end, row.last)
+            if first <= last:
+                yield TextRow(first, last, row.start, row.character + first - row.first)
+
+
+def decided(declared: Sequence) -> List[Tuple[int, int, int]]:
+    """Codes in a row, the first and the last one, with the index of the declaration that decides on all of them."""
     order = iter(sorted(range(len(declared)), key=lambda index: declared[index].first))
     bounds = sorted({it.first for it in declared} | {it.last + 1 for it in declared})
     open_: List[int] = []
@@ -47,9 +67,7 @@ def decided(declared: Sequence) -> Iterator[Tuple[int, int, object]]:
             heapq.heappop(open_)
         if open_:
             rows.append((low, high - 1, open_[0]))
-    for index, row in itertools.groupby(joined(rows), key=lambda it: it[2]):
-        for first, last, _ in row:
-            yield first, last, declared[index]
+    return joined(rows)
 
 
 def joined(rows: Iterable[Tuple[int, int, int]]) -> List[Tuple[int, int, int]]:
@@ -63,28 +81,27 @@ def joined(rows: Iterable[Tuple[int, int, int]]) -> List[Tuple[int, int, int]]:
     return found
 
 
-def with_texts(first, last, declaration) -> Iterator[Tuple[int, int, str]]:
-    """Those of these codes of a declaration that have a text, in rows with the text of the first one."""
+def rows_of(declaration) -> List[TextRow]:
+    """The codes of a declaration that have texts."""
     units = declaration.text.encode("utf-16-be", "surrogatepass")
-    before, unit = units[:-2], int.from_bytes(units[-2:], "big")
-    for low, high in last_units(before):
-        start = max(first, declaration.first + low - unit)
-        end = min(last, declaration.first + high - unit)
-        if start <= end:
-            yield start, end, (before + (unit + start - declaration.first).to_bytes(2, "big")).decode("utf-16-be")
+    unit = int.from_bytes(units[-2:], "big")
+    start, ranges, character = last_units(units[:-2])
+    # a unit and this is the code whose text ends with the unit
+    further = declaration.first - unit
+    found = [(max(declaration.first, low + further), min(declaration.last, high + further)) for low, high in ranges]
+    return [TextRow(first, last, start, character + first - further) for first, last in found if first <= last]
 
 
-def last_units(before: bytes):
-    """The ranges of units that make a text with the bytes before them; none where these have a lone surrogate."""
-    for end, units in [(len(before), SINGLE_UNITS), (len(before) - 2, LOW_SURROGATES)]:
-        try:
-            before[: max(end, 0)].decode("utf-16-be")
-        except UnicodeDecodeError:
-            continue
-        is_whole = end == len(before)
-        if is_whole or (end >= 0 and 0xD8 <= before[end] <= 0xDB):
-            return units
-    return []
+def last_units(before: bytes) -> Tuple[str, List[Tuple[int, int]], int]:
+    """The characters before the last one of a text with these units before its last unit, the ranges of units that make
+    a text with them, and the character of the unit 0. There are no ranges where a surrogate stands alone."""
+    with contextlib.suppress(UnicodeDecodeError):
+        return before.decode("utf-16-be"), SINGLE_UNITS, 0
+    high = int.from_bytes(before[-2:], "big")
+    if 0xD800 <= high <= 0xDBFF:
+        with contextlib.suppress(UnicodeDecodeError):
+            return before[:-2].decode("utf-16-be"), LOW_SURROGATES, 0x10000 + (high - 0xD800 << 10) - 0xDC00
+    return "", [], 0
 
 
 def text_at(text: str, offset: int) -> str:

@@ -10,7 +10,7 @@ from typing import Iterable, Iterator, List, NamedTuple, Optional, Tuple, Union
 
 from . import _based
 from ._bundle import Bundle, held
-from ._effective import TextRun, effective, text_at
+from ._effective import TextRow, TextRun, effective, text_at, text_rows
 from ._faults import Cause, NotWritable, Refused
 from ._library import (
     ABSENT,
@@ -394,10 +394,7 @@ class CMap(Owned):
         `codespaces`, by default all codespace ranges of the map: as many as in the shortest range that has it, else
         the fewest that write it, and no fewer than the shortest codes have.
         """
-        layers = self.layers
-        given = None if codespaces is None else [codespace_of(it) for it in codespaces]
-        ranges = [it for layer in layers for it in layer.codespaces] if given is None else given
-        return effective([it for layer in layers for it in reversed(layer.texts)], ranges)
+        return list(self._text_runs(codespaces))
 
     def items(self, codespaces: Optional[Iterable[Codespace]] = None) -> Iterator[Tuple[bytes, str]]:
         """Each code that has a text: its bytes, by `texts` of these codespace ranges, and the text. So
@@ -407,6 +404,20 @@ class CMap(Owned):
             for run in self.texts(codespaces)
             for code in range(run.first, run.last + 1)
         )
+
+    def _text_runs(self, codespaces: Optional[Iterable[Codespace]]) -> Iterator[TextRun]:
+        """What `texts` gives, made one by one."""
+        given = None if codespaces is None else [codespace_of(it) for it in codespaces]
+        ranges = [it for layer in self.layers for it in layer.codespaces] if given is None else given
+        return effective(self._deciding_texts(), ranges)
+
+    def _text_rows(self) -> Iterator[TextRow]:
+        """The texts of all codes that have one, whatever lengths the codes have."""
+        return text_rows(self._deciding_texts())
+
+    def _deciding_texts(self) -> List[TextRange]:
+        """The declarations of texts of all layers, of which the first one that has a code decides."""
+        return [it for layer in self.layers for it in reversed(layer.texts)]
 
     def _put(self, call, *arguments, **options):
         """The bytes that a call on the map puts to a room, or None."""

@@ -27,6 +27,12 @@ AT_FAULT = BAD.index(b"/x") + 2
 WIDE = b"1 begincodespacerange <0000> <FFFF> endcodespacerange 1 beginbfrange <0041> <0043> <0041> endbfrange"
 
 
+def with_many_codes(rows, text):
+    """A ToUnicode CMap with rows of 65,536 codes each, of which the first one has a text."""
+    declared = b" ".join(b"<%04X0000> <%04XFFFF> <%b>" % (row, row, text) for row in range(rows))
+    return b"begincodespacerange <00000000> <FFFFFFFF> endcodespacerange beginbfrange %b endbfrange" % declared
+
+
 class File:
     """A PDF file with one page."""
 

@@ -1,14 +1,17 @@
 """What is said of the fonts of a file, and of the codes that it shows."""
 
+import collections
+import random
 import time
 import unittest
 
 from pikepdf import Name
 
-from hayro_cmap import pdf
+from hayro_cmap import CMap, pdf
 from hayro_cmap.pdf import _check
 
-from made import BAD, GOOD, File, needs_glyph_list, showing
+from made import BAD, GOOD, File, needs_glyph_list, showing, with_many_codes
+from tests.steps import limited
 
 #: Two codes in a codespace range, of which one has a CID.
 ENCODING = b"1 begincodespacerange <8140> <817E> endcodespacerange 1 begincidchar <8140> 7 endcidchar"
@@ -97,6 +100,21 @@ class Counts(unittest.TestCase):
         self.assertEqual((report.shown, len(report.faults)), (0, 1))
 
 
+def kinds_of(text):
+    """What is doubtful about the characters of a text, one after another."""
+    kinds = set()
+    for number in map(ord, text):
+        if number == 0:
+            kinds.add("null-character")
+        elif number == 0xFFFD:
+            kinds.add("replacement-character")
+        elif 0xFDD0 <= number <= 0xFDEF or number & 0xFFFE == 0xFFFE:
+            kinds.add("noncharacter")
+        elif 0xE000 <= number <= 0xF8FF or number >= 0xF0000:
+            kinds.add("private-use")
+    return kinds
+
+
 class Warnings(unittest.TestCase):
     def warnings(self, to_unicode):
         [font] = pdf.check(showing(b"A", to_unicode).pdf).fonts
@@ -113,6 +131,42 @@ class Warnings(unittest.TestCase):
         }
         ranges = b"1 begincodespacerange <00> <FF> endcodespacerange "
         self.assertEqual(self.warnings(ranges + texts), {("ToUnicode", *it) for it in expected})
+
+    def test_of_random_texts(self):
+        """They are those of one code after another."""
+        chosen = random.Random(5)
+        doubtful = [0, 1, 0xDFFF, 0xE000, 0xF8FF, 0xFDD0, 0xFDEF, 0xFFFD, 0xFFFE, 0x1FFFE, 0xEFFFF, 0xF0000, 0x10FFFE]
+
+        def units():
+            characters = [0x41, *(chosen.choice(doubtful) for _ in range(chosen.choice([0, 0, 1, 2])))]
+            last = min(max(0, chosen.choice(doubtful) - chosen.randrange(40)), 0x10FFFF)
+            characters = [*characters[: chosen.randrange(3)], last]
+            return "".join(map(chr, characters)).encode("utf-16-be", "surrogatepass").hex()
+
+        for _ in range(200):
+            rows = [(first, first + chosen.randrange(90)) for first in chosen.sample(range(500), 12)]
+            declared = " ".join(f"<{first:04x}> <{last:04x}> <{units()}>" for first, last in rows)
+            with CMap.parse(f"beginbfrange {declared} endbfrange".encode()) as cmap:
+                found = collections.defaultdict(list)
+                for code in range(600):
+                    for name in kinds_of(cmap.text(code) or ""):
+                        found[name].append(code)
+                expected = [(name, len(codes), codes[0]) for name, codes in sorted(found.items())]
+                self.assertEqual(list(_check.text_warnings(cmap)), expected, declared)
+
+    def test_of_many_codes(self):
+        """No step is taken for each code, nor for each character that texts of one declaration share."""
+        texts = with_many_codes(rows=2000, text=b"E000")
+        with limited(1_000_000):
+            [font] = pdf.check(showing(b"A", texts).pdf).fonts
+        found = {it.name: (it.codes, it.first) for it in font.warnings}
+        self.assertEqual(found["private-use"], (2000 * 0x1900, 0))
+        self.assertEqual(found["noncharacter"], (2000 * 34, 0x1DD0))
+        self.assertEqual(found["replacement-character"], (2000, 0x1FFD))
+        long = b"beginbfrange <0000> <0FA0> <%b0041> endbfrange " % (b"E000" * 20_000)
+        others = b" ".join(b"<%04X> <0042>" % code for code in range(0, 4000, 2))
+        with CMap.parse(long + b"beginbfchar %b endbfchar" % others) as cmap, limited(500_000):
+            self.assertEqual(list(_check.text_warnings(cmap)), [("private-use", 4001 - 2000, 1)])
 
     def test_of_the_whole(self):
         self.assertEqual(self.warnings(b"no CMap"), {("ToUnicode", "nothing-declared", 1, None)})

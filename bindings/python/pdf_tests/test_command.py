@@ -18,9 +18,10 @@ from pikepdf import Array, Dictionary
 
 from hayro_cmap import pdf
 from hayro_cmap.pdf import __main__ as command
-from hayro_cmap.pdf import _commands, _many
+from hayro_cmap.pdf import _commands, _many, _report
 
-from made import AT_FAULT, BAD, GOOD, File, needs_glyph_list, showing
+from made import AT_FAULT, BAD, GOOD, File, needs_glyph_list, showing, with_many_codes
+from tests.steps import limited
 
 
 def ends_its_process(path, *arguments, **options):
@@ -141,6 +142,13 @@ class Command(Folder):
         self.assertIn("it is signed, and its signature would no longer hold", fault)
         self.assertEqual(self.command("repair", "--signed", "signed.pdf", "out.pdf")[0], 0)
 
+    def test_repair_of_more_codes_than_are_written(self):
+        many = with_many_codes(rows=34, text=b"0000") + b" beginbfchar <41> /x endbfchar"
+        showing(b"A", many).saved(self.path("many.pdf"))
+        status, _, fault = self.command("repair", "many.pdf", "out.pdf")
+        self.assertEqual((status, self.path("out.pdf").exists()), (2, False))
+        self.assertIn("it can't be read: a ToUnicode CMap has texts for more than 2,097,152 codes", fault)
+
     def test_repair_of_a_file_that_cannot_be_written(self):
         status, _, fault = self.command("repair", "bad.pdf", "none/out.pdf")
         self.assertEqual(status, 2)
@@ -226,6 +234,17 @@ class Report(Folder):
         self.assertEqual(
             cells, [[1, 1, 3, None, None, 1], [0x41, 1, 0, None, "</script>", 2], [0x42, 1, 4, None, "ffi", 0]]
         )
+
+    def test_many_codes(self):
+        """The chart has some of them, and no step is taken for each."""
+        ranges = b" ".join(b"<0000%02X00> <FFFF%02XFF>" % (row, row) for row in range(0, 256, 2))
+        encoding = b"begincodespacerange <20> <7E> %b endcodespacerange" % ranges
+        file = File()
+        to_unicode = with_many_codes(rows=40, text=b"0000")
+        file.show(b"", F=file.composite(file.stream(encoding), to_unicode=to_unicode))
+        with limited(4_000_000):
+            [chart] = _report.charts_of(pdf.check(file.pdf))
+        self.assertEqual(len(chart["cells"]), 1 << 16)
 
     def test_a_page_that_cannot_be_written(self):
         status, out, fault = self.command("check", "--html", str(self.folder / "none" / "r.html"), "good.pdf")

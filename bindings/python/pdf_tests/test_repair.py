@@ -14,7 +14,8 @@ from pikepdf import Array, Dictionary, Name
 
 from hayro_cmap import CMap, pdf
 
-from made import BAD, GOOD, WIDE, File, needs_resources, showing
+from made import BAD, GOOD, WIDE, File, needs_resources, showing, with_many_codes
+from tests.steps import limited
 
 
 def stream_of(file):
@@ -110,6 +111,28 @@ class Repairs(unittest.TestCase):
         with CMap.parse(stream_of(file).read_bytes()) as cmap:
             texts = [cmap.text(code) for code in (0x41, 0x100, 0x101, 0x102, 0x200, 0x2FF)]
         self.assertEqual(texts, ["A", "\U0001F600", "ffi", None, "\u4e00", "\u4eff"])
+
+    def test_many_codes(self):
+        """No step is taken for each code."""
+        data = with_many_codes(rows=20, text=b"0000") + b" beginbfchar <00000041> /x endbfchar"
+        file = showing(b"A", data)
+        file.page.Resources.Font.F = file.composite(file.stream(data[: data.index(b"beginbfrange")]), to_unicode=data)
+        with limited(1_000_000):
+            [done] = pdf.repair(file.pdf)
+        self.assertEqual(done.kept, 20 * (0x10000 - 0x800))
+        with CMap.parse(stream_of(file).read_bytes()) as cmap:
+            found = [cmap.text(code) for code in (0x13FFFF, 0x130041, 0x13D800, 0x140000)]
+        self.assertEqual(found, ["\uffff", "A", None, None])
+
+    def test_more_codes_than_are_written(self):
+        """The file stays as it is."""
+        data = with_many_codes(rows=34, text=b"0000") + b" beginbfchar <00000041> /x endbfchar"
+        file = showing(b"A", BAD)
+        file.page.Resources.Font.G = file.simple(data)
+        with limited(1_000_000), self.assertRaisesRegex(pdf.TooLarge, "texts for more than 2,097,152 codes"):
+            pdf.repair(file.pdf)
+        fonts = file.page.Resources.Font
+        self.assertEqual([fonts[name].ToUnicode.read_bytes() for name in ("/F", "/G")], [BAD, data])
 
 
 class Saved(unittest.TestCase):

@@ -2,13 +2,14 @@
 
 import itertools
 import random
-import sys
 import unittest
 
 from hayro_cmap import CMap, Codespace
 from hayro_cmap._candidates import codes_in, same
 from hayro_cmap._codespaces import Codespaces
 from hayro_cmap._effective import by_length
+
+from .steps import limited
 
 
 def lies_in(code, codespace):
@@ -24,24 +25,6 @@ def code_length(code, codespaces):
     found = [it.byte_len for it in codespaces if lies_in(code, it)]
     fewest = min((it.byte_len for it in codespaces), default=1)
     return min(found) if found else max((code.bit_length() + 7) // 8, fewest)
-
-
-def lines_run(call):
-    """How many lines of the package a call runs."""
-    count = 0
-
-    def of_line(frame, event, _):
-        nonlocal count
-        count += event == "line"
-        return of_line
-
-    before = sys.gettrace()
-    sys.settrace(lambda frame, event, _: of_line if "hayro_cmap" in frame.f_code.co_filename else None)
-    try:
-        call()
-    finally:
-        sys.settrace(before)
-    return count
 
 
 class Lengths(unittest.TestCase):
@@ -114,14 +97,16 @@ class Steps(unittest.TestCase):
     def test_texts(self):
         texts = " ".join(f"<{code:08x}> <0041>" for code in self.codes)
         with CMap.parse(f"{self.codespaces} beginbfchar {texts} endbfchar".encode()) as cmap:
-            self.assertLess(lines_run(lambda: self.assertEqual(len(cmap.texts()), self.CODES)), self.MOST_STEPS)
+            with limited(self.MOST_STEPS):
+                found = cmap.texts()
+        self.assertEqual(len(found), self.CODES)
 
     def test_codes_in_ranges(self):
         with CMap.parse(self.codespaces.encode()) as cmap:
             codespaces = cmap.layers[0].codespaces
-        made, found = Codespaces(it for it in codespaces if it.byte_len == 4), []
-        steps = lines_run(lambda: found.extend(code for it in self.codes for code in codes_in(it, it, made)))
-        self.assertLess(steps, self.MOST_STEPS)
+        with limited(self.MOST_STEPS):
+            made = Codespaces(it for it in codespaces if it.byte_len == 4)
+            found = [code for it in self.codes for code in codes_in(it, it, made)]
         sample = self.codes[::64]
         self.assertEqual(
             [code for code in found if code in sample],
@@ -132,7 +117,8 @@ class Steps(unittest.TestCase):
         with CMap.parse(b"beginnotdefrange %s endnotdefrange" % (b"<00> <FF> 70000 " * 1000)) as cmap:
             notdefs = cmap.layers[0].notdefs
         rows = [(2 * it, 2 * it) for it in range(1000)]
-        self.assertLess(lines_run(lambda: self.assertEqual(list(same(notdefs, rows)), [])), 20_000)
+        with limited(20_000):
+            self.assertEqual(list(same(notdefs, rows)), [])
 
 
 if __name__ == "__main__":

@@ -1,7 +1,8 @@
 """Which fonts of a PDF file have CMaps with faults, and which of the codes that it shows have no text."""
 
+import bisect
 import collections
-from typing import Any, Callable, Counter, Dict, Iterable, Iterator, List, NamedTuple, Optional
+from typing import Any, Callable, Counter, Dict, Iterable, Iterator, List, NamedTuple, Optional, Set, Tuple
 
 import pikepdf
 
@@ -12,6 +13,20 @@ from ._objects import object_number
 
 #: What is found of shown codes, beside the warnings of CMaps.
 OF_SHOWN_CODES = ("no-text", "no-cid", "outside-codespace")
+
+#: Characters that are doubtful in a text: the first and the last one of each row, and the name of the warning, in order
+#: (The Unicode Standard, 23.5 and 23.7).
+DOUBTFUL = sorted(
+    [
+        (0x0000, 0x0000, "null-character"),
+        (0xE000, 0xF8FF, "private-use"),
+        (0xFDD0, 0xFDEF, "noncharacter"),
+        (0xFFFD, 0xFFFD, "replacement-character"),
+        *((plane << 16 | 0xFFFE, plane << 16 | 0xFFFF, "noncharacter") for plane in range(17)),
+        *((plane << 16, plane << 16 | 0xFFFD, "private-use") for plane in (15, 16)),
+    ]
+)
+LAST_DOUBTFUL = [last for _, last, _ in DOUBTFUL]
 
 #: How many codes of a kind are printed.
 MOST_PRINTED = 8
@@ -231,31 +246,31 @@ def whole_warnings(cmap: CMap) -> Iterator[str]:
         yield "no-codespace"
 
 
-def text_warnings(cmap: CMap) -> Iterator[tuple]:
+def text_warnings(cmap: CMap) -> Iterator[Tuple[str, int, int]]:
     """The names of the warnings that concern texts, with the number of their codes and the first one."""
-    found: Dict[str, List[int]] = collections.defaultdict(list)
-    for run in cmap.texts():
-        start, unit = run.text[:-1], ord(run.text[-1])
-        for code in range(run.first, run.last + 1):
-            for name in kinds_of(start + chr(unit + code - run.first)):
-                found[name].append(code)
-    for name in sorted(found):
-        yield name, len(found[name]), found[name][0]
+    counts: Counter[str] = collections.Counter()
+    firsts: Dict[str, int] = {}
+    of_starts: Dict[str, Set[str]] = {}
+    for row in cmap._text_rows():
+        if row.start not in of_starts:
+            of_starts[row.start] = {name for it in set(map(ord, row.start)) for _, _, name in doubtful(it, it)}
+        of_all = of_starts[row.start]
+        # a row of codes has characters in a row at the end of its texts
+        first, last = row.character, row.character + row.last - row.first
+        of_ends = [it for it in doubtful(first, last) if it[2] not in of_all]
+        for low, high, name in [*((first, last, name) for name in of_all), *of_ends]:
+            counts[name] += high - low + 1
+            firsts.setdefault(name, row.first + low - first)
+    for name in sorted(counts):
+        yield name, counts[name], firsts[name]
 
 
-def kinds_of(text: str) -> List[str]:
-    """What is doubtful about the characters of a text (The Unicode Standard, 23.5 and 23.7)."""
-    kinds = set()
-    for number in map(ord, text):
-        if number == 0:
-            kinds.add("null-character")
-        elif number == 0xFFFD:
-            kinds.add("replacement-character")
-        elif 0xFDD0 <= number <= 0xFDEF or number & 0xFFFE == 0xFFFE:
-            kinds.add("noncharacter")
-        elif 0xE000 <= number <= 0xF8FF or number >= 0xF0000:
-            kinds.add("private-use")
-    return sorted(kinds)
+def doubtful(first: int, last: int) -> Iterator[Tuple[int, int, str]]:
+    """The doubtful ones of characters in a row, as rows with the names of the warnings."""
+    for low, high, name in DOUBTFUL[bisect.bisect_left(LAST_DOUBTFUL, first) :]:
+        if low > last:
+            break
+        yield max(first, low), min(last, high), name
 
 
 def fault_json(fault) -> Dict[str, Any]:

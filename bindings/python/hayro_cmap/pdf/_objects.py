@@ -24,7 +24,8 @@ ESCAPED = re.compile(rb"#([0-9A-Fa-f]{2})")
 
 
 class TooLarge(ValueError):
-    """What is decoded of a file has more bytes than a limit, or there are too many fonts."""
+    """What is decoded of a file has more bytes than a limit, there are too many fonts, or a CMap that is to be written
+    anew has texts for too many codes."""
 
 
 class Undecodable(ValueError):

@@ -1,17 +1,21 @@
 """Writes the ToUnicode CMaps of a PDF file anew that have faults, with what they say apart from them."""
 
 import os
-from typing import Any, Dict, List, NamedTuple, Tuple, Union
+from typing import Any, Dict, Iterable, List, NamedTuple, Optional, Tuple, Union
 
 import pikepdf
 
-from .. import CMap, CMapWriter, Codespace
+from .. import CMap, CMapWriter, Codespace, TextRun
 from ._beside import written_beside
 from ._fonts import Fault, Font, fonts
-from ._objects import dictionary_at, integer_at, object_number, stream_at
+from ._objects import TooLarge, dictionary_at, integer_at, object_number, stream_at
 
 #: The flag of a form that says that the file is signed (ISO 32000-1, 12.7.2).
 SIGNATURES_EXIST = 1
+
+#: How many codes may have texts in a CMap that is written anew: more than Unicode has characters. A line of a CMap may
+#: declare those of 65,536 codes.
+MOST_CODES = 1 << 21
 
 #: The ranges of a simple font, whose codes are single bytes, and of a composite one of which none are known.
 SINGLE_BYTES = Codespace(0x00, 0xFF, 1)
@@ -55,7 +59,7 @@ def repair(pdf: pikepdf.Pdf, signed: bool = False) -> List[Repaired]:
     """Writes each ToUnicode CMap that is refused anew, with what it says apart from its faults.
 
     It stands in the object that it stood in, and no other object is touched; `save` then writes the file. Signed where
-    the file is signed, unless `signed` allows that.
+    the file is signed, unless `signed` allows that; TooLarge where a CMap has texts for more than 2,097,152 codes.
     """
     if is_signed(pdf) and not signed:
         raise Signed("the file is signed, and its signature would no longer hold")
@@ -64,7 +68,15 @@ def repair(pdf: pikepdf.Pdf, signed: bool = False) -> List[Repaired]:
         stream = stream_at(font.dictionary, "/ToUnicode")
         if stream is not None and font.to_unicode.faults:
             streams.setdefault(stream.objgen, []).append(font)
+    for sharing in streams.values():
+        limit_codes(sharing[0].to_unicode.lenient)
     return [repaired(sharing) for sharing in streams.values()]
+
+
+def limit_codes(cmap: Optional[CMap]) -> None:
+    """TooLarge where a CMap has texts for too many codes."""
+    if cmap is not None and sum(row.last - row.first + 1 for row in cmap._text_rows()) > MOST_CODES:
+        raise TooLarge(f"a ToUnicode CMap has texts for more than {MOST_CODES:,} codes")
 
 
 def repaired(sharing: List[Font]) -> Repaired:
@@ -86,18 +98,31 @@ def written(runs, codespaces: List[Codespace]) -> bytes:
         writer.text(run.first.to_bytes(run.byte_len, "big"), run.last.to_bytes(run.byte_len, "big"), run.text)
     data = writer.write()
     with CMap.parse(data) as again:
-        if texts_of(again.texts()) != texts_of(runs):
+        if joined(again.texts()) != joined(runs):
             raise AssertionError("the CMap that is written has other texts")
     return data
 
 
-def texts_of(runs) -> Dict[int, str]:
-    """The text of each code of these runs, but for its last character, which counts on."""
-    return {
-        code: run.text[:-1] + chr(ord(run.text[-1]) + code - run.first)
-        for run in runs
-        for code in range(run.first, run.last + 1)
-    }
+def joined(runs: Iterable[TextRun]) -> List[Tuple[int, int, str]]:
+    """The first and the last code of each run, and the text of the first one, with runs as long as can be: those that
+    give the same codes the same texts are then the same."""
+    found: List[Tuple[int, int, str]] = []
+    for it in runs:
+        if found and goes_on(found[-1], it):
+            found[-1] = (found[-1][0], it.last, found[-1][2])
+        else:
+            found.append((it.first, it.last, it.text))
+    return found
+
+
+def goes_on(before: Tuple[int, int, str], run: TextRun) -> bool:
+    """Whether a run follows one before it, and its first text is the one after the last text of that."""
+    first, last, text = before
+    return (
+        run.first == last + 1
+        and run.text[:-1] == text[:-1]
+        and ord(run.text[-1]) == ord(text[-1]) + run.first - first
+    )
 
 
 def codespaces_of(sharing: List[Font]) -> List[Codespace]:

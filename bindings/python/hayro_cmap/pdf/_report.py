@@ -43,7 +43,9 @@ def cells_of(report: FontReport) -> List[Cell]:
     encoding = report.font.encoding.lenient
     ranges = None if encoding is None else [it for layer in encoding.layers for it in layer.codespaces]
     left = MOST_UNSHOWN
-    for run in [] if to_unicode is None else to_unicode.texts(ranges):
+    for run in [] if to_unicode is None else to_unicode._text_runs(ranges):
+        if left == 0:
+            break
         byte_len = run.byte_len if report.font.is_composite else 1
         for code in range(run.first, min(run.last, run.first + left - 1) + 1):
             left -= 1
