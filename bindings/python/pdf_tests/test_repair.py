@@ -7,12 +7,14 @@ import subprocess
 import tempfile
 import unittest
 from pathlib import Path
+from types import SimpleNamespace
 from unittest import mock
 
 import pikepdf
 from pikepdf import Array, Dictionary, Name
 
-from hayro_cmap import CMap, pdf
+from hayro_cmap import CMap, Codespace, pdf
+from hayro_cmap.pdf import _repair
 
 from made import BAD, GOOD, WIDE, File, needs_resources, showing, with_many_codes
 from tests.steps import limited
@@ -111,6 +113,26 @@ class Repairs(unittest.TestCase):
         with CMap.parse(stream_of(file).read_bytes()) as cmap:
             texts = [cmap.text(code) for code in (0x41, 0x100, 0x101, 0x102, 0x200, 0x2FF)]
         self.assertEqual(texts, ["A", "\U0001F600", "ffi", None, "\u4e00", "\u4eff"])
+
+    def test_codespaces_of_fonts_that_share_a_stream(self):
+        """Each is there once, and they aren't compared with each other."""
+
+        class Counted(Codespace):
+            compared = 0
+
+            def __eq__(self, other):
+                Counted.compared += 1
+                return tuple.__eq__(self, other)
+
+            __hash__ = tuple.__hash__
+
+        def font(first):
+            layer = SimpleNamespace(codespaces=[Counted(code, code, 2) for code in range(first, first + 1000)])
+            return SimpleNamespace(is_composite=True, encoding=SimpleNamespace(lenient=SimpleNamespace(layers=[layer])))
+
+        found = _repair.codespaces_of([font(0), font(500)])
+        self.assertEqual([it.low for it in found], list(range(1500)))
+        self.assertLess(Counted.compared, 10_000)
 
     def test_many_codes(self):
         """No step is taken for each code."""

@@ -127,15 +127,15 @@ def goes_on(before: Tuple[int, int, str], run: TextRun) -> bool:
 
 def codespaces_of(sharing: List[Font]) -> List[Codespace]:
     """The codespace ranges of the fonts that share a ToUnicode CMap: those of their encodings, else its own."""
-    found: List[Codespace] = []
+    found: Dict[Codespace, None] = {}
     for font in sharing:
         if not font.is_composite:
             of_font = [SINGLE_BYTES]
         else:
             given = font.encoding.lenient or font.to_unicode.lenient
             of_font = [it for layer in (given.layers if given is not None else []) for it in layer.codespaces]
-        found += [it for it in of_font if it not in found]
-    return found or [TWO_BYTES]
+        found.update(dict.fromkeys(of_font))
+    return list(found) or [TWO_BYTES]
 
 
 def is_signed(pdf: pikepdf.Pdf) -> bool:
