@@ -8,13 +8,10 @@ has that of its CID in the CMap to Unicode of its collection, as Adobe-Japan1-UC
 import argparse
 import os
 import sys
-import unicodedata
 
 from . import Bundle, CMap, NotABundle, Refused, __version__, folder
+from ._escaped import quoted
 from ._predefined import beside
-
-#: Categories of characters that control a terminal, or that stand for nothing.
-HARMFUL = {"Cc", "Cf", "Cn", "Co", "Cs", "Zl", "Zp"}
 
 
 def arguments():
@@ -73,17 +70,6 @@ def texts_of(cmap, files, bundle):
         return None
 
 
-def shown(text):
-    """A text in quotes, with what would control a terminal as \\u{HEX}."""
-    return '"' + "".join(escaped(it) for it in text) + '"'
-
-
-def escaped(character):
-    if character in '"\\':
-        return "\\" + character
-    return f"\\u{{{ord(character):X}}}" if unicodedata.category(character) in HARMFUL else character
-
-
 def print_string(cmap, texts, string):
     """A line for each code of a string."""
     for code in cmap.decode(string):
@@ -92,7 +78,7 @@ def print_string(cmap, texts, string):
             text = texts.text(code.cid)
         cid = "-" if code.cid is None else str(code.cid)
         note = "" if code.in_codespace else "  cut short" if code.cut_short else "  in no codespace range"
-        print(f"{f'<{bytes(code).hex().upper()}>':10}{cid:>12}  {'-' if text is None else shown(text)}{note}")
+        print(f"{f'<{bytes(code).hex().upper()}>':10}{cid:>12}  {'-' if text is None else quoted(text)}{note}")
 
 
 def main():

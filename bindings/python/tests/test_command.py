@@ -8,6 +8,7 @@ import unittest
 from pathlib import Path
 
 import hayro_cmap
+from hayro_cmap._escaped import escaped, quoted
 
 from .files import BROKEN, FIRST, RESOURCES, SMALL, SMALL_V, bundle_of, needs_resources
 
@@ -68,6 +69,15 @@ class Command(unittest.TestCase):
         ran = self.decode("--base", str(RESOURCES), "90ms-RKSJ-H", "93FA967B8CEA")
         lines = ['<93FA>            3284  "日"', '<967B>            3722  "本"', '<8CEA>            1952  "語"']
         self.assertEqual((ran.returncode, ran.stdout.splitlines()), (0, lines), ran.stderr)
+
+
+class Escapes(unittest.TestCase):
+    def test_texts(self):
+        texts = ["日é", 'a"b\\', "\x1b[31m", "\u2028\u202e\ue000\ud800", "\U0001F600\t"]
+        shown = ["日é", 'a"b\\', "\\u{1B}[31m", "\\u{2028}\\u{202E}\\u{E000}\\u{D800}", "\U0001F600\\u{9}"]
+        self.assertEqual([escaped(text) for text in texts], shown)
+        quotes = ['"日é"', '"a\\"b\\\\"', *(f'"{text}"' for text in shown[2:])]
+        self.assertEqual([quoted(text) for text in texts], quotes)
 
 
 class Constructors(unittest.TestCase):

@@ -9,28 +9,20 @@ away.
 import argparse
 import os
 import sys
-import unicodedata
 from typing import Iterator, List
 
+from .._escaped import escaped
 from . import HAS_GLYPH_LIST
 from ._check import share
 from ._commands import Result, results_of, run
 from ._many import by_dask, by_processes, json_lines, limit_memory
 from ._report import write_report
 
-#: Categories of characters that control a terminal, or that stand for nothing.
-HARMFUL = {"Cc", "Cf", "Cn", "Co", "Cs", "Zl", "Zp"}
-
 #: How many bytes of memory a process may have.
 MEMORY = 4 << 30
 
 #: How wide a progress bar is.
 WIDTH = 40
-
-
-def escaped(text: str) -> str:
-    """A text with what would control a terminal as \\u{HEX}."""
-    return "".join(f"\\u{{{ord(it):X}}}" if unicodedata.category(it) in HARMFUL else it for it in text)
 
 
 def progress(over, total: int, what: str):
