@@ -155,7 +155,7 @@ class Command(Folder):
         self.assertIn("out.pdf can't be written: No such file or directory", fault)
         self.path("out.pdf").mkdir()
         status, _, fault = self.command("repair", "bad.pdf", "out.pdf")
-        self.assertEqual((status, fault.split(": ")[-1]), (2, "it is no regular file\n"))
+        self.assertEqual((status, fault.split(": ")[-1]), (2, "not a regular file\n"))
 
     def test_repair_in_place(self):
         self.assertEqual(self.command("repair", "bad.pdf", "bad.pdf")[0], 0)

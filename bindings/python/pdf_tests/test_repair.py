@@ -252,7 +252,7 @@ class Saved(unittest.TestCase):
         os.mkfifo(pipe)
         folder.mkdir()
         for place in [pipe, folder]:
-            with self.assertRaisesRegex(OSError, "it is no regular file"):
+            with self.assertRaisesRegex(OSError, "not a regular file"):
                 pdf.save(showing(b"A", BAD).pdf, place)
         self.assertTrue(pipe.is_fifo() and folder.is_dir())
         self.assertEqual(self.names(), ["folder", "pipe"])

@@ -37,13 +37,13 @@ def written_beside(path: Union[str, "os.PathLike[str]"]) -> Iterator[BinaryIO]:
 
 
 def permissions_of(place: str) -> Optional[int]:
-    """Who may do what with the file of a path; None where none is there. OSError where it is no regular file."""
+    """Who may do what with the file of a path; None where none is there. OSError where not a regular file."""
     try:
         mode = os.stat(place).st_mode
     except FileNotFoundError:
         return None
     if not stat.S_ISREG(mode):
-        raise OSError(errno.EEXIST, "it is no regular file", place)
+        raise OSError(errno.EEXIST, "not a regular file", place)
     return mode & 0o777
 
 
