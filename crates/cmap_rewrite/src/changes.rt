@@ -11,7 +11,7 @@ use cmap_queries::code_lengths::LENGTHS;
 use cmap_runs::runs::{Looks, Table};
 use cmap_tidy::tidy;
 use cmap_values::code_length::CodeLength;
-use cmap_values::declarations::{ByLength, CidRange, Lists};
+use cmap_values::declarations::{BfRange, ByLength, CidRange, Lists};
 use cmap_values::fault::Fault;
 use cmap_values::file::File;
 use cmap_values::range::{HasRange, Range};
@@ -21,6 +21,10 @@ use std::alloc::{AllocError, Global};
 /// The most rows of 256 codes that the declarations of a file may have in all to be made tidy. One declaration can have
 /// 2^24.
 const MOST_ROWS: u64 = 1 << 20;
+
+/// The most units of the texts of a file for that, with each text as long as the longest one. A range is cut where
+/// others begin and end, and each part has a text of its own.
+const MOST_UNITS: u64 = 1 << 24;
 
 /// One file that answers as the map, or if strings are kept, for their codes alone.
 pub(crate) fn one_file<'d>(
@@ -33,6 +37,9 @@ pub(crate) fn one_file<'d>(
         Some(strings) => subset(alloc, map.layers(), &codes_of(alloc, map, strings)?),
         None if rows_of_map(map) > MOST_ROWS => {
             return Err(Failure::Message(large_line(alloc, path)?));
+        }
+        None if texts_of_map(map).units() > MOST_UNITS => {
+            return Err(Failure::Message(long_line(alloc, path)?));
         }
         None => flatten(alloc, map.layers()),
     };
@@ -79,9 +86,62 @@ pub(crate) fn tidied<'d>(alloc: Global, file: File<'d>) -> Result<File<'d>, Allo
     ordered(tidy(alloc, &file)?)
 }
 
-/// Whether the ranges of a file have too many rows of codes.
+/// Whether the ranges of a file have too many rows of codes, or its texts are too long.
 fn is_large(file: &File<'_>) -> bool {
-    rows_of_file(&file.lists) > MOST_ROWS
+    rows_of_file(&file.lists) > MOST_ROWS || texts_of_file(&file.lists).units() > MOST_UNITS
+}
+
+/// How many texts there are, and how many units the longest one has.
+#[derive(Clone, Copy)]
+struct TextSizes {
+    count: u64,
+    longest: u64,
+}
+
+impl TextSizes {
+    /// No texts.
+    const NONE: TextSizes = TextSizes {
+        count: 0,
+        longest: 0,
+    };
+
+    /// With one more text.
+    fn with(self, entry: &BfRange) -> TextSizes {
+        TextSizes {
+            count: self.count.saturating_add(1),
+            longest: self.longest.max(entry.units.as_slice().len() as u64),
+        }
+    }
+
+    /// How many units they have, each as long as the longest one.
+    fn units(self) -> u64 {
+        self.count.saturating_mul(self.longest)
+    }
+}
+
+fn texts_of_file(lists: &Lists) -> TextSizes {
+    let mut sizes = TextSizes::NONE;
+    for entry in &lists.bfs {
+        sizes = sizes.with(entry);
+    }
+    sizes
+}
+
+fn texts_of_map(map: &CMap) -> TextSizes {
+    let mut sizes = TextSizes::NONE;
+    for layer in map.layers().as_slice() {
+        sizes = with_texts(sizes, layer.texts());
+    }
+    sizes
+}
+
+fn with_texts(before: TextSizes, table: &Table<BfRange>) -> TextSizes {
+    let mut looks = Looks::new();
+    let mut sizes = before;
+    for index in 0..table.decl_count() {
+        sizes = sizes.with(table.decl(index, &mut looks));
+    }
+    sizes
 }
 
 /// The file with the CIDs of single codes before those of ranges.
@@ -185,6 +245,14 @@ fn large_line(alloc: Global, path: &str) -> Result<String, AllocError> {
     let mut line = String::new(alloc);
     push_text(&mut line, path)?;
     line.push_str(": its ranges have codes of more than 1048576 rows")?;
+    Ok(line)
+}
+
+/// The line that says that texts are too long.
+fn long_line(alloc: Global, path: &str) -> Result<String, AllocError> {
+    let mut line = String::new(alloc);
+    push_text(&mut line, path)?;
+    line.push_str(": its texts have more than 16777216 units, each as long as the longest one")?;
     Ok(line)
 }
 
