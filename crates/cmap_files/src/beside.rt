@@ -137,12 +137,12 @@ fn create_beside(rt: &HostRuntime, target: &str) -> Result<(String, File), Failu
     Err(unwritable(rt, target, &error))
 }
 
-/// Writes all bytes to the disk, and sets the permissions if there are any.
+/// Sets the permissions, if there are any, and writes all bytes to the disk.
 fn write_whole(mut file: File, bytes: &[u8], permissions: Option<Permissions>) -> io::Result<()> {
-    file.write_all(bytes)?;
     if let Some(permissions) = permissions {
         file.set_permissions(permissions)?;
     }
+    file.write_all(bytes)?;
     file.sync_all()
 }
 
