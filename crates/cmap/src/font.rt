@@ -68,7 +68,7 @@ impl Font {
         }
     }
 
-    /// Reports that no file has the CMap of the collection, if it lacks. It may be why a code has no text.
+    /// Reports that no file has the CMap of the collection, if none has. That may be why a code has no text.
     pub(crate) fn report_missing(
         &self,
         rt: &HostRuntime,

@@ -11,14 +11,14 @@ pub(crate) fn print_usage(
     arguments: &[String],
     error: &Error,
 ) -> Result<u8, Failure> {
-    match error_in_lines(rt, arguments)? {
+    match error_of_marked(rt, arguments)? {
         Some(error) => print_error(rt, &error),
         None => print_error(rt, error),
     }
 }
 
-/// The same error where no line ends in an argument.
-fn error_in_lines(rt: &HostRuntime, arguments: &[String]) -> Result<Option<Error>, Failure> {
+/// The error of the arguments with their line ends marked, so that none ends a line of the message.
+fn error_of_marked(rt: &HostRuntime, arguments: &[String]) -> Result<Option<Error>, Failure> {
     let mut marked = Vec::new(rt.alloc());
     for argument in arguments {
         marked.push(without_line_ends(rt, argument.as_str())?)?;

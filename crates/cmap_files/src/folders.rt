@@ -179,7 +179,7 @@ fn entry_at(rt: &HostRuntime, path: &str) -> io::Result<Kind> {
     }
 }
 
-/// The same of what is no folder itself.
+/// What an entry counts as that is no folder itself.
 fn linked_at(rt: &HostRuntime, path: &str) -> Kind {
     match kind_of(rt, path) {
         Ok(Kind::Folder | Kind::Other) => Kind::Other,
