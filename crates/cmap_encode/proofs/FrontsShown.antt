@@ -1,23 +1,23 @@
 -- Which fronts of a text strings show.
-use Rattle.std.proofs.Common.{◌≡◌, ℕ, zero, suc, ◌+◌, ◌-◌, ◌<◌, ◌≤◌, ◌⊎◌, Bool, true, false, List, [], ◌∷◌, ◌++◌, get_or, length, take, drop, Option, Some, None, refl, sym, ap, ◌∙◌, subst, inl, inr, arith, append_assoc, append-nil, length-append}
+use Rattle.std.proofs.Common.{◌≡◌, ℕ, zero, suc, ◌+◌, ◌-◌, ◌<◌, ◌≤◌, ◌⊎◌, Bool, true, false, List, [], ◌∷◌, ◌++◌, get_or, length, take, drop, Option, Some, None, refl, sym, ap, ◌∙◌, subst, inl, inr, arith, append_assoc, append-nil, length-append, length-drop}
 use Rattle.std.specs.Bool.{then_some}
 use Rattle.std.specs.Prelude.{◌↔◌, IsTrue, if◌then◌else◌, is_some, option_and_then, option_map, slice_get, slice_index_or}
 use Rattle.std.proofs.lemmas.Bool.{cases_lt, false≢true}
-use Rattle.std.proofs.lemmas.List.{drop_all, drop_at, get_or-take, length-take-le, length_push, nil_from_length, take-append-drop, take-take, take_all, take_at}
+use Rattle.std.proofs.lemmas.List.{drop-take, drop_all, drop_at, get_or-take, length-take-le, length_push, nil_from_length, take-append-drop, take-take, take_all, take_at}
 use Rattle.std.proofs.lemmas.List.Elements.{All-append, All-drop, All-nil, All-take}
 use Rattle.std.proofs.lemmas.Option.{none-some, same_Some, slice_get-get_or}
 use Rattle.cmap_unicode.specs.Characters.{characters_of}
 use Rattle.cmap_unicode.specs.TextsOfCodes.{Font}
 use Rattle.cmap_encode.specs.Codes.{IsBefore, IsCodeOf, IsFirstAmong, code_bytes}
 use Rattle.cmap_encode.specs.Encodings.{HasEncoding, IsLongestShown, IsString, Shows, next, nothing}
-use Rattle.cmap_encode.specs.Fronts.{AreNodes, EndsBy, IsLongestBelow, WentOn}
+use Rattle.cmap_encode.specs.Fronts.{AreNodes, AreStuck, EndsBy, IsLongestBelow, WentOn}
 use Rattle.cmap_encode.specs.IndexSeen.{IsIndexOf, found_at, found_in}
 use Rattle.cmap_encode.specs.TreeSeen.{node_of, step_of}
 use Rattle.cmap_encode.specs.declared.code.Code.{Code}
 use Rattle.cmap_encode.specs.declared.index.Index.{Index}
 use Rattle.cmap_encode.proofs.CodesRead.{whole_length}
 use Rattle.cmap_encode.proofs.StringsShown.{code_of_front, shows_more}
-use Rattle.cmap_encode.proofs.TextsFound.{found_rest, node_rest}
+use Rattle.cmap_encode.proofs.TextsFound.{found_rest, node_rest, none_found_beyond}
 use Rattle.cmap_encode.proofs.ListElements.{push_get, push_last}
 
 module _ (font : Font) where
@@ -235,27 +235,47 @@ module _ (font : Font) where
     longest = λ more from to shown. elim (cases_lt more count) [ inl before ↦ was.longest more from before shown | inr last ↦ let at : more ≡ count = omega arith in false≢true (is.1 (subst (λ n. HasEncoding font (take n text)) at shown)) ];
   }
 
-  -- a code ends each longer front, and those before it aren't shown
-  none_longer : (index : Index) (text : List ℕ) (count longest : ℕ) → IsIndexOf font index → IsLongestBelow font text count longest → index.longest < count - longest → (most more : ℕ) → more < most → longest < more → more ≤ length text → HasEncoding font (take more text) → ⊥
-  none_longer index text count longest is below far zero more lt from to shown = absurd (omega arith)
-  none_longer index text count longest is below far (suc most) more lt from to shown =
-      elim (cases_lt more count) [
-        | inl before ↦ below.longest more from before shown
-        | inr later ↦
-            let long : length (take more text) ≡ more = length-take-le more text to in
-            not_shown index (take more text) (index.longest + 1) is (omega (arith, long)) (inl (omega arith)) (λ taken some few ends.
-            let left : length (take more text) - taken ≡ more - taken = omega (arith, long) in
-            let front : HasEncoding font (take (more - taken) text) = subst (HasEncoding font) (ap (λ n. take n (take more text)) left ∙ take-take (more - taken) more text (omega arith)) ends.front in
-            none_longer index text count longest is below far most (more - taken) (omega arith) (omega arith) (omega arith) front) shown
-      ]
+  -- a code's text that goes on from a node that isn't there isn't found
+  none_from : (index : Index) (text : List ℕ) (count more k : ℕ) → k < count → count ≤ more → more ≤ length text → node_of index.tree (drop k (take (count - 1) text)) ≡ None → found_in index (drop k (take more text)) ≡ None
+  none_from index text count more k before later to none =
+      let before_is : drop k (take (count - 1) text) ≡ take (count - k - 1) (drop k text) = ap (λ n. drop k (take n text)) (omega arith) ∙ drop-take k (count - k - 1) text in
+      let more_is : drop k (take more text) ≡ take (more - k) (drop k text) = ap (λ n. drop k (take n text)) (omega arith) ∙ drop-take k (more - k) text in
+      ap (found_in index) more_is
+      ∙ none_found_beyond index (drop k text) (count - k) (more - k) (omega arith) (omega arith) (omega (arith, length-drop k text)) (ap (node_of index.tree) (sym before_is) ∙ none)
 
-  -- so many fronts in a row aren't shown as the longest text of a code has characters
-  pub longest_stuck : (index : Index) (text : List ℕ) (count longest : ℕ) → IsIndexOf font index → count ≤ length text → IsLongestBelow font text count longest → index.longest < count - longest → IsLongestShown font text longest
-  longest_stuck index text count longest is within below far = record {
-    within = let lt = below.below in omega arith;
-    shown = below.shown;
-    longest = λ more from to. none_longer index text count longest is below far (more + 1) more (omega arith) from to;
-  }
+  module _ (index : Index) (text : List ℕ) (count longest : ℕ) (nodes : List (Option ℕ)) (is : IsIndexOf font index) (are : AreNodes font index text nodes) (long : length nodes ≡ count) (stuck : AreStuck index nodes) (below : IsLongestBelow font text count longest) where
+    -- a code whose text begins before the nodes end goes on from one of them
+    none_across : (more k : ℕ) (bytes : List ℕ) → k < count → count ≤ more → more ≤ length text → count ≤ k + index.longest → HasEncoding font (take k text) → IsString bytes → IsCodeOf font (drop k (take more text)) bytes → ⊥
+    none_across more k bytes before later to near shown string code = by_node (node_of index.tree (drop k (take (length nodes - 1) text))) refl
+      where
+        by_node : (node : Option ℕ) → node_of index.tree (drop k (take (length nodes - 1) text)) ≡ node → ⊥
+        by_node (Some n) at = stuck k n (omega (arith, long)) (omega (arith, long)) (are.leads k (omega (arith, long)) (omega (arith, long)) shown ∙ ap Some at)
+        by_node None at = has_none index (drop k (take more text)) bytes is (none_from index text count more k before later to (ap (λ n. node_of index.tree (drop k (take (n - 1) text))) (sym long) ∙ at)) string code
+
+    -- a code ends each longer front, and those before it aren't shown
+    none_longer : (most more : ℕ) → more < most → longest < more → more ≤ length text → HasEncoding font (take more text) → ⊥
+    none_longer zero more lt from to shown = absurd (omega arith)
+    none_longer (suc most) more lt from to shown =
+        elim (cases_lt more count) [
+          | inl before ↦ below.longest more from before shown
+          | inr later ↦
+              let size : length (take more text) ≡ more = length-take-le more text to in
+              not_shown index (take more text) (index.longest + 1) is (omega (arith, size, below.below)) (inl (omega arith)) (λ taken some few ends.
+              let left : length (take more text) - taken ≡ more - taken = omega (arith, size) in
+              let front : HasEncoding font (take (more - taken) text) = subst (HasEncoding font) (ap (λ n. take n (take more text)) left ∙ take-take (more - taken) more text (omega arith)) ends.front in
+              elim (cases_lt (more - taken) count) [
+                | inl across ↦ none_across more (more - taken) ends.bytes across (omega arith) to (omega arith) front ends.bytes_string (subst (λ n. IsCodeOf font (drop n (take more text)) ends.bytes) left ends.code)
+                | inr beyond ↦ none_longer most (more - taken) (omega (arith, below.below)) (omega (arith, below.below)) (omega arith) front
+              ]) shown
+        ]
+
+    -- no text of a code goes on from a front that is shown
+    pub longest_stuck : count ≤ length text → IsLongestShown font text longest
+    longest_stuck within = record {
+      within = let lt = below.below in omega arith;
+      shown = below.shown;
+      longest = λ more from to. none_longer (more + 1) more (omega arith) from to;
+    }
 
   pub longest_all : (text : List ℕ) (count longest : ℕ) → count ≡ length text + 1 → IsLongestBelow font text count longest → IsLongestShown font text longest
   longest_all text count longest all is = record {

@@ -11,6 +11,10 @@ pub record AreNodes (font : Font) (index : Index) (text : List ℕ) (nodes : Lis
   pub leads : (k : ℕ) → k < length nodes → length nodes ≤ k + index.longest → HasEncoding font (take k text) → slice_get nodes k ≡ Some (node_of index.tree (drop k (take (length nodes - 1) text)))
   pub shown : (k n : ℕ) → k < length nodes → length nodes ≤ k + index.longest → slice_get nodes k ≡ Some (Some n) → HasEncoding font (take k text)
 
+-- no text of a code goes on from any of these nodes
+abbrev pub AreStuck : Index → List (Option ℕ) → Type 0
+AreStuck index nodes = (k n : ℕ) → k < length nodes → length nodes ≤ k + index.longest → slice_get nodes k ≡ Some (Some n) → ⊥
+
 -- the nodes, of the last character too
 pub record WentOn (index : Index) (text : List ℕ) (old new : List (Option ℕ)) : Type 0 where
   pub count : length new ≡ length old

@@ -1,9 +1,9 @@
 //! How much of a text strings show.
 
-ghost use Rattle.std.specs.Prelude.{◌≡◌, ◌↔◌, ◌<◌, ◌≤◌, IfOk, IsTrue, flat_map, if◌then◌else◌, length};
+ghost use Rattle.std.specs.Prelude.{◌≡◌, ◌↔◌, ◌<◌, ◌≤◌, IfOk, IsTrue, false, flat_map, if◌then◌else◌, length};
 ghost use Rattle.std.specs.Char.{encode_utf8};
 ghost use Rattle.cmap_encode.specs.Encodings.{HasEncoding, HasNoEncoding, IsLongestShown, IsStuckAt};
-ghost use Rattle.cmap_encode.specs.Fronts.{AreNodes, EndsBy, WentOn};
+ghost use Rattle.cmap_encode.specs.Fronts.{AreNodes, AreStuck, EndsBy, WentOn};
 ghost use Rattle.cmap_encode.specs.IndexSeen.{IsIndexOf};
 ghost use Rattle.cmap_unicode.specs.TextsOfCodes.{Font};
 
@@ -33,7 +33,7 @@ fn utf8_len(alloc: Global, text: &[char]) -> Result<usize, AllocError>
 
 /// How many characters the longest front of a text has that some string shows.
 ///
-/// Once as many fronts in a row aren't shown as the longest text of a code has characters, no longer one is.
+/// Once no text of a code goes on from a front that is shown, no longer one is.
 pub(crate) fn longest_shown(
     alloc: Global,
     index: &Index,
@@ -47,7 +47,7 @@ pub(crate) fn longest_shown(
     nodes.push(Some(EMPTY))?;
     let mut longest = 0;
     for count in 1..text.len() + 1 {
-        if count - longest > index.longest {
+        if !leads_on(index, &nodes) {
             return Ok(longest);
         }
         let front = &text[..count];
@@ -57,6 +57,20 @@ pub(crate) fn longest_shown(
         longest = longer(is_shown, count, longest);
     }
     Ok(longest)
+}
+
+/// Whether a text of a code goes on from one of the nodes. Those of fronts further back than the longest text of a
+/// code has characters don't count.
+fn leads_on(index: &Index, nodes: &[Option<usize>]) -> bool
+    ensures { result ≡ false → AreStuck index.now nodes.now }
+{
+    let len = nodes.len();
+    for back in 1..index.longest.min(len) + 1 {
+        if nodes[len - back].is_some() {
+            return true;
+        }
+    }
+    false
 }
 
 /// The longest front so far, after one more that is longer.
