@@ -1,24 +1,26 @@
 -- Which fronts of a text strings show.
 use Rattle.std.proofs.Common.{◌≡◌, ℕ, zero, suc, ◌+◌, ◌-◌, ◌<◌, ◌≤◌, ◌⊎◌, Bool, true, false, List, [], ◌∷◌, ◌++◌, get_or, length, take, drop, Option, Some, None, refl, sym, ap, ◌∙◌, subst, inl, inr, arith, append_assoc, append-nil, length-append, length-drop}
-use Rattle.std.specs.Bool.{then_some}
-use Rattle.std.specs.Prelude.{◌↔◌, IsTrue, if◌then◌else◌, is_some, option_and_then, option_map, slice_get, slice_index_or}
+use Rattle.std.specs.Prelude.{◌↔◌, Any, IsSome, IsTrue, if◌then◌else◌, is_some, option_and_then}
 use Rattle.std.proofs.lemmas.Bool.{cases_lt, false≢true}
-use Rattle.std.proofs.lemmas.List.{drop-take, drop_all, drop_at, get_or-take, length-take-le, length_push, nil_from_length, take-append-drop, take-take, take_all, take_at}
+use Rattle.std.proofs.lemmas.List.{drop-take, drop_all, drop_at, length-take-le, nil_from_length, take-append-drop, take-take, take_at}
+use Rattle.std.proofs.lemmas.List.Quantifiers.{Any-push}
 use Rattle.std.proofs.lemmas.List.Elements.{All-append, All-drop, All-nil, All-take}
-use Rattle.std.proofs.lemmas.Option.{none-some, same_Some, slice_get-get_or}
+use Rattle.std.proofs.lemmas.Option.{none-some, same_Some}
 use Rattle.cmap_unicode.specs.Characters.{characters_of}
 use Rattle.cmap_unicode.specs.TextsOfCodes.{Font}
-use Rattle.cmap_encode.specs.Codes.{IsBefore, IsCodeOf, IsFirstAmong, code_bytes}
+use Rattle.cmap_encode.specs.Codes.{IsBefore, IsCodeOf, IsFirstAmong}
 use Rattle.cmap_encode.specs.Encodings.{HasEncoding, IsLongestShown, IsString, Shows, next, nothing}
-use Rattle.cmap_encode.specs.Fronts.{AreNodes, AreStuck, EndsBy, IsLongestBelow, WentOn}
+use Rattle.cmap_encode.specs.Fronts.{AreNodes, EndsBy, EndsText, IsLongestBelow, WentOn}
 use Rattle.cmap_encode.specs.IndexSeen.{IsIndexOf, found_at, found_in}
 use Rattle.cmap_encode.specs.TreeSeen.{node_of, step_of}
-use Rattle.cmap_encode.specs.declared.code.Code.{Code}
 use Rattle.cmap_encode.specs.declared.index.Index.{Index}
 use Rattle.cmap_encode.proofs.CodesRead.{whole_length}
 use Rattle.cmap_encode.proofs.StringsShown.{code_of_front, shows_more}
 use Rattle.cmap_encode.proofs.TextsFound.{found_rest, node_rest, none_found_beyond}
-use Rattle.cmap_encode.proofs.ListElements.{push_get, push_last}
+use Rattle.cmap_encode.proofs.RunsAdded.{any_kept, any_split}
+
+pub nothing_among : {A : Type 0} (P : A → Type 0) → Any P [] → ⊥
+nothing_among P (k, x, within, at, holds) = omega arith
 
 module _ (font : Font) where
   -- one code more at the end
@@ -82,46 +84,6 @@ module _ (font : Font) where
       let few = (whole_length font.encoding bytes code.whole).1 in
       subst (IsFirstAmong (IsBefore 5 0) font text) found (is.codes text) bytes are (inl (omega (arith, few))) code
 
-  -- the node of the characters before the last one, and the last one, of what follows a front
-  module _ (index : Index) (nodes : List (Option ℕ)) (text : List ℕ) (taken last : ℕ) (is : IsIndexOf font index) (are : AreNodes font index text nodes) (some : 1 ≤ taken) (within : taken ≤ length text) (few : taken ≤ index.longest) (count : length nodes ≡ length text) (last_is : last ≡ get_or text (length text - 1) last) where
-    abbrev left : ℕ
-    left = length text - taken
-
-    lt : left < length nodes
-    lt = omega arith
-
-    near : length nodes ≤ left + index.longest
-    near = omega arith
-
-    found_next : (node : Option ℕ) → node ≡ node_of index.tree (drop left (take (length nodes - 1) text)) → found_at index node last ≡ found_in index (drop left text)
-    found_next held at =
-        ap (λ o. found_at index o last) (at ∙ ap (λ n. node_of index.tree (drop left (take (n - 1) text))) count)
-        ∙ ap (found_at index (node_of index.tree (drop left (take (length text - 1) text)))) last_is
-        ∙ found_rest index text (length text) last (omega arith) (omega arith) left (omega arith)
-        ∙ ap (λ t. found_in index (drop left t)) (take_all (length text) text (omega arith))
-
-    ends_by_node : (node : Option ℕ) (found : Option Code) → slice_get nodes left ≡ Some node → option_map code_bytes found ≡ found_at index node last → IsTrue (is_some found) → EndsBy font text taken
-    ends_by_node None found at has is_found = absurd (no_code found has is_found)
-      where
-        no_code : (found : Option Code) → option_map code_bytes found ≡ None → IsTrue (is_some found) → ⊥
-        no_code None has is_found = false≢true is_found
-        no_code (Some code) has is_found = none-some (code_bytes code) (sym has)
-    ends_by_node (Some n) None at has is_found = absurd (false≢true is_found)
-    ends_by_node (Some n) (Some code) at has is_found =
-        let front = are.shown left n lt near at in
-        let found = sym (has ∙ found_next (Some n) (same_Some (Some n) _ (sym at ∙ are.leads left lt near front))) in
-        let (first_are, is_code) = has_code index (drop left text) (code_bytes code) is found in
-        record { front = front; bytes = code_bytes code; bytes_string = first_are; code = is_code }
-
-    node_by_ends : (node : Option ℕ) (found : Option Code) → slice_get nodes left ≡ Some node → option_map code_bytes found ≡ found_at index node last → EndsBy font text taken → IsTrue (is_some found)
-    node_by_ends held (Some code) at has ends = refl
-    node_by_ends held None at has ends =
-        let missing = sym (has ∙ found_next held (same_Some held _ (sym at ∙ are.leads left lt near ends.front))) in
-        absurd (has_none index (drop left text) ends.bytes is missing ends.bytes_string ends.code)
-
-    pub ends_looked : (node : Option ℕ) (found : Option Code) → slice_get nodes left ≡ Some node → option_map code_bytes found ≡ found_at index node last → IsTrue (is_some found) ↔ EndsBy font text taken
-    ends_looked held found at has = (ends_by_node held found at has, node_by_ends held found at has)
-
   pub ends_shown : (text : List ℕ) (taken : ℕ) → EndsBy font text taken → HasEncoding font text
   ends_shown text taken ends =
       let (string, bytes, shows) = ends.front in let left = length text - taken in
@@ -152,77 +114,99 @@ module _ (font : Font) where
       below limit taken (inr less) few within = omega arith
 
   -- ---- one front after another
-  pub first_node : (index : Index) (text : List ℕ) → AreNodes font index text (Some 0 ∷ [])
-  first_node index text = record {
-    leads = λ k lt near shown. let zero_is : k ≡ 0 = omega (arith, lt) in subst (λ n. slice_get (Some 0 ∷ []) n ≡ Some (node_of index.tree (drop n []))) (sym zero_is) refl;
-    shown = λ k n lt near at. let zero_is : k ≡ 0 = omega (arith, lt) in subst (λ m. HasEncoding font (take m text)) (sym zero_is) ([], All-nil (λ b. b < 256), nothing);
-  }
+  pub first_node : (index : Index) (text : List ℕ) → AreNodes font index text 0 (0 ∷ [])
+  first_node index text = λ n. (
+    λ among. elim (any_split (λ m. m ≡ n) [] 0 among) [
+      | inl none ↦ absurd (nothing_among (λ m. m ≡ n) none)
+      | inr same ↦ record { k = 0; within = omega arith; shown = ([], All-nil (λ b. b < 256), nothing); node = ap Some same }
+    ],
+    λ after.
+        let zero_is : after.k ≡ 0 = omega (arith, after.within) in
+        Any-push (λ m. m ≡ n) [] 0 (same_Some 0 n (subst (λ k. node_of index.tree (drop k (take 0 text)) ≡ Some n) zero_is after.node)),
+  )
 
-  pub of_front : (index : Index) (text : List ℕ) (count : ℕ) (nodes : List (Option ℕ)) → length nodes ≤ count → AreNodes font index text nodes → AreNodes font index (take count text) nodes
-  of_front index text count nodes few are = record {
-    leads = λ k lt near shown.
-        are.leads k lt near (subst (HasEncoding font) (take-take k count text (omega arith)) shown)
-        ∙ ap (λ t. Some (node_of index.tree (drop k t))) (sym (take-take (length nodes - 1) count text (omega arith)));
-    shown = λ k n lt near at. subst (HasEncoding font) (sym (take-take k count text (omega arith))) (are.shown k n lt near at);
-  }
+  module _ (index : Index) (text : List ℕ) (count last : ℕ) (nodes : List ℕ) (is : IsIndexOf font index) (are : AreNodes font index text count nodes) (within : count + 1 ≤ length text) (last_is : last ≡ get_or text count last) where
+    size : length (take (count + 1) text) ≡ count + 1
+    size = length-take-le (count + 1) text within
 
-  -- one more
-  module _ (index : Index) (text : List ℕ) (count : ℕ) (nodes more : List (Option ℕ)) (b : Bool) (long : length nodes ≡ count) (some : 1 ≤ count) (within : count ≤ length text) (are : AreNodes font index text nodes) (went : WentOn index (take count text) nodes more) (is : IsTrue b ↔ HasEncoding font (take count text)) where
-    abbrev added : Option ℕ
-    added = if b then Some 0 else None
+    one : count + 1 - 1 ≡ count
+    one = omega arith
 
-    abbrev new : List (Option ℕ)
-    new = more ++ added ∷ []
+    -- what follows a front, and the character
+    found_next : (k : ℕ) (node : Option ℕ) → k ≤ count → node_of index.tree (drop k (take count text)) ≡ node → found_at index node last ≡ found_in index (drop k (take (count + 1) text))
+    found_next k held before at =
+        ap (λ o. found_at index o last) (sym at) ∙ ap (found_at index (node_of index.tree (drop k (take count text)))) last_is
+        ∙ subst (λ j. found_at index (node_of index.tree (drop k (take j text))) (get_or text j last) ≡ found_in index (drop k (take (count + 1) text))) one (found_rest index text (count + 1) last (omega arith) within k (omega arith))
 
-    new_count : length new ≡ count + 1
-    new_count = omega (arith, length_push more added, went.count)
+    node_next : (k : ℕ) → k ≤ count → node_of index.tree (drop k (take (count + 1) text)) ≡ option_and_then (λ n. step_of index.tree n last) (node_of index.tree (drop k (take count text)))
+    node_next k before =
+        subst (λ j. node_of index.tree (drop k (take (count + 1) text)) ≡ option_and_then (λ n. step_of index.tree n (get_or text j last)) (node_of index.tree (drop k (take j text)))) one (node_rest index text (count + 1) last (omega arith) within k (omega arith))
+        ∙ ap (λ c. option_and_then (λ n. step_of index.tree n c) (node_of index.tree (drop k (take count text)))) (sym last_is)
 
-    last_read : slice_index_or (take count text) (length (take count text) - 1) 0 ≡ get_or text (count - 1) 0
-    last_read = ap (λ n. get_or (take count text) (n - 1) 0) (length-take-le count text within) ∙ get_or-take count text (count - 1) 0 (omega arith)
+    shown_by : (k n : ℕ) (found : Option (List ℕ)) → k ≤ count → HasEncoding font (take k text) → node_of index.tree (drop k (take count text)) ≡ Some n → found_at index (Some n) last ≡ found → IsSome found → HasEncoding font (take (count + 1) text)
+    shown_by k n None before shown at found some = absurd (false≢true some)
+    shown_by k n (Some bytes) before shown at found some =
+        let (first_are, code) = has_code index (drop k (take (count + 1) text)) bytes is (sym (found_next k (Some n) before at) ∙ found) in
+        let left : length (take (count + 1) text) - (count + 1 - k) ≡ k = omega (arith, size) in
+        ends_shown (take (count + 1) text) (count + 1 - k) (record {
+          front = subst (λ j. HasEncoding font (take j (take (count + 1) text))) (sym left) (subst (HasEncoding font) (sym (take-take k (count + 1) text (omega arith))) shown);
+          bytes = bytes;
+          bytes_string = first_are;
+          code = subst (λ j. IsCodeOf font (drop j (take (count + 1) text)) bytes) (sym left) code;
+        })
 
-    -- a node that was there goes on
-    gone_on : (k : ℕ) (node : Option ℕ) → k < count → count ≤ k + index.longest → slice_get nodes k ≡ Some node → slice_get new k ≡ Some (option_and_then (λ n. step_of index.tree n (get_or text (count - 1) 0)) node)
-    gone_on k held lt near at =
-        push_get more added k (omega (arith, went.count)) ∙ went.each k held (omega arith) at
-        ∙ ap (λ last. Some (option_and_then (λ n. step_of index.tree n last) held)) last_read
+    pub shown_next : EndsText index nodes last → HasEncoding font (take (count + 1) text)
+    shown_next (i, n, lt, at, some) = let after = (are n).0 (i, n, lt, at, refl) in shown_by after.k n (found_at index (Some n) last) after.within after.shown after.node refl some
 
-    at_count : slice_get new count ≡ Some added
-    at_count = push_last more added count (omega (arith, went.count))
+    pub not_next : (EndsText index nodes last → ⊥) → HasEncoding font (take (count + 1) text) → ⊥
+    not_next none shown =
+        not_shown index (take (count + 1) text) (index.longest + 1) is (omega (arith, size)) (inl (omega arith)) (λ taken some few ends.
+        let left : length (take (count + 1) text) - taken ≡ count + 1 - taken = omega (arith, size) in
+        let front : HasEncoding font (take (count + 1 - taken) text) = subst (HasEncoding font) (ap (λ j. take j (take (count + 1) text)) left ∙ take-take (count + 1 - taken) (count + 1) text (omega arith)) ends.front in
+        by_node (count + 1 - taken) ends.bytes (node_of index.tree (drop (count + 1 - taken) (take count text))) (omega arith) refl front ends.bytes_string (subst (λ j. IsCodeOf font (drop j (take (count + 1) text)) ends.bytes) left ends.code)) shown
+      where
+        by_found : (k n : ℕ) (bytes : List ℕ) (found : Option (List ℕ)) → k ≤ count → node_of index.tree (drop k (take count text)) ≡ Some n → HasEncoding font (take k text) → IsString bytes → IsCodeOf font (drop k (take (count + 1) text)) bytes → found_at index (Some n) last ≡ found → ⊥
+        by_found k n bytes None before at front string code found = has_none index (drop k (take (count + 1) text)) bytes is (sym (found_next k (Some n) before at) ∙ found) string code
+        by_found k n bytes (Some first) before at front string code found =
+            let (i, m, lt, there, same) = (are n).1 (record { k = k; within = before; shown = front; node = at }) in
+            none (i, m, lt, there, ap is_some (ap (λ j. found_at index (Some j) last) same ∙ found))
 
-    leads_before : (k : ℕ) → k < count → count ≤ k + index.longest → HasEncoding font (take k text) → slice_get new k ≡ Some (node_of index.tree (drop k (take count text)))
-    leads_before k lt near shown =
-        gone_on k (node_of index.tree (drop k (take (count - 1) text))) lt near (are.leads k (omega arith) (omega arith) shown ∙ ap (λ n. Some (node_of index.tree (drop k (take (n - 1) text)))) long)
-        ∙ ap Some (sym (node_rest index text count 0 some within k (omega arith)))
+        by_node : (k : ℕ) (bytes : List ℕ) (node : Option ℕ) → k ≤ count → node_of index.tree (drop k (take count text)) ≡ node → HasEncoding font (take k text) → IsString bytes → IsCodeOf font (drop k (take (count + 1) text)) bytes → ⊥
+        by_node k bytes None before at front string code = has_none index (drop k (take (count + 1) text)) bytes is (sym (found_next k None before at)) string code
+        by_node k bytes (Some n) before at front string code = by_found k n bytes (found_at index (Some n) last) before at front string code refl
 
-    leads_last : HasEncoding font (take count text) → slice_get new count ≡ Some (node_of index.tree (drop count (take count text)))
-    leads_last shown =
-        at_count ∙ ap (λ v. Some (if v then Some 0 else None)) (is.1 shown)
-        ∙ ap (λ t. Some (node_of index.tree t)) (sym (drop_all count (take count text) (omega (arith, length-take-le count text within))))
+    module _ (b : Bool) (new : List ℕ) (shows : IsTrue b ↔ HasEncoding font (take (count + 1) text)) (went : WentOn index last b nodes new) where
+      from_step : (k n : ℕ) (node : Option ℕ) → k ≤ count → node_of index.tree (drop k (take count text)) ≡ node → HasEncoding font (take k text) → option_and_then (λ m. step_of index.tree m last) node ≡ Some n → Any (λ m. step_of index.tree m last ≡ Some n) nodes
+      from_step k n None before at front steps = absurd (none-some n steps)
+      from_step k n (Some m) before at front steps =
+          let (i, x, lt, there, same) = (are m).1 (record { k = k; within = before; shown = front; node = at }) in
+          (i, x, lt, there, ap (λ j. step_of index.tree j last) same ∙ steps)
 
-    shown_before : (k n : ℕ) (node : Option ℕ) → k < count → count ≤ k + index.longest → slice_get nodes k ≡ Some node → slice_get new k ≡ Some (Some n) → HasEncoding font (take k text)
-    shown_before k n None lt near at now = absurd (none-some n (same_Some None (Some n) (sym (gone_on k None lt near at) ∙ now)))
-    shown_before k n (Some m) lt near at now = are.shown k m (omega arith) (omega arith) at
-
-    shown_last : (v : Bool) (n : ℕ) → b ≡ v → (if v then Some 0 else None) ≡ Some n → HasEncoding font (take count text)
-    shown_last true n chosen at = is.0 chosen
-    shown_last false n chosen at = absurd (none-some n at)
-
-    pub nodes_added : AreNodes font index text new
-    nodes_added = record {
-      leads = λ k lt near shown. elim (cases_lt k count) [
-        | inl before ↦ leads_before k before (omega (arith, new_count)) shown ∙ ap (λ n. Some (node_of index.tree (drop k (take n text)))) (omega (arith, new_count))
-        | inr last ↦
-            let at : k ≡ count = omega (arith, new_count) in
-            subst (λ j. HasEncoding font (take j text) → slice_get new j ≡ Some (node_of index.tree (drop j (take (length new - 1) text)))) (sym at)
-            (λ its. leads_last its ∙ ap (λ n. Some (node_of index.tree (drop count (take n text)))) (omega (arith, new_count))) shown
-      ];
-      shown = λ k n lt near at. elim (cases_lt k count) [
-        | inl before ↦ shown_before k n (get_or nodes k None) before (omega (arith, new_count)) (slice_get-get_or nodes k None (omega arith)) at
-        | inr last ↦
-            let here : k ≡ count = omega (arith, new_count) in
-            subst (λ j. HasEncoding font (take j text)) (sym here) (shown_last b n refl (same_Some added (Some n) (sym at_count ∙ ap (slice_get new) (sym here) ∙ at)))
-      ];
-    }
+      pub nodes_next : AreNodes font index text (count + 1) new
+      nodes_next = λ n. (
+        λ among. elim ((went n).0 among) [
+          | inl begins ↦ record {
+              k = count + 1;
+              within = omega arith;
+              shown = shows.0 begins.1;
+              node = ap (node_of index.tree) (drop_all (count + 1) (take (count + 1) text) (omega (arith, size))) ∙ ap Some (sym begins.0);
+            }
+          | inr (i, m, lt, at, steps) ↦
+              let before = (are m).0 (i, m, lt, at, refl) in record {
+                k = before.k;
+                within = omega (arith, before.within);
+                shown = before.shown;
+                node = node_next before.k before.within ∙ ap (option_and_then (λ j. step_of index.tree j last)) before.node ∙ steps;
+              }
+        ],
+        λ after. elim (cases_lt after.k (count + 1)) [
+          | inl before ↦ (went n).1 (inr (from_step after.k n (node_of index.tree (drop after.k (take count text))) (omega arith) refl after.shown (sym (node_next after.k (omega arith)) ∙ after.node)))
+          | inr ends ↦
+              let here : after.k ≡ count + 1 = omega (arith, after.within) in
+              let empty : drop after.k (take (count + 1) text) ≡ [] = drop_all after.k (take (count + 1) text) (omega (arith, size)) in
+              (went n).1 (inl (same_Some n 0 (sym after.node ∙ ap (node_of index.tree) empty), shows.1 (subst (λ k. HasEncoding font (take k text)) here after.shown)))
+        ],
+      )
 
   pub nothing_longest : (text : List ℕ) → IsLongestBelow font text 1 0
   nothing_longest text = record { below = omega arith; shown = ([], All-nil (λ b. b < 256), nothing); longest = λ more from to. absurd (omega arith) }
@@ -236,36 +220,37 @@ module _ (font : Font) where
   }
 
   -- a code's text that goes on from a node that isn't there isn't found
-  none_from : (index : Index) (text : List ℕ) (count more k : ℕ) → k < count → count ≤ more → more ≤ length text → node_of index.tree (drop k (take (count - 1) text)) ≡ None → found_in index (drop k (take more text)) ≡ None
+  none_from : (index : Index) (text : List ℕ) (count more k : ℕ) → k ≤ count → count < more → more ≤ length text → node_of index.tree (drop k (take count text)) ≡ None → found_in index (drop k (take more text)) ≡ None
   none_from index text count more k before later to none =
-      let before_is : drop k (take (count - 1) text) ≡ take (count - k - 1) (drop k text) = ap (λ n. drop k (take n text)) (omega arith) ∙ drop-take k (count - k - 1) text in
+      let before_is : drop k (take count text) ≡ take (count - k) (drop k text) = ap (λ n. drop k (take n text)) (omega arith) ∙ drop-take k (count - k) text in
       let more_is : drop k (take more text) ≡ take (more - k) (drop k text) = ap (λ n. drop k (take n text)) (omega arith) ∙ drop-take k (more - k) text in
+      let less : count + 1 - k - 1 ≡ count - k = omega arith in
       ap (found_in index) more_is
-      ∙ none_found_beyond index (drop k text) (count - k) (more - k) (omega arith) (omega arith) (omega (arith, length-drop k text)) (ap (node_of index.tree) (sym before_is) ∙ none)
+      ∙ none_found_beyond index (drop k text) (count + 1 - k) (more - k) (omega arith) (omega arith) (omega (arith, length-drop k text)) (ap (λ n. node_of index.tree (take n (drop k text))) less ∙ ap (node_of index.tree) (sym before_is) ∙ none)
 
-  module _ (index : Index) (text : List ℕ) (count longest : ℕ) (nodes : List (Option ℕ)) (is : IsIndexOf font index) (are : AreNodes font index text nodes) (long : length nodes ≡ count) (stuck : AreStuck index nodes) (below : IsLongestBelow font text count longest) where
-    -- a code whose text begins before the nodes end goes on from one of them
-    none_across : (more k : ℕ) (bytes : List ℕ) → k < count → count ≤ more → more ≤ length text → count ≤ k + index.longest → HasEncoding font (take k text) → IsString bytes → IsCodeOf font (drop k (take more text)) bytes → ⊥
-    none_across more k bytes before later to near shown string code = by_node (node_of index.tree (drop k (take (length nodes - 1) text))) refl
+  module _ (index : Index) (text : List ℕ) (count longest : ℕ) (is : IsIndexOf font index) (are : AreNodes font index text count []) (below : IsLongestBelow font text (count + 1) longest) where
+    -- a code whose text begins so far would go on from a node
+    none_across : (more k : ℕ) (bytes : List ℕ) → k ≤ count → count < more → more ≤ length text → HasEncoding font (take k text) → IsString bytes → IsCodeOf font (drop k (take more text)) bytes → ⊥
+    none_across more k bytes before later to shown string code = by_node (node_of index.tree (drop k (take count text))) refl
       where
-        by_node : (node : Option ℕ) → node_of index.tree (drop k (take (length nodes - 1) text)) ≡ node → ⊥
-        by_node (Some n) at = stuck k n (omega (arith, long)) (omega (arith, long)) (are.leads k (omega (arith, long)) (omega (arith, long)) shown ∙ ap Some at)
-        by_node None at = has_none index (drop k (take more text)) bytes is (none_from index text count more k before later to (ap (λ n. node_of index.tree (drop k (take (n - 1) text))) (sym long) ∙ at)) string code
+        by_node : (node : Option ℕ) → node_of index.tree (drop k (take count text)) ≡ node → ⊥
+        by_node (Some n) at = nothing_among (λ m. m ≡ n) ((are n).1 (record { k = k; within = before; shown = shown; node = at }))
+        by_node None at = has_none index (drop k (take more text)) bytes is (none_from index text count more k before later to at) string code
 
     -- a code ends each longer front, and those before it aren't shown
     none_longer : (most more : ℕ) → more < most → longest < more → more ≤ length text → HasEncoding font (take more text) → ⊥
     none_longer zero more lt from to shown = absurd (omega arith)
     none_longer (suc most) more lt from to shown =
-        elim (cases_lt more count) [
+        elim (cases_lt more (count + 1)) [
           | inl before ↦ below.longest more from before shown
           | inr later ↦
               let size : length (take more text) ≡ more = length-take-le more text to in
-              not_shown index (take more text) (index.longest + 1) is (omega (arith, size, below.below)) (inl (omega arith)) (λ taken some few ends.
+              not_shown index (take more text) (index.longest + 1) is (omega (arith, size)) (inl (omega arith)) (λ taken some few ends.
               let left : length (take more text) - taken ≡ more - taken = omega (arith, size) in
               let front : HasEncoding font (take (more - taken) text) = subst (HasEncoding font) (ap (λ n. take n (take more text)) left ∙ take-take (more - taken) more text (omega arith)) ends.front in
-              elim (cases_lt (more - taken) count) [
-                | inl across ↦ none_across more (more - taken) ends.bytes across (omega arith) to (omega arith) front ends.bytes_string (subst (λ n. IsCodeOf font (drop n (take more text)) ends.bytes) left ends.code)
-                | inr beyond ↦ none_longer most (more - taken) (omega (arith, below.below)) (omega (arith, below.below)) (omega arith) front
+              elim (cases_lt (more - taken) (count + 1)) [
+                | inl across ↦ none_across more (more - taken) ends.bytes (omega arith) (omega arith) to front ends.bytes_string (subst (λ n. IsCodeOf font (drop n (take more text)) ends.bytes) left ends.code)
+                | inr beyond ↦ none_longer most (more - taken) (omega arith) (omega (arith, below.below)) (omega arith) front
               ]) shown
         ]
 
@@ -284,17 +269,34 @@ module _ (font : Font) where
     longest = λ more from to. is.longest more from (omega arith);
   }
 
-pub longer_below : (count longest : ℕ) (b : Bool) → longest < count → (if b then count else longest) < count + 1
+pub longer_below : (count longest : ℕ) (b : Bool) → longest ≤ count → (if b then count + 1 else longest) ≤ count + 1
 longer_below count longest true below = omega arith
 longer_below count longest false below = omega arith
 
-pub first_pushed : (now before : List (Option ℕ)) → before ≡ [] → now ≡ before ++ Some 0 ∷ [] → now ≡ Some 0 ∷ []
-first_pushed now before none pushed = pushed ∙ ap (λ l. l ++ Some 0 ∷ []) none
+-- one more node, from which no text goes on by the character
+pub went_none : (index : Index) (character : ℕ) (b : Bool) (old new : List ℕ) (node : ℕ) → WentOn index character b old new → step_of index.tree node character ≡ None → WentOn index character b (old ++ node ∷ []) new
+went_none index character b old new node was none = λ n.
+    let Leads = λ (m : ℕ). step_of index.tree m character ≡ Some n in (
+      λ among. elim ((was n).0 among) [ inl begins ↦ inl begins | inr before ↦ inr (any_kept Leads old (node ∷ []) before) ],
+      λ after. elim after [
+        | inl begins ↦ (was n).1 (inl begins)
+        | inr leads ↦ elim (any_split Leads old node leads) [ inl before ↦ (was n).1 (inr before) | inr here ↦ absurd (none-some n (sym none ∙ here)) ]
+      ],
+    )
 
--- one more is pushed after nodes that a slice gave back
-pub one_pushed : (now more rest : List (Option ℕ)) (len : ℕ) (last : Option ℕ) (b : Bool) → now ≡ take len (more ++ rest) ++ last ∷ [] → len ≡ length more → last ≡ then_some b 0 → now ≡ more ++ (if b then Some 0 else None) ∷ []
-one_pushed now more rest len last b pushed count is = pushed ∙ ap (λ l. l ++ last ∷ []) (take_at more rest len (sym count)) ∙ ap (λ o. more ++ o ∷ []) (is ∙ chosen b)
-  where
-    chosen : (b : Bool) → then_some {T = ℕ} b 0 ≡ (if b then Some 0 else None)
-    chosen true = refl
-    chosen false = refl
+-- one more node, with the one to which the character leads
+pub went_some : (index : Index) (character : ℕ) (b : Bool) (old new : List ℕ) (node there : ℕ) → WentOn index character b old new → step_of index.tree node character ≡ Some there → WentOn index character b (old ++ node ∷ []) (new ++ there ∷ [])
+went_some index character b old new node there was leads = λ n.
+    let Leads = λ (m : ℕ). step_of index.tree m character ≡ Some n in let Is = λ (m : ℕ). m ≡ n in (
+      λ among. elim (any_split Is new there among) [
+        | inl before ↦ elim ((was n).0 before) [ inl begins ↦ inl begins | inr among_old ↦ inr (any_kept Leads old (node ∷ []) among_old) ]
+        | inr same ↦ inr (Any-push Leads old node (leads ∙ ap Some same))
+      ],
+      λ after. elim after [
+        | inl begins ↦ any_kept Is new (there ∷ []) ((was n).1 (inl begins))
+        | inr any ↦ elim (any_split Leads old node any) [
+          | inl before ↦ any_kept Is new (there ∷ []) ((was n).1 (inr before))
+          | inr here ↦ Any-push Is new there (same_Some there n (sym leads ∙ here))
+        ]
+      ],
+    )

@@ -6,7 +6,6 @@ pub mod StringsShown
 pub mod WaysFound
 pub mod WaysFollowed
 pub mod FrontsShown
-pub mod NodesGone
 pub mod CodesOutside
 pub mod LossyShown
 pub mod FirstsFound

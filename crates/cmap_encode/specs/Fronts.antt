@@ -1,24 +1,30 @@
 -- Private aid: which fronts of a text strings show.
-use Rattle.std.specs.Prelude.{◌≡◌, ℕ, ◌+◌, ◌-◌, ◌<◌, ◌≤◌, List, ◌++◌, Option, Some, drop, length, option_and_then, slice_get, slice_index_or, take}
+use Rattle.std.specs.Prelude.{◌≡◌, ◌↔◌, ℕ, ◌-◌, ◌<◌, ◌≤◌, ◌⊎◌, Any, Bool, IsSome, IsTrue, List, ◌++◌, Some, drop, length, take}
 use Rattle.cmap_unicode.specs.TextsOfCodes.{Font}
 use Rattle.cmap_encode.specs.Codes.{IsCodeOf}
 use Rattle.cmap_encode.specs.Encodings.{HasEncoding, IsEncodingOf, IsLongestShown, IsString}
+use Rattle.cmap_encode.specs.IndexSeen.{found_at}
 use Rattle.cmap_encode.specs.TreeSeen.{node_of, step_of}
 use Rattle.cmap_encode.specs.declared.index.Index.{Index}
 
--- for each front that some string shows, the node of the characters after it, but for the last one; none for another front. Fronts after which so many characters come as the longest text of a code has don't count
-pub record AreNodes (font : Font) (index : Index) (text : List ℕ) (nodes : List (Option ℕ)) : Type 0 where
-  pub leads : (k : ℕ) → k < length nodes → length nodes ≤ k + index.longest → HasEncoding font (take k text) → slice_get nodes k ≡ Some (node_of index.tree (drop k (take (length nodes - 1) text)))
-  pub shown : (k n : ℕ) → k < length nodes → length nodes ≤ k + index.longest → slice_get nodes k ≡ Some (Some n) → HasEncoding font (take k text)
+-- it is the node of what follows, up to so many characters of the text, a front that some string shows
+pub record IsAfterShown (font : Font) (index : Index) (text : List ℕ) (count n : ℕ) : Type 0 where
+  pub k : ℕ
+  pub within : k ≤ count
+  pub shown : HasEncoding font (take k text)
+  pub node : node_of index.tree (drop k (take count text)) ≡ Some n
 
--- no text of a code goes on from any of these nodes
-abbrev pub AreStuck : Index → List (Option ℕ) → Type 0
-AreStuck index nodes = (k n : ℕ) → k < length nodes → length nodes ≤ k + index.longest → slice_get nodes k ≡ Some (Some n) → ⊥
+-- all such nodes
+abbrev pub AreNodes : Font → Index → List ℕ → ℕ → List ℕ → Type 0
+AreNodes font index text count nodes = (n : ℕ) → Any (λ m. m ≡ n) nodes ↔ IsAfterShown font index text count n
 
--- the nodes, of the last character too
-pub record WentOn (index : Index) (text : List ℕ) (old new : List (Option ℕ)) : Type 0 where
-  pub count : length new ≡ length old
-  pub each : (k : ℕ) (node : Option ℕ) → length old ≤ k + index.longest → slice_get old k ≡ Some node → slice_get new k ≡ Some (option_and_then (λ n. step_of index.tree n (slice_index_or text (length text - 1) 0)) node)
+-- the character ends the text of a code that goes on from one of the nodes
+abbrev pub EndsText : Index → List ℕ → ℕ → Type 0
+EndsText index nodes last = Any (λ n. IsSome (found_at index (Some n) last)) nodes
+
+-- the nodes after one more character, and that of the empty text if strings show the front that ends with it
+abbrev pub WentOn : Index → ℕ → Bool → List ℕ → List ℕ → Type 0
+WentOn index character is_shown old new = (n : ℕ) → Any (λ m. m ≡ n) new ↔ (((n ≡ 0) × IsTrue is_shown) ⊎ Any (λ m. step_of index.tree m character ≡ Some n) old)
 
 -- the last characters, so many, are the text of a code, and those before them are shown
 pub record EndsBy (font : Font) (text : List ℕ) (taken : ℕ) : Type 0 where

@@ -1,9 +1,9 @@
 //! How much of a text strings show.
 
-ghost use Rattle.std.specs.Prelude.{◌≡◌, ◌↔◌, ◌<◌, ◌≤◌, IfOk, IsTrue, false, flat_map, if◌then◌else◌, length};
+ghost use Rattle.std.specs.Prelude.{◌≡◌, ◌↔◌, ◌≤◌, IfOk, IsTrue, flat_map, if◌then◌else◌, length};
 ghost use Rattle.std.specs.Char.{encode_utf8};
-ghost use Rattle.cmap_encode.specs.Encodings.{HasEncoding, HasNoEncoding, IsLongestShown, IsStuckAt};
-ghost use Rattle.cmap_encode.specs.Fronts.{AreNodes, AreStuck, EndsBy, WentOn};
+ghost use Rattle.cmap_encode.specs.Encodings.{HasNoEncoding, IsLongestShown, IsStuckAt};
+ghost use Rattle.cmap_encode.specs.Fronts.{EndsText, WentOn};
 ghost use Rattle.cmap_encode.specs.IndexSeen.{IsIndexOf};
 ghost use Rattle.cmap_unicode.specs.TextsOfCodes.{Font};
 
@@ -44,33 +44,17 @@ pub(crate) fn longest_shown(
         → IsLongestShown font text.now count) }
 {
     let mut nodes = Vec::new(alloc);
-    nodes.push(Some(EMPTY))?;
+    nodes.push(EMPTY)?;
     let mut longest = 0;
-    for count in 1..text.len() + 1 {
-        if !leads_on(index, &nodes) {
+    for count in 0..text.len() {
+        if nodes.is_empty() {
             return Ok(longest);
         }
-        let front = &text[..count];
-        let is_shown = is_shown(index, &nodes, front);
-        go_on(index, &mut nodes, front);
-        nodes.push(is_shown.then_some(EMPTY))?;
-        longest = longer(is_shown, count, longest);
+        let is_shown = ends_text(index, &nodes, text[count]);
+        nodes = go_on(alloc, index, &nodes, text[count], is_shown)?;
+        longest = longer(is_shown, count + 1, longest);
     }
     Ok(longest)
-}
-
-/// Whether a text of a code goes on from one of the nodes. Those of fronts further back than the longest text of a
-/// code has characters don't count.
-fn leads_on(index: &Index, nodes: &[Option<usize>]) -> bool
-    ensures { result ≡ false → AreStuck index.now nodes.now }
-{
-    let len = nodes.len();
-    for back in 1..index.longest.min(len) + 1 {
-        if nodes[len - back].is_some() {
-            return true;
-        }
-    }
-    false
 }
 
 /// The longest front so far, after one more that is longer.
@@ -80,43 +64,36 @@ fn longer(is_shown: bool, count: usize, longest: usize) -> usize
     if is_shown { count } else { longest }
 }
 
-/// Whether some string shows a text. Each node is that of what follows a shorter front that strings show, but
-/// for the last character.
-fn is_shown(index: &Index, nodes: &[Option<usize>], text: &[char]) -> bool
-    requires some { 0 < length text.now }
-    requires nodes { length nodes.now ≡ length text.now }
-    ensures { (font : Font) → IsIndexOf font index.now → AreNodes font index.now text.now nodes.now
-        → (IsTrue result ↔ HasEncoding font text.now) }
+/// Whether a character ends the text of a code that goes on from one of the nodes.
+fn ends_text(index: &Index, nodes: &[usize], last: char) -> bool
+    ensures { IsTrue result ↔ EndsText index.now nodes.now last }
 {
-    for taken in 1..index.longest.min(text.len()) + 1 {
-        if ends_by(index, nodes, text, taken) {
+    for node in nodes {
+        if index.find(Some(*node), last).is_some() {
             return true;
         }
     }
     false
 }
 
-/// Whether the last `taken` characters of a text are the text of a code, and some string shows those before them.
-fn ends_by(index: &Index, nodes: &[Option<usize>], text: &[char], taken: usize) -> bool
-    requires some { 1 ≤ taken }
-    requires within { (taken ≤ length text.now) × (taken ≤ index.now.longest) }
-    requires nodes { length nodes.now ≡ length text.now }
-    ensures { (font : Font) → IsIndexOf font index.now → AreNodes font index.now text.now nodes.now
-        → (IsTrue result ↔ EndsBy font text.now taken) }
+/// The nodes after one more character, and that of the empty text if strings show the front that ends with it.
+fn go_on(
+    alloc: Global,
+    index: &Index,
+    nodes: &[usize],
+    character: char,
+    is_shown: bool,
+) -> Result<Vec<usize>, AllocError>
+    ensures { IfOk result (λ after. WentOn index.now character is_shown nodes.now after.items) }
 {
-    let len = text.len();
-    index.find(nodes[len - taken], text[len - 1]).is_some()
-}
-
-/// Takes the nodes on by the last character of a text. Those of fronts further back than the longest text of a
-/// code has characters stay as they are.
-fn go_on(index: &Index, nodes: &mut [Option<usize>], text: &[char])
-    requires some { 0 < length text.now }
-    requires nodes { length nodes.old ≡ length text.now }
-    ensures { WentOn index.now text.now nodes.old nodes.new }
-{
-    let last = text[text.len() - 1];
-    for at in nodes.len().saturating_sub(index.longest)..nodes.len() {
-        nodes[at] = index.after(nodes[at], last);
+    let mut after = Vec::new(alloc);
+    if is_shown {
+        after.push(EMPTY)?;
     }
+    for node in nodes {
+        if let Some(next) = index.after(Some(*node), character) {
+            after.push(next)?;
+        }
+    }
+    Ok(after)
 }

@@ -1,14 +1,26 @@
-use Rattle.std.proofs.Common.{◌∙◌}
-use Rattle.std.proofs.Math.ListN.{length-set}
-use Rattle.cmap_encode.proofs.NodesGone.{one_done, others_left}
+use Rattle.std.proofs.Common.{◌≡◌, ℕ, ◌+◌, List, ◌∷◌, ◌++◌, [], get_or, take, sym, ap, ◌∙◌, subst, arith}
+use Rattle.std.specs.Global.{Vec}
+use Rattle.std.proofs.lemmas.List.{take_all, take_more}
+use Rattle.cmap_encode.specs.Fronts.{WentOn}
+use Rattle.cmap_encode.proofs.FrontsShown.{went_none, went_some}
 use Rattle.cmap_encode.proofs.fronts.go_on.Goals as goal
+use Rattle.cmap_encode.proofs.fronts.go_on.Goals.{in-Some+in_ok-push-2, in_default}
 
-pub loop-at-preserved : goal.loop-at-preserved
-loop-at-preserved c =
-    let index = c.args.index.now in let text = c.args.text.now in let old = c.args.nodes.now in let nodes = c.loop-at.nodes in let at = c.loop-at.at in
-    let result = c.after.result in let last = c.index-text-text.result in let was = c.loop-at.invariant in
-    record {
-      count = length-set nodes at result ∙ was.count;
-      done = one_done index text old nodes at result last was.count c.loop-at-test.true was.done was.left c.requires.some c.index-text-text.is c.after.ensures;
-      left = others_left index text old nodes at result last was.count c.loop-at-test.true was.done was.left c.requires.some c.index-text-text.is c.after.ensures;
-    }
+pub loop-node-preserved : goal.loop-node-preserved
+loop-node-preserved c =
+    let index = c.args.index.now in let nodes = c.args.nodes.now in let at = c.loop-node.node-index in let old = take at nodes in let node = get_or nodes at 0 in
+    let more : take (at + 1) nodes ≡ old ++ node ∷ [] = take_more nodes at 0 (omega arith) in
+    let Went = λ (before after : List ℕ). WentOn index c.args.character c.args.is_shown before after in
+    elim c.match-after.branch [
+      | in-Some+in_ok-push-2 w ↦
+          let after = ap (λ (v : Vec ℕ). v.items) w.after-is ∙ w.in_ok-push-2.ensures.items in
+          subst (λ l. Went l c.match-after.after.items) (sym more) (subst (Went (old ++ node ∷ [])) (sym after)
+          (went_some index c.args.character c.args.is_shown old c.loop-node.after.items node w.in-Some.next c.loop-node.invariant (sym c.after.ensures ∙ w.in-Some.is)))
+      | in_default w ↦
+          let after = ap (λ (v : Vec ℕ). v.items) w.after-is in
+          subst (λ l. Went l c.match-after.after.items) (sym more) (subst (Went (old ++ node ∷ [])) (sym after)
+          (went_none index c.args.character c.args.is_shown old c.loop-node.after.items node c.loop-node.invariant (sym c.after.ensures ∙ w.in_default.is)))
+    ]
+
+pub returns : goal.returns
+returns c = subst (λ l. WentOn c.args.index.now c.args.character c.args.is_shown l c.loop-node.after.items) (take_all c.loop-node.node-index c.args.nodes.now (omega arith)) c.loop-node.invariant
