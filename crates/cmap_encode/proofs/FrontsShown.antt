@@ -186,11 +186,11 @@ module _ (font : Font) where
       nodes_next = λ n. (
         λ among. elim ((went n).0 among) [
           | inl begins ↦ record {
-              k = count + 1;
-              within = omega arith;
-              shown = shows.0 begins.1;
-              node = ap (node_of index.tree) (drop_all (count + 1) (take (count + 1) text) (omega (arith, size))) ∙ ap Some (sym begins.0);
-            }
+            k = count + 1;
+            within = omega arith;
+            shown = shows.0 begins.1;
+            node = ap (node_of index.tree) (drop_all (count + 1) (take (count + 1) text) (omega (arith, size))) ∙ ap Some (sym begins.0);
+          }
           | inr (i, m, lt, at, steps) ↦
               let before = (are m).0 (i, m, lt, at, refl) in record {
                 k = before.k;
