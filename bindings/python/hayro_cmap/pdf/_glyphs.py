@@ -1,18 +1,19 @@
 """The texts of simple fonts by the names of their glyphs (ISO 32000-1, 9.6.6 and 9.10.2).
 
 The names come of the encoding of the font, or of the font program. Their texts are those of the Adobe Glyph List, which
-fontTools has.
+fontTools has. Names that are numbers have no texts there; what they may stand for is a guess.
 """
 
 import functools
 import io
 import re
-from typing import List, Optional, Tuple
+from typing import Any, Dict, List, Optional, Tuple
 
 import pikepdf
 
-from ._encodings import BY_NAME, STANDARD, SYMBOL, ZAPF_DINGBATS
-from ._objects import MALFORMED, Streams, integer_at, name_at, stream_at, text_of
+from ._encodings import BY_NAME, EXPERT, STANDARD, SYMBOL, ZAPF_DINGBATS
+from ._objects import MALFORMED, Streams, dictionary_at, integer_at, name_at, stream_at, text_of
+from ._sfnt import Sfnt
 
 try:
     from fontTools import agl
@@ -67,8 +68,18 @@ SYMBOLIC = 1 << 2
 ENTRY = re.compile(rb"dup\s+(?:(\d+)#)?(\w+)\s*/([^\s/\[\](){}<>%]+)\s+put\b")
 ENCODING = re.compile(rb"/Encoding\s+(StandardEncoding\b|.*?(?:\breadonly|\bdef)\b)", re.DOTALL)
 
-#: Where an encoding of a CFF font program may stand: the places before stand for encodings of Adobe.
-FIRST_OF_CFF = 2
+#: The encodings of Adobe that the first places stand for where an encoding of a CFF font program may stand.
+OF_CFF = (STANDARD, EXPERT)
+
+#: A component of a name that is the number of a character, in letters of any case.
+BY_NUMBER = re.compile("(?<![^_])(uni|u)([0-9A-Fa-f]{4,})(?![^._])")
+
+#: Names that are a number after letters, as a65 and cid_65, and two hexadecimal digits after a letter, as G4E.
+DECIMAL = re.compile("(cid_|[A-Za-z]{0,2})([0-9]{1,5})")
+HEXADECIMAL = re.compile("([A-Za-z])([0-9A-Fa-f]{2})")
+
+#: The characters of Latin-1 that are printed.
+PRINTED = frozenset([*range(0x20, 0x7F), *range(0xA0, 0x100)])
 
 #: The longest encoding of a Type 1 font program that is read.
 MOST_OF_ENCODING = 1 << 16
@@ -82,16 +93,29 @@ def glyph_names(font: pikepdf.Dictionary, streams: Streams) -> Names:
     if not isinstance(encoding, pikepdf.Dictionary):
         return built_in(font, streams)
     names = list(BY_NAME.get(name_at(encoding, "/BaseEncoding") or "") or built_in(font, streams))
+    for code, name in differences_of(font).items():
+        names[code] = name
+    return names
+
+
+def differences_of(font: pikepdf.Dictionary) -> Dict[int, str]:
+    """The names of the glyphs of codes that Differences has (ISO 32000-1, 9.6.6.1)."""
+    found: Dict[int, str] = {}
     code = 0
-    differences = encoding.get("/Differences")
+    differences = dictionary_at(font, "/Encoding").get("/Differences")
     for it in list(differences) if isinstance(differences, pikepdf.Array) else []:
         if isinstance(it, pikepdf.Name):
             if 0 <= code < 256:
-                names[code] = text_of(it)
+                found[code] = text_of(it)
             code += 1
         elif isinstance(it, int):
             code = int(it)
-    return names
+    return found
+
+
+def is_symbolic(font: pikepdf.Dictionary) -> bool:
+    """Whether the descriptor of a font says that it has other glyphs than those of Latin text (ISO 32000-1, 9.8.2)."""
+    return bool(integer_at(dictionary_at(font, "/FontDescriptor"), "/Flags") & SYMBOLIC)
 
 
 def built_in(font: pikepdf.Dictionary, streams: Streams) -> Names:
@@ -110,9 +134,8 @@ def built_in(font: pikepdf.Dictionary, streams: Streams) -> Names:
         return list(SYMBOL)
     if base == "ZapfDingbats":
         return list(ZAPF_DINGBATS)
-    is_symbolic = isinstance(descriptor, pikepdf.Dictionary) and integer_at(descriptor, "/Flags") & SYMBOLIC
     is_type3 = name_at(font, "/Subtype") == "Type3"
-    return [None] * 256 if is_symbolic or is_type3 else list(STANDARD)
+    return [None] * 256 if is_symbolic(font) or is_type3 else list(STANDARD)
 
 
 def of_program(type1: Optional[pikepdf.Stream], cff: Optional[pikepdf.Stream], streams: Streams) -> Optional[Names]:
@@ -121,6 +144,8 @@ def of_program(type1: Optional[pikepdf.Stream], cff: Optional[pikepdf.Stream], s
         return of_type1(streams.decoded(type1))
     if cff is not None and name_at(cff, "/Subtype") == "Type1C":
         return of_cff(streams.decoded(cff))
+    if cff is not None and name_at(cff, "/Subtype") == "OpenType":
+        return of_cff(Sfnt(streams.decoded(cff)).table(b"CFF "))
     return None
 
 
@@ -140,8 +165,8 @@ def of_type1(program: bytes) -> Optional[Names]:
     return names
 
 
-def of_cff(program: bytes) -> Optional[Names]:
-    """The encoding of a CFF font program (Adobe Technical Note 5176, 12); None without fontTools."""
+def cff_font(program: bytes) -> Any:
+    """The font of a CFF font program, as fontTools reads it; None without fontTools, or where it is malformed."""
     if agl is None:
         return None
     from fontTools import cffLib
@@ -149,18 +174,26 @@ def of_cff(program: bytes) -> Optional[Names]:
     fonts = cffLib.CFFFontSet()
     try:
         fonts.decompile(io.BytesIO(program), None)
-        place = fonts[0].rawDict.get("Encoding", 0)
-        if place < FIRST_OF_CFF:
-            return list(STANDARD) if place == 0 else None
+        return fonts[0] if fonts[0].charset else None
+    except Exception:  # fontTools has no exception of its own for a program that is malformed
+        return None
+
+
+def of_cff(program: bytes) -> Optional[Names]:
+    """The encoding of a CFF font program (Adobe Technical Note 5176, 12); None without fontTools."""
+    font = cff_font(program)
+    if font is None:
+        return None
+    try:
+        place = font.rawDict.get("Encoding", 0)
+        if place < len(OF_CFF):
+            return list(OF_CFF[place])
         codes, supplements = codes_of_cff(program[place:])
         names: Names = [None] * 256
-        for code, name in [
-            *zip(codes, fonts[0].charset[1:]),
-            *((code, fonts.strings[sid]) for code, sid in supplements),
-        ]:
+        for code, name in [*zip(codes, font.charset[1:]), *((code, font.strings[sid]) for code, sid in supplements)]:
             names[code] = name
         return names
-    except Exception:  # fontTools has no exception of its own for a program that is malformed
+    except Exception:  # as above
         return None
 
 
@@ -180,14 +213,43 @@ def codes_of_cff(data: bytes) -> Tuple[List[int], List[Tuple[int, int]]]:
 
 @functools.lru_cache(maxsize=1 << 16)
 def text_of_glyph(name: str, is_dingbat: bool = False) -> Optional[str]:
-    """The text of the name of a glyph, by the Adobe Glyph List and the rules that go with it, or None."""
+    """The text of the name of a glyph, by the Adobe Glyph List and the rules that go with it, or None.
+
+    The digits of `uni20AC` and `u1040C` may also be small letters.
+    """
     if agl is None:
         return None
+    name = BY_NUMBER.sub(lambda found: found[1] + found[2].upper(), name)
     smaller = LARGER.sub("", name)
     return agl.toUnicode(name, is_dingbat) or TEX.get(name) or TEX.get(smaller) or agl.toUnicode(smaller) or None
 
 
-def glyph_texts(font: pikepdf.Dictionary, streams: Streams) -> List[Optional[str]]:
-    """The texts of the codes 0 to 255 of a simple font, by the names of their glyphs."""
-    is_dingbat = "Dingbats" in (name_at(font, "/BaseFont") or "")
-    return [None if name is None else text_of_glyph(name, is_dingbat) for name in glyph_names(font, streams)]
+def texts_of_names(names: Names, base_font: str) -> List[Optional[str]]:
+    """The texts of the names of glyphs in a font of this name."""
+    is_dingbat = "Dingbats" in base_font
+    return [None if name is None else text_of_glyph(name, is_dingbat) for name in names]
+
+
+def guessed_texts(names: Dict[int, str]) -> Dict[int, str]:
+    """The texts of codes whose glyphs have numbers for names, if each number is that of a character of Latin-1.
+
+    All names have to be of one form: a decimal number, or two hexadecimal digits, after the same letters. Of two forms
+    that fit it is the one by which more numbers are their codes, or else the decimal one. All numbers have to be those
+    of characters that are printed; but where each one is its code, as in bitmap fonts of TeX, others have no text.
+    """
+    given = {code: name for code, name in names.items() if name != ".notdef"}
+    if any(map(text_of_glyph, given.values())):
+        return {}
+    readings = filter(None, (numbers_of(given, DECIMAL, 10), numbers_of(given, HEXADECIMAL, 16)))
+    numbers = max(readings, key=lambda it: sum(code == number for code, number in it.items()), default={})
+    return {code: chr(number) for code, number in numbers.items() if number in PRINTED}
+
+
+def numbers_of(names: Dict[int, str], form: "re.Pattern[str]", base: int) -> Dict[int, int]:
+    """The numbers that the names of glyphs of codes are in one form; none where one of them isn't of it."""
+    found = {code: form.fullmatch(name) for code, name in names.items()}
+    if len({it and it[1] for it in found.values()}) != 1 or None in found.values():
+        return {}
+    numbers = {code: int(it[2], base) for code, it in found.items() if it is not None}
+    is_code = all(code == number for code, number in numbers.items())
+    return numbers if is_code or PRINTED.issuperset(numbers.values()) else {}

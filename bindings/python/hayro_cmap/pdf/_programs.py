@@ -1,0 +1,156 @@
+"""Font programs that are embedded in PDF files: which glyph a code has, and which text a glyph has."""
+
+import functools
+import unicodedata
+from typing import Dict, List, Optional, Tuple
+
+import pikepdf
+
+from ._encodings import MAC_ROMAN
+from ._glyphs import Names, cff_font, text_of_glyph
+from ._objects import MALFORMED, Streams, TooLarge, Undecodable, dictionary_at, stream_at
+from ._sfnt import MAC_ROMAN as MAC_ROMAN_CODES
+from ._sfnt import SYMBOL, UNICODE, VERSIONS, Sfnt
+
+#: What is added to a code for its character in a symbolic font (ISO 32000-1, 9.6.6.4).
+SYMBOL_ROWS = (0xF000, 0xF100, 0xF200, 0)
+
+#: How many bytes each glyph of a CIDToGIDMap has, and how many CIDs there are (ISO 32000-1, 9.7.4.2 and C.2).
+GLYPH_BYTES = 2
+CIDS = 1 << 16
+
+
+class Program:
+    """The TrueType, OpenType or CFF program of a font. One that is malformed has no texts and no widths."""
+
+    def __init__(self, data: bytes = b"", is_cff: bool = False):
+        #: The tables of a TrueType or OpenType program; those of any other are empty.
+        self.sfnt = Sfnt(data if data[:4] in VERSIONS else b"")
+        self._cff_data = data if is_cff and data[:4] not in VERSIONS else self.sfnt.table(b"CFF ")
+
+    @functools.cached_property
+    def _cff(self):
+        """The CFF font, as fontTools has it, or None."""
+        return cff_font(self._cff_data) if self._cff_data else None
+
+    @functools.cached_property
+    def has_cids(self) -> bool:
+        """Whether it is a CFF font whose glyphs have CIDs in the place of names."""
+        return self._cff is not None and hasattr(self._cff, "ROS")
+
+    @functools.cached_property
+    def names(self) -> List[str]:
+        """The names of the glyphs from 0 on; none where they have CIDs."""
+        if self.has_cids:
+            return []
+        return self.sfnt.names() if self._cff is None else list(self._cff.charset)
+
+    @functools.cached_property
+    def glyphs_of_cids(self) -> Dict[int, int]:
+        """The glyphs of the CIDs of a CFF font."""
+        charset = self._cff.charset if self.has_cids else []
+        return {int(name[3:]): glyph for glyph, name in enumerate(charset) if name[3:].isdigit()}
+
+    @functools.cached_property
+    def characters(self) -> Dict[int, str]:
+        """The characters of the glyphs by the `cmap` of Unicode: of several characters the best one."""
+        best: Dict[int, Tuple[bool, bool, int]] = {}
+        for code, glyph in self.sfnt.glyphs(*UNICODE).items():
+            rank = rank_of(code)
+            if rank is not None and (glyph not in best or rank < best[glyph]):
+                best[glyph] = rank
+        return {glyph: chr(code) for glyph, (_, _, code) in best.items()}
+
+    @functools.cached_property
+    def glyphs_of_names(self) -> Dict[str, int]:
+        """The glyphs of their names."""
+        return {name: glyph for glyph, name in reversed(list(enumerate(self.names)))}
+
+    def text(self, glyph: int) -> Optional[str]:
+        """The text of a glyph: its character, or the text of its name."""
+        if glyph in self.characters or glyph == 0:
+            return self.characters.get(glyph)
+        return text_of_glyph(self.names[glyph]) if glyph < len(self.names) else None
+
+    def glyph_of_name(self, name: str) -> int:
+        """The glyph of a name in a font that isn't symbolic (ISO 32000-1, 9.6.6.4); 0 where it has none."""
+        text = text_of_glyph(name) or ""
+        found = self._unicode.get(ord(text), 0) if len(text) == 1 else 0
+        if found == 0 and name in MAC_CODES:
+            found = self._mac.get(MAC_CODES[name], 0)
+        return found or self.glyphs_of_names.get(name, 0)
+
+    def glyph_of_code(self, code: int) -> int:
+        """The glyph of a code without a name (ISO 32000-1, 9.6.6.4); 0 where it has none."""
+        symbol = (self._symbol.get(row + code, 0) for row in SYMBOL_ROWS)
+        return next(filter(None, symbol), 0) or self._mac.get(code, 0)
+
+    @functools.cached_property
+    def _unicode(self) -> Dict[int, int]:
+        return self.sfnt.glyphs(*UNICODE)
+
+    @functools.cached_property
+    def _mac(self) -> Dict[int, int]:
+        return self.sfnt.glyphs(MAC_ROMAN_CODES)
+
+    @functools.cached_property
+    def _symbol(self) -> Dict[int, int]:
+        return self.sfnt.glyphs(SYMBOL)
+
+
+#: The codes of names in MacRomanEncoding.
+MAC_CODES = {name: code for code, name in reversed(list(enumerate(MAC_ROMAN))) if name is not None}
+
+
+def rank_of(code: int) -> Optional[Tuple[bool, bool, int]]:
+    """How good a character is as the text of a glyph, the least being the best; None where it is no text.
+
+    A character for private use comes last; one that stands for another, as the Ohm sign for omega, comes after it.
+    """
+    category = unicodedata.category(chr(code)) if code <= 0x10FFFF else "Cs"
+    if category in ("Cc", "Cs"):
+        return None
+    return category == "Co", unicodedata.normalize("NFKC", chr(code)) != chr(code), code
+
+
+def program_of(font: pikepdf.Dictionary, streams: Streams) -> Program:
+    """The embedded TrueType, OpenType or CFF program of a simple font or a CIDFont (ISO 32000-1, 9.9)."""
+    descriptor = dictionary_at(font, "/FontDescriptor")
+    truetype, other = stream_at(descriptor, "/FontFile2"), stream_at(descriptor, "/FontFile3")
+    try:
+        if truetype is not None:
+            return Program(streams.decoded(truetype))
+        return Program() if other is None else Program(streams.decoded(other), is_cff=True)
+    except (TooLarge, Undecodable, *MALFORMED):
+        return Program()
+
+
+class GlyphsOfCids:
+    """The glyphs of the CIDs of a CIDFont (ISO 32000-1, 9.7.4.2)."""
+
+    def __init__(self, descendant: pikepdf.Dictionary, program: Program, streams: Streams):
+        self._program = program
+        stream = stream_at(descendant, "/CIDToGIDMap")
+        self._listed: Optional[bytes] = None
+        if stream is not None:
+            try:
+                self._listed = streams.decoded(stream)
+            except (TooLarge, Undecodable):
+                self._listed = b""
+
+    def glyph(self, cid: int) -> int:
+        """The glyph of a CID; 0 where it has none."""
+        if self._listed is not None:
+            return int.from_bytes(self._listed[GLYPH_BYTES * cid : GLYPH_BYTES * (cid + 1)], "big")
+        return self._program.glyphs_of_cids.get(cid, 0) if self._program.has_cids else cid
+
+    def text(self, cid: int) -> Optional[str]:
+        """The text that the program has for the glyph of a CID."""
+        return self._program.text(self.glyph(cid))
+
+
+def glyphs_of_codes(names: Optional[Names], program: Program) -> List[int]:
+    """The glyphs of the codes 0 to 255 of a simple TrueType font: by these names, or without names by its codes."""
+    if names is None:
+        return [program.glyph_of_code(code) for code in range(256)]
+    return [0 if name is None else program.glyph_of_name(name) for name in names]

@@ -1,0 +1,169 @@
+"""Tables of TrueType and OpenType font programs (the OpenType Specification), as far as texts and widths need them.
+
+Programs may be hostile, so that what is read has limits, and what is malformed is left out.
+"""
+
+import struct
+from typing import Callable, Dict, Iterator, List, Tuple
+
+#: The first bytes of a program.
+VERSIONS = (b"\x00\x01\x00\x00", b"true", b"OTTO")
+
+#: How many bytes stand before the records of tables, each of which has a tag, a sum, an offset and a length.
+HEADER = 12
+RECORD = struct.Struct(">4sLLL")
+
+#: How many tables a program may have.
+MOST_TABLES = 64
+
+#: How many entries of the table `cmap` are looked at, and how many codes one of them may have.
+MOST_SUBTABLES = 64
+MOST_CODES = 1 << 18
+
+#: What stands in the place of a character code: platform and encoding. Those of Unicode, the best ones first.
+UNICODE = ((3, 10), (0, 6), (0, 4), (3, 1), (0, 3), (0, 2), (0, 1), (0, 0))
+SYMBOL = (3, 0)
+MAC_ROMAN = (1, 0)
+
+#: How many glyph names the table `post` doesn't spell, and the versions of the table that has names.
+MAC_GLYPHS = 258
+POST_MAC, POST_NAMES = 0x00010000, 0x00020000
+
+#: What is raised where a table ends early, or says what can't be.
+MALFORMED_TABLE = (struct.error, IndexError, ValueError, OverflowError)
+
+#: The glyphs of codes.
+Glyphs = Dict[int, int]
+
+#: Codes from the first to the last one, each with its glyph.
+Pairs = Iterator[Tuple[int, int]]
+
+
+class Sfnt:
+    """A TrueType or OpenType font program."""
+
+    def __init__(self, program: bytes):
+        self._program = program
+        self._tables: Dict[bytes, Tuple[int, int]] = {}
+        count = int.from_bytes(program[4:6], "big") if program[:4] in VERSIONS else 0
+        count = min(count, MOST_TABLES, max(len(program) - HEADER, 0) // RECORD.size)
+        for tag, _, offset, length in RECORD.iter_unpack(program[HEADER : HEADER + RECORD.size * count]):
+            self._tables.setdefault(tag, (offset, length))
+
+    def table(self, tag: bytes) -> bytes:
+        """The bytes of a table; none where the program hasn't got it."""
+        offset, length = self._tables.get(tag, (0, 0))
+        return self._program[offset : offset + length]
+
+    def glyphs(self, *encodings: Tuple[int, int]) -> Glyphs:
+        """The glyphs of the codes of an encoding: of the first one, of these platforms and encodings, that has any."""
+        data = self.table(b"cmap")
+        try:
+            places = subtables(data)
+            found = (glyphs_of(data[places[it] :]) for it in encodings if it in places)
+            return next((glyphs for glyphs in found if glyphs), {})
+        except MALFORMED_TABLE:
+            return {}
+
+    def advances(self) -> List[float]:
+        """The advance widths of the glyphs from 0 on, in thousandths of the size; those after have the last one's."""
+        head, hhea, hmtx = self.table(b"head"), self.table(b"hhea"), self.table(b"hmtx")
+        try:
+            [units] = struct.unpack_from(">H", head, 18)
+            [count] = struct.unpack_from(">H", hhea, 34)
+            count = min(count, len(hmtx) // 4)
+            return [1000 * width / units for width in struct.unpack_from(f">{2 * count}H", hmtx)[::2]]
+        except (*MALFORMED_TABLE, ZeroDivisionError):
+            return []
+
+    def names(self) -> List[str]:
+        """The names of the glyphs from 0 on, of the table `post`."""
+        try:
+            return names_of(self.table(b"post"))
+        except MALFORMED_TABLE:
+            return []
+
+
+def subtables(cmap: bytes) -> Dict[Tuple[int, int], int]:
+    """Where the subtables of platforms and encodings begin in the table `cmap`."""
+    [count] = struct.unpack_from(">H", cmap, 2)
+    places: Dict[Tuple[int, int], int] = {}
+    for at in range(4, 4 + 8 * min(count, MOST_SUBTABLES), 8):
+        platform, encoding, offset = struct.unpack_from(">HHL", cmap, at)
+        places.setdefault((platform, encoding), offset)
+    return places
+
+
+def glyphs_of(data: bytes) -> Glyphs:
+    """The glyphs of the codes of a subtable, but for glyph 0, which stands for none."""
+    read = FORMATS.get(int.from_bytes(data[:2], "big"))
+    glyphs: Glyphs = {}
+    for looked_at, (code, glyph) in enumerate(() if read is None else read(data)):
+        if looked_at >= MOST_CODES:
+            break
+        if glyph != 0:
+            glyphs.setdefault(code, glyph)
+    return glyphs
+
+
+def bytes_to_glyphs(data: bytes) -> Pairs:
+    """Format 0: a glyph for each byte."""
+    return enumerate(data[6 : 6 + 256])
+
+
+def segments(data: bytes) -> Pairs:
+    """Format 4: segments of codes of two bytes, whose glyphs are counted on or listed."""
+    count = min(struct.unpack_from(">H", data, 6)[0] // 2, (len(data) - 16) // 8)
+    places = [14, 16 + 2 * count, 16 + 4 * count, 16 + 6 * count]
+    columns = (struct.unpack_from(f">{count}H", data, place) for place in places)
+    for row, (last, first, delta, offset) in enumerate(zip(*columns)):
+        codes = range(first, min(last, 0xFFFE) + 1)
+        if offset == 0:
+            yield from ((code, code + delta & 0xFFFF) for code in codes)
+        else:
+            at = places[3] + 2 * row + offset
+            listed = data[at : at + 2 * len(codes)]
+            glyphs = struct.iter_unpack(">H", listed[: len(listed) // 2 * 2])
+            yield from zip(codes, (glyph and glyph + delta & 0xFFFF for [glyph] in glyphs))
+
+
+def trimmed(data: bytes) -> Pairs:
+    """Format 6: a glyph for each code of one row."""
+    first, count = struct.unpack_from(">HH", data, 6)
+    count = min(count, (len(data) - 10) // 2)
+    return enumerate(struct.unpack_from(f">{count}H", data, 10), first)
+
+
+def groups(data: bytes) -> Pairs:
+    """Format 12: rows of characters, whose glyphs are counted on."""
+    [count] = struct.unpack_from(">L", data, 12)
+    for at in range(16, 16 + 12 * min(count, (len(data) - 16) // 12), 12):
+        first, last, glyph = struct.unpack_from(">LLL", data, at)
+        yield from zip(range(first, min(last, 0x10FFFF) + 1), range(glyph, 0x10000))
+
+
+#: How the formats of subtables are read.
+FORMATS: Dict[int, Callable[[bytes], Pairs]] = {0: bytes_to_glyphs, 4: segments, 6: trimmed, 12: groups}
+
+
+def names_of(post: bytes) -> List[str]:
+    """The names of the glyphs from 0 on in a table `post`: those of the Macintosh, and those that it spells."""
+    from fontTools.ttLib.standardGlyphOrder import standardGlyphOrder
+
+    [version] = struct.unpack_from(">L", post)
+    if version == POST_MAC:
+        return list(standardGlyphOrder)
+    if version != POST_NAMES:
+        return []
+    [count] = struct.unpack_from(">H", post, 32)
+    numbers = struct.unpack_from(f">{count}H", post, 34)
+    names = [*standardGlyphOrder, *spelled(post[34 + 2 * count :])]
+    return [names[it] if it < len(names) else ".notdef" for it in numbers]
+
+
+def spelled(data: bytes) -> Iterator[str]:
+    """The names that stand one after another, each after its length."""
+    at = 0
+    while at < len(data):
+        yield data[at + 1 : at + 1 + data[at]].decode("latin-1")
+        at += 1 + data[at]
