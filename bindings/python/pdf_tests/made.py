@@ -113,3 +113,32 @@ def showing(text, to_unicode, content=b"/F 9 Tf (%b) Tj"):
     """A file that shows a text with a simple font of this ToUnicode CMap."""
     file = File()
     return file.show(content % text, F=file.simple(to_unicode))
+
+
+def truetype(names, *cmaps, widths=(), post=True):
+    """A TrueType program of glyphs of these names, with subtables of `cmap`: each has a platform, an encoding, a format,
+    and the names of the glyphs of codes."""
+    from fontTools.fontBuilder import FontBuilder
+    from fontTools.pens.ttGlyphPen import TTGlyphPen
+
+    builder = FontBuilder(1000, isTTF=True)
+    builder.setupGlyphOrder([".notdef", *names])
+    builder.setupCharacterMap({})
+    builder.setupGlyf({name: TTGlyphPen(None).glyph() for name in [".notdef", *names]})
+    advances = {".notdef": (0, 0), **{name: (500, 0) for name in names}, **dict(widths)}
+    builder.setupHorizontalMetrics(advances)
+    builder.setupHorizontalHeader()
+    builder.setupPost(keepGlyphNames=post)
+    builder.font["cmap"].tables = [subtable(*cmap) for cmap in cmaps]
+    data = io.BytesIO()
+    builder.font.save(data)
+    return data.getvalue()
+
+
+def subtable(platform, encoding, number, glyphs):
+    """A subtable of the table `cmap` in the format of this number."""
+    from fontTools.ttLib.tables._c_m_a_p import CmapSubtable
+
+    table = CmapSubtable.newSubtable(number)
+    table.platformID, table.platEncID, table.language, table.cmap = platform, encoding, 0, glyphs
+    return table

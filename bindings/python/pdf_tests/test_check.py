@@ -21,6 +21,11 @@ def digits(codes):
     return [bytes(it.character.code).hex() for it in codes]
 
 
+def counts(font):
+    """How many shown codes have a text of each source that there is."""
+    return {source: times for source, times in font.sources.items() if times}
+
+
 class Counts(unittest.TestCase):
     def test_codes(self):
         file = showing(b"AAB\1", GOOD, b"/F 9 Tf (%b) Tj (A) Tj")
@@ -31,14 +36,13 @@ class Counts(unittest.TestCase):
             [(bytes(it.character.code), it.times) for it in font.codes], [(b"A", 3), (b"B", 1), (b"\1", 1)]
         )
         self.assertEqual((digits(font.no_text), font.no_cid, font.outside_codespace), (["01"], [], []))
-        self.assertEqual(font.sources, {"ToUnicode": 4, "collection": 0, "glyph name": 0, "none": 1})
+        self.assertEqual(list(font.sources), [source.value for source in pdf.Source])
+        self.assertEqual(counts(font), {"ToUnicode": 4, "none": 1})
 
     @needs_glyph_list
     def test_glyph_names_count(self):
         file = showing(b"AC", GOOD)
-        self.assertEqual(
-            pdf.check(file.pdf).fonts[0].sources, {"ToUnicode": 1, "collection": 0, "glyph name": 1, "none": 0}
-        )
+        self.assertEqual(counts(pdf.check(file.pdf).fonts[0]), {"ToUnicode": 1, "glyph name": 1})
 
     def test_codes_without_a_cid_and_in_no_range(self):
         file = File()

@@ -2,13 +2,13 @@
 
 import enum
 import functools
-from typing import Any, Dict, Iterable, Iterator, List, NamedTuple, Optional, Tuple
+from typing import Any, Callable, Dict, Iterable, Iterator, List, NamedTuple, Optional, Tuple
 
 import pikepdf
 
 from .. import CMap, Code, Extractor, NotWritable, Refused, predefined
 from .._faults import Lines
-from ._glyphs import glyph_texts
+from ._glyphs import Names, differences_of, glyph_names, guessed_texts, is_symbolic, texts_of_names
 from ._objects import (
     MALFORMED,
     Streams,
@@ -22,6 +22,8 @@ from ._objects import (
     text_of,
     values,
 )
+from ._programs import GlyphsOfCids, Program, glyphs_of_codes, program_of
+from ._widths import Widths
 
 #: How many fonts a file may have.
 MOST_FONTS = 20_000
@@ -41,14 +43,28 @@ COLLECTIONS = {b"Adobe-GB1", b"Adobe-CNS1", b"Adobe-Japan1", b"Adobe-Korea1", b"
 #: The encodings by which codes are CIDs.
 IDENTITIES = ("Identity-H", "Identity-V")
 
+#: How many bytes a code has that is a character.
+UNICODE_BYTES = 2
+
 
 class Source(enum.Enum):
     """Where the text of a code comes from."""
 
     TO_UNICODE = "ToUnicode"
+    #: The codes are characters, as a ToUnicode entry without texts says.
+    UNICODE_CODES = "codes that are Unicode"
     COLLECTION = "collection"
     GLYPH_NAME = "glyph name"
+    #: The characters or the glyph names of the embedded program.
+    FONT_PROGRAM = "font program"
+    #: The number that a glyph has for a name.
+    GLYPH_NUMBER = "glyph number"
     NONE = "none"
+
+    @property
+    def is_guess(self) -> bool:
+        """Whether the file only suggests the text."""
+        return self is Source.GLYPH_NUMBER
 
 
 class Character(NamedTuple):
@@ -104,7 +120,7 @@ class Font:
     def __init__(self, dictionary: pikepdf.Dictionary, streams: Optional[Streams] = None):
         self.dictionary = dictionary
         self._streams = Streams() if streams is None else streams
-        self._characters: Dict[bool, Dict[Tuple[int, int], Character]] = {False: {}, True: {}}
+        self._characters: Dict[Tuple[bool, bool], Dict[Tuple[int, int], Character]] = {}
         #: The numbers of its object, or None where it is written where it is used.
         self.objgen: Optional[Tuple[int, int]] = dictionary.objgen if dictionary.is_indirect else None
         #: "Type0", "Type1", "TrueType" and so on.
@@ -199,12 +215,70 @@ class Font:
             return None
 
     @functools.cached_property
-    def glyph_texts(self) -> List[Optional[str]]:
-        """The texts of the codes 0 to 255 of a simple font, by its encoding and the names of its glyphs."""
+    def glyph_names(self) -> Names:
+        """The names of the glyphs of the codes 0 to 255 of a simple font; none of a composite one."""
         try:
-            return [None] * 256 if self.is_composite else glyph_texts(self.dictionary, self._streams)
+            return [None] * 256 if self.is_composite else glyph_names(self.dictionary, self._streams)
         except MALFORMED:
             return [None] * 256
+
+    @functools.cached_property
+    def glyph_texts(self) -> List[Optional[str]]:
+        """The texts of the codes 0 to 255 of a simple font, by its encoding and the names of its glyphs."""
+        return texts_of_names(self.glyph_names, self.base_font or "")
+
+    @functools.cached_property
+    def program(self) -> Program:
+        """The embedded TrueType, OpenType or CFF program of the font, or of its CIDFont."""
+        return program_of(self.dictionary if self.descendant is None else self.descendant, self._streams)
+
+    @property
+    def names_in_program(self) -> Optional[Names]:
+        """The names by which the glyphs of a simple font are found in its program; None where its codes are looked up
+        (ISO 32000-1, 9.6.6.4)."""
+        is_by_code = self.encoding_kind == "none" or is_symbolic(self.dictionary)
+        return None if self.subtype == "TrueType" and is_by_code else self.glyph_names
+
+    @functools.cached_property
+    def program_texts(self) -> List[Optional[str]]:
+        """The texts of the codes 0 to 255 of a simple font by its embedded TrueType or OpenType program."""
+        return [self.program.text(glyph) for glyph in glyphs_of_codes(self.names_in_program, self.program)]
+
+    @functools.cached_property
+    def guessed_texts(self) -> Dict[int, str]:
+        """The texts of codes of a simple font whose glyphs have numbers for names."""
+        names = {code: it for code, it in enumerate(self.glyph_names) if it is not None}
+        try:
+            return guessed_texts(differences_of(self.dictionary) or names)
+        except MALFORMED:
+            return {}
+
+    @functools.cached_property
+    def glyphs_of_cids(self) -> Optional[GlyphsOfCids]:
+        """The glyphs of the CIDs of a composite font in its embedded program."""
+        return None if self.descendant is None else GlyphsOfCids(self.descendant, self.program, self._streams)
+
+    @functools.cached_property
+    def has_unicode_codes(self) -> bool:
+        """Whether the codes of two bytes of a composite font are characters.
+
+        They are if ToUnicode is the name Identity-H or Identity-V, or has CIDs and no texts, and the CMap or the map
+        from CIDs to glyphs is a stream of the file. Without such a stream codes are numbers of glyphs.
+        """
+        is_mapped = self.encoding_kind == "stream" or (
+            self.descendant is not None and stream_at(self.descendant, "/CIDToGIDMap") is not None
+        )
+        if not self.is_composite or not is_mapped:
+            return False
+        if name_at(self.dictionary, "/ToUnicode") in IDENTITIES:
+            return True
+        layers = [] if self.to_unicode.lenient is None else self.to_unicode.lenient.layers
+        return any(layer.cids for layer in layers) and not any(layer.texts for layer in layers)
+
+    @functools.cached_property
+    def widths(self) -> Widths:
+        """The widths of its glyphs."""
+        return Widths.of(self)
 
     def extractor(self, lenient: bool = False) -> Extractor:
         """The CMaps of the font, by which strings have texts.
@@ -227,32 +301,63 @@ class Font:
     def _extractors(self) -> Dict[bool, Extractor]:
         return {lenient: self.extractor(lenient) for lenient in (False, True)}
 
-    def characters(self, string: bytes, lenient: bool = False) -> List[Character]:
-        """The codes of a string that is shown with the font, with their texts."""
-        return self.characters_of([string], lenient)[0]
+    def characters(self, string: bytes, lenient: bool = False, guesses: bool = True) -> List[Character]:
+        """The codes of a string that is shown with the font, with their texts, also those that are guesses."""
+        return self.characters_of([string], lenient, guesses)[0]
 
-    def characters_of(self, strings: Iterable[bytes], lenient: bool = False) -> List[List[Character]]:
+    def characters_of(
+        self, strings: Iterable[bytes], lenient: bool = False, guesses: bool = True
+    ) -> List[List[Character]]:
         """What `characters` gives for each of many strings, which takes less time than to ask for each."""
-        known, to_unicode = self._characters[lenient], self.to_unicode.lenient if lenient else self.to_unicode.strict
+        known = self._characters.setdefault((lenient, guesses), {})
         found = []
         for characters in self._extractors[lenient].characters_of(strings):
             row = []
             for code, text in characters:
                 key = code[:2] if not code.cut_short else (code.code, -code.byte_len)
                 if key not in known:
-                    known[key] = self._character(code, text, to_unicode)
+                    known[key] = self._character(code, text, lenient, guesses)
                 row.append(known[key])
             found.append(row)
         return found
 
-    def _character(self, code: Code, text: Optional[str], to_unicode: Optional[CMap]) -> Character:
+    def _character(self, code: Code, text: Optional[str], lenient: bool, guesses: bool) -> Character:
         """A character of the font, of which an extractor gives this text."""
+        if self.is_composite:
+            text, source = self._text_of_composite(code, text, lenient)
+        else:
+            text, source = self._text_of_simple(code.code, text)
+        is_left_out = source.is_guess and not guesses
+        return Character(self, code, None, Source.NONE) if is_left_out else Character(self, code, text, source)
+
+    def _text_of_composite(self, code: Code, text: Optional[str], lenient: bool) -> Tuple[Optional[str], Source]:
+        """The text of a code of a composite font, of which an extractor gives this text."""
+        to_unicode = self.to_unicode.lenient if lenient else self.to_unicode.strict
+        if text is not None and to_unicode is not None and to_unicode.text(code.code) is not None:
+            return text, Source.TO_UNICODE
+        if lenient and code.byte_len == UNICODE_BYTES and self.has_unicode_codes and is_character(code.code):
+            return chr(code.code), Source.UNICODE_CODES
         if text is not None:
-            is_own = to_unicode is not None and to_unicode.text(code.code) is not None
-            return Character(self, code, text, Source.TO_UNICODE if is_own else Source.COLLECTION)
-        if not self.is_composite and self.glyph_texts[code.code] is not None:
-            return Character(self, code, self.glyph_texts[code.code], Source.GLYPH_NAME)
-        return Character(self, code, None, Source.NONE)
+            return text, Source.COLLECTION
+        if code.cid is not None and self.glyphs_of_cids is not None:
+            text = self.glyphs_of_cids.text(code.cid)
+        return text, Source.NONE if text is None else Source.FONT_PROGRAM
+
+    def _text_of_simple(self, code: int, text: Optional[str]) -> Tuple[Optional[str], Source]:
+        """The text of a code of a simple font, of which the ToUnicode CMap gives this text."""
+        if text is not None:
+            return text, Source.TO_UNICODE
+        found = ((text_of(code), source) for source, text_of in self._ways)
+        return next(((text, source) for text, source in found if text is not None), (None, Source.NONE))
+
+    @functools.cached_property
+    def _ways(self) -> List[Tuple[Source, Callable[[int], Optional[str]]]]:
+        """How a code of a simple font has a text without a ToUnicode CMap, the best way first."""
+        by_name = (Source.GLYPH_NAME, lambda code: self.glyph_texts[code])
+        by_program = (Source.FONT_PROGRAM, lambda code: self.program_texts[code])
+        by_number = (Source.GLYPH_NUMBER, lambda code: self.guessed_texts.get(code))
+        is_by_code = self.subtype == "TrueType" and self.encoding_kind == "none"
+        return [by_program, by_name, by_number] if is_by_code else [by_name, by_program, by_number]
 
     @property
     def faults(self) -> List[Fault]:
@@ -286,6 +391,11 @@ class Font:
         stream = stream_at(self.dictionary, "/ToUnicode")
         words.append("no ToUnicode" if stream is None else f"ToUnicode {object_number(stream)}")
         return f"font {self.number} {self.base_font or '-'} ({', '.join(words)})"
+
+
+def is_character(code: int) -> bool:
+    """Whether a code of two bytes is a character: it is neither 0 nor a surrogate."""
+    return code != 0 and not 0xD800 <= code <= 0xDFFF
 
 
 def read_stream(stream: pikepdf.Stream, of: str, streams: Streams, over: Tuple = ()) -> Read:

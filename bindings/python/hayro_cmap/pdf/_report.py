@@ -13,14 +13,17 @@ from ._fonts import Source
 MOST_UNSHOWN = 1 << 16
 
 #: What a code has, as the page numbers it.
-KINDS = [Source.TO_UNICODE.value, Source.COLLECTION.value, Source.GLYPH_NAME.value, Source.NONE.value]
+KINDS = [source.value for source in Source]
 UNSHOWN = len(KINDS)
 
 #: What the page says of each, and its colour: colours that people tell apart who don't tell red from green.
 LEGEND = [
     ("text by ToUnicode", "#0072b2"),
+    ("the code is the character", "#56b4e9"),
     ("text by the collection", "#009e73"),
     ("text by the glyph name", "#e69f00"),
+    ("text by the font program", "#cc79a7"),
+    ("a guess by the number of the glyph", "#f0e442"),
     ("shown without a text", "#d5301a"),
     ("has a text, isn't shown", "#b9cfe4"),
 ]

@@ -1,0 +1,259 @@
+"""How far the glyphs of a font move on what is shown next (ISO 32000-1, 9.2.4, 9.6.2, 9.7.4.3).
+
+Widths are in thousandths of a unit of text space, before the size of the font. A malformed array gives defaults.
+"""
+
+import itertools
+from decimal import Decimal
+from typing import TYPE_CHECKING, Any, Dict, Iterator, List, NamedTuple, Optional, Tuple
+
+import pikepdf
+
+from .. import WritingMode
+from ._glyphs import Names
+from ._metrics import (
+    COURIERS,
+    HELVETICA,
+    HELVETICA_BOLD,
+    SYMBOL,
+    TIMES,
+    TIMES_BOLD,
+    TIMES_BOLD_ITALIC,
+    TIMES_ITALIC,
+    ZAPF_DINGBATS,
+)
+from ._objects import MALFORMED, dictionary_at, integer_at, name_at
+from ._programs import CIDS, glyphs_of_codes
+
+if TYPE_CHECKING:
+    from ._fonts import Font
+
+#: The width of a CID that the arrays of a font don't have.
+DEFAULT_OF_CID = 1000.0
+
+#: The widths of a simple font of which nothing else is known: of one whose flags say that all are equal, and of others.
+DEFAULT_OF_FIXED_PITCH = 600.0
+DEFAULT_OF_CODE = 500.0
+
+#: The flag of a font descriptor that says that all glyphs have one width (ISO 32000-1, 9.8.2).
+FIXED_PITCH = 1 << 0
+
+#: How a Type 3 font without a matrix would scale its glyphs.
+THOUSANDTH = 0.001
+
+#: How many widths are taken of the arrays of a CIDFont, each as often as it is given.
+MOST_WIDTHS = 1 << 18
+
+#: The largest number that is taken for a width.
+LARGEST = 1e6
+
+#: What stands in the place of a CID that is none.
+NO_CID = -1
+
+#: A CID with its numbers of an array, and None for what is no number.
+Row = Tuple[int, List[Optional[float]]]
+
+#: The widths of standard fonts, by what their names have: of the first row all of whose words a name has.
+STANDARD_FONTS: List[Tuple[Tuple[str, ...], Dict[str, int]]] = [
+    (("Courier",), COURIERS),
+    (("Symbol",), SYMBOL),
+    (("Dingbats",), ZAPF_DINGBATS),
+    (("Times", "Bold", "Italic"), TIMES_BOLD_ITALIC),
+    (("Times", "Bold"), TIMES_BOLD),
+    (("Times", "Italic"), TIMES_ITALIC),
+    (("Times",), TIMES),
+    (("Helvetica", "Bold"), HELVETICA_BOLD),
+    (("Helvetica",), HELVETICA),
+    (("Arial", "Bold"), HELVETICA_BOLD),
+    (("Arial",), HELVETICA),
+]
+
+
+class Vertical(NamedTuple):
+    """How a glyph is placed in vertical writing (ISO 32000-1, 9.7.4.3), in thousandths of a unit of text space."""
+
+    #: By how much it moves on what is shown next; less than 0 is down.
+    advance: float
+    #: Where its origin of vertical writing is, from that of horizontal writing.
+    x: float
+    y: float
+
+
+#: What the entry DW2 is by default: y of the origin, and the advance.
+DEFAULT_VERTICAL = (880.0, -1000.0)
+
+
+class Widths:
+    """The widths of the glyphs of a font."""
+
+    def __init__(self, table: List[float], by_cid: Dict[int, float], default: float):
+        #: The widths of the codes 0 to 255 of a simple font; none of a composite one.
+        self.table = table
+        #: The widths of the CIDs of a composite font, and that of all others.
+        self.by_cid = by_cid
+        self.default = default
+        #: Whether strings are written from the top down.
+        self.is_vertical = False
+        self._vertical_by_cid: Dict[int, Vertical] = {}
+        self._vertical_default = DEFAULT_VERTICAL
+
+    @classmethod
+    def of(cls, font: "Font") -> "Widths":
+        """The widths of a font."""
+        if not font.is_composite:
+            return cls(simple_widths(font), {}, DEFAULT_OF_CODE)
+        descendant = pikepdf.Dictionary() if font.descendant is None else font.descendant
+        default = number_at(descendant, "/DW", DEFAULT_OF_CID)
+        found = cls([], widths_of_cids(descendant), default)
+        found.is_vertical = is_vertical(font)
+        if found.is_vertical:
+            found._vertical_by_cid = verticals_of_cids(descendant)
+            found._vertical_default = pair_of(descendant.get("/DW2"), DEFAULT_VERTICAL)
+        return found
+
+    def advance(self, code: int, cid: Optional[int] = None) -> float:
+        """By how much the glyph of a code, or of a CID of a composite font, moves on what is shown next in horizontal
+        writing. A code without a CID has CID 0."""
+        if self.table:
+            return self.table[code] if code < len(self.table) else self.default
+        return self.by_cid.get(cid or 0, self.default)
+
+    def vertical(self, cid: Optional[int]) -> Vertical:
+        """How the glyph of a CID of a composite font is placed in vertical writing."""
+        found = self._vertical_by_cid.get(cid or 0)
+        if found is not None:
+            return found
+        y, advance = self._vertical_default
+        return Vertical(advance, self.by_cid.get(cid or 0, self.default) / 2, y)
+
+
+def simple_widths(font: "Font") -> List[float]:
+    """The widths of the codes 0 to 255 of a simple font: those that it gives, or else of its program, or of a standard
+    font of its name."""
+    scale = 1000 * matrix_of(font) if font.subtype == "Type3" else 1
+    given = font.dictionary.get("/Widths")
+    if isinstance(given, pikepdf.Array):
+        descriptor = dictionary_at(font.dictionary, "/FontDescriptor")
+        table = [scale * number_at(descriptor, "/MissingWidth", 0.0)] * 256
+        first = integer_at(font.dictionary, "/FirstChar")
+        for code, width in enumerate(numbers(given), first):
+            if 0 <= code < 256 and width is not None:
+                table[code] = scale * width
+        return table
+    return program_widths(font) or standard_widths(font)
+
+
+def program_widths(font: "Font") -> List[float]:
+    """The widths of the codes 0 to 255 by the embedded TrueType or OpenType program of a font; none without one."""
+    advances = font.program.sfnt.advances()
+    if not advances:
+        return []
+    glyphs = glyphs_of_codes(font.names_in_program, font.program)
+    return [advances[min(glyph, len(advances) - 1)] for glyph in glyphs]
+
+
+def standard_widths(font: "Font") -> List[float]:
+    """The widths of the codes 0 to 255 by the names of their glyphs, if the font has the name of a standard font, or of
+    one with the same widths; else a default for all."""
+    base_font = font.base_font or ""
+    is_fixed = integer_at(dictionary_at(font.dictionary, "/FontDescriptor"), "/Flags") & FIXED_PITCH
+    default = DEFAULT_OF_FIXED_PITCH if is_fixed else DEFAULT_OF_CODE
+    base_font = base_font.replace("Oblique", "Italic")
+    of_names = next((widths for words, widths in STANDARD_FONTS if all(it in base_font for it in words)), {})
+    names: Names = font.glyph_names
+    return [default if name is None else float(of_names.get(name, default)) for name in names]
+
+
+def matrix_of(font: "Font") -> float:
+    """By how much the glyphs of a Type 3 font are scaled along a line (ISO 32000-1, 9.6.5)."""
+    matrix = numbers(font.dictionary.get("/FontMatrix"))
+    return matrix[0] if matrix and matrix[0] is not None else THOUSANDTH
+
+
+def is_vertical(font: "Font") -> bool:
+    """Whether the encoding of a composite font is for vertical writing (ISO 32000-1, 9.7.5)."""
+    encoding = font.dictionary.get("/Encoding")
+    if isinstance(encoding, pikepdf.Stream) and integer_at(encoding, "/WMode") == WritingMode.VERTICAL:
+        return True
+    layers = [] if font.encoding.lenient is None else font.encoding.lenient.layers
+    modes = (it.metadata.writing_mode for it in layers)
+    mode = next((it for it in modes if it is not None), None)
+    if mode is None and isinstance(encoding, pikepdf.Name):
+        # a predefined CMap that isn't at hand has its writing mode in its name
+        return (name_at(font.dictionary, "/Encoding") or "").endswith("V")
+    return mode is WritingMode.VERTICAL
+
+
+def widths_of_cids(descendant: pikepdf.Dictionary) -> Dict[int, float]:
+    """The widths of the CIDs of the array W of a CIDFont."""
+    return {cid: width for cid, [width] in rows_of(descendant.get("/W"), 1)}
+
+
+def verticals_of_cids(descendant: pikepdf.Dictionary) -> Dict[int, Vertical]:
+    """How the CIDs of the array W2 of a CIDFont are placed in vertical writing."""
+    return {cid: Vertical(*row) for cid, row in rows_of(descendant.get("/W2"), len(Vertical._fields))}
+
+
+def rows_of(listed: Any, size: int) -> Iterator[Tuple[int, List[float]]]:
+    """The CIDs of an array W or W2, each with its numbers, of which it has `size`."""
+    values = iter(items(listed))
+    rows = itertools.chain.from_iterable(rows_from(first, values, size) for first in values)
+    for cid, row in itertools.islice(rows, MOST_WIDTHS):
+        found = [it for it in row if it is not None]
+        if 0 <= cid < CIDS and len(found) == size:
+            yield cid, found
+
+
+def rows_from(first: Any, values: Iterator[Any], size: int) -> Iterator[Row]:
+    """The CIDs of what stands in an array W or W2 from its first CID on.
+
+    An array follows, with the numbers of CID after CID, or the last CID, and the numbers of all up to it.
+    """
+    cid, second = cid_of(first), next(values, None)
+    if isinstance(second, pikepdf.Array):
+        found = numbers(second)
+        return ((cid + rank, found[at : at + size]) for rank, at in enumerate(range(0, len(found), size)))
+    row = [number(it) for it in itertools.islice(values, size)]
+    return ((it, row) for it in range(max(cid, 0), min(cid_of(second), CIDS - 1) + 1))
+
+
+def cid_of(value: Any) -> int:
+    """The CID of a number; one that is none for anything else."""
+    return int(min(value, CIDS)) if is_number(value) else NO_CID
+
+
+def items(listed: Any) -> List[Any]:
+    """What an array has; nothing for anything else."""
+    try:
+        return list(listed) if isinstance(listed, pikepdf.Array) else []
+    except MALFORMED:
+        return []
+
+
+def numbers(listed: Any) -> List[Optional[float]]:
+    """The numbers of an array, with None for what is none."""
+    return [number(it) for it in items(listed)]
+
+
+def pair_of(listed: Any, usual: Tuple[float, float]) -> Tuple[float, float]:
+    """The numbers of an array of two; the usual ones for what is none."""
+    found = numbers(listed)
+    if len(found) != len(usual):
+        return usual
+    first, second = (other if it is None else it for it, other in zip(found, usual))
+    return first, second
+
+
+def number_at(dictionary: pikepdf.Object, key: str, default: float) -> float:
+    """The number at a key; the default where there is none."""
+    found = number(dictionary.get(key))
+    return default if found is None else found
+
+
+def number(value: Any) -> Optional[float]:
+    """A number of a PDF file; None for what is none, or is too large."""
+    return float(value) if is_number(value) and abs(value) <= LARGEST else None
+
+
+def is_number(value: Any) -> bool:
+    return isinstance(value, (int, Decimal)) and not isinstance(value, bool)
