@@ -1,6 +1,7 @@
 """The texts that embedded font programs have, and those of codes that are characters or numbers of glyphs."""
 
 import random
+import struct
 import unittest
 
 from pikepdf import Array, Dictionary, Name
@@ -131,8 +132,16 @@ class Composite(unittest.TestCase):
         self.assertEqual({code: names[glyph - 1] for code, glyph in glyphs.items()}, expected)
 
     def test_the_best_of_several_characters(self):
-        """The least one that stands for no other one, and for private use only where there is no other."""
-        rows = [("\u03a9\u2126", "Ω"), ("\xa0 \t", " "), ("\ue000\uf900", "\uf900"), ("\ue000", "\ue000")]
+        """The least one, but one that stands for another of them comes after it, and after these those of no use."""
+        rows = [
+            ("\u03a9\u2126", "\u03a9"),
+            ("\xa0 \t", " "),
+            ("①➀", "①"),
+            ("\u2ef0\u9f99", "\u9f99"),
+            ("\u6587\u2f42", "\u6587"),
+            ("\ue000\u2ef0", "\u2ef0"),
+            ("\ue000", "\ue000"),
+        ]
         for characters, best in rows:
             program = truetype(["x"], (3, 1, 4, {ord(it): "x" for it in characters}))
             self.assertEqual(_programs.Program(program).text(1), best)
@@ -144,6 +153,12 @@ class Composite(unittest.TestCase):
         file = File()
         file.show(b"/F 9 Tf <000200010003> Tj", F=wide(file, cff_program(), key="FontFile3"))
         self.assertEqual(file.text(), "AB?")
+
+    def test_a_subtable_that_is_cut(self):
+        """The codes before the cut stay, and one of no code has the next subtable looked at."""
+        rows = b"".join(struct.pack(">LLL", code, code, 1) for code in (0x41, 0x42))
+        data = struct.pack(">HHLLL", 12, 0, 40, 0, 2) + rows
+        self.assertEqual([len(_sfnt.glyphs_of(data[:size])) for size in (40, 39, 28, 16, 9, 0)], [2, 1, 1, 0, 0, 0])
 
     def test_hostile(self):
         """Programs that are cut and changed have no fault, and no time that grows with what they claim."""
@@ -252,6 +267,14 @@ class Numbers(unittest.TestCase):
         """One name of another form, or another prefix, and none is a number."""
         for names in [["a65", "b66"], ["a65", "x"], ["a65", "a66.alt"], ["glyph65"], ["a65", "a999"], ["a65", "A"]]:
             self.assertEqual([it for it, source in self.texts(1, *names).values() if source is Source.GLYPH_NUMBER], [])
+
+    def test_names_of_a_program(self):
+        """Only what the file says of a font is a number, and not how a program names its glyphs."""
+        file = File()
+        program = b"/Encoding 256 array dup 65 /a65 put readonly def currentfile eexec"
+        descriptor = Dictionary(Flags=4, FontFile=file.stream(program))
+        file.show(b"/F 9 Tf (A) Tj", F=file.simple(subtype="Type1", FontDescriptor=descriptor))
+        self.assertEqual(file.text(), "?")
 
     def test_small_letters(self):
         found = self.texts(1, "uni20ac", "u1d6fc", "uni00410042", "uni20AC.alt", "university", subtype="Type1")

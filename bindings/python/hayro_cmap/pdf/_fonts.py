@@ -242,14 +242,15 @@ class Font:
     @functools.cached_property
     def program_texts(self) -> List[Optional[str]]:
         """The texts of the codes 0 to 255 of a simple font by its embedded TrueType or OpenType program."""
+        if not self.program.sfnt:
+            return [None] * 256
         return [self.program.text(glyph) for glyph in glyphs_of_codes(self.names_in_program, self.program)]
 
     @functools.cached_property
     def guessed_texts(self) -> Dict[int, str]:
-        """The texts of codes of a simple font whose glyphs have numbers for names."""
-        names = {code: it for code, it in enumerate(self.glyph_names) if it is not None}
+        """The texts of codes of a simple font to which Differences gives numbers for the names of glyphs."""
         try:
-            return guessed_texts(differences_of(self.dictionary) or names)
+            return guessed_texts(differences_of(self.dictionary))
         except MALFORMED:
             return {}
 

@@ -19,6 +19,9 @@ SYMBOL_ROWS = (0xF000, 0xF100, 0xF200, 0)
 GLYPH_BYTES = 2
 CIDS = 1 << 16
 
+#: The radicals of ideographs: the blocks CJK Radicals Supplement and Kangxi Radicals (The Unicode Standard, 18.3).
+RADICALS = range(0x2E80, 0x2FE0)
+
 
 class Program:
     """The TrueType, OpenType or CFF program of a font. One that is malformed has no texts and no widths."""
@@ -54,12 +57,11 @@ class Program:
     @functools.cached_property
     def characters(self) -> Dict[int, str]:
         """The characters of the glyphs by the `cmap` of Unicode: of several characters the best one."""
-        best: Dict[int, Tuple[bool, bool, int]] = {}
-        for code, glyph in self.sfnt.glyphs(*UNICODE).items():
-            rank = rank_of(code)
-            if rank is not None and (glyph not in best or rank < best[glyph]):
-                best[glyph] = rank
-        return {glyph: chr(code) for glyph, (_, _, code) in best.items()}
+        found: Dict[int, List[str]] = {}
+        for code, glyph in self._unicode.items():
+            if is_text(code):
+                found.setdefault(glyph, []).append(chr(code))
+        return {glyph: best_of(characters) for glyph, characters in found.items()}
 
     @functools.cached_property
     def glyphs_of_names(self) -> Dict[str, int]:
@@ -102,15 +104,23 @@ class Program:
 MAC_CODES = {name: code for code, name in reversed(list(enumerate(MAC_ROMAN))) if name is not None}
 
 
-def rank_of(code: int) -> Optional[Tuple[bool, bool, int]]:
-    """How good a character is as the text of a glyph, the least being the best; None where it is no text.
+def is_text(code: int) -> bool:
+    """Whether a number is that of a character that is neither a control character nor a surrogate."""
+    return code <= 0x10FFFF and unicodedata.category(chr(code)) not in ("Cc", "Cs")
 
-    A character for private use comes last; one that stands for another, as the Ohm sign for omega, comes after it.
+
+def best_of(characters: List[str]) -> str:
+    """The character, of those that have one glyph, that is its text.
+
+    It is the least one that is for no private use, is no radical in the place of an ideograph, and doesn't stand for
+    another one of them, as the Ohm sign for omega and a no-break space for a space (The Unicode Standard, 2.3).
     """
-    category = unicodedata.category(chr(code)) if code <= 0x10FFFF else "Cs"
-    if category in ("Cc", "Cs"):
-        return None
-    return category == "Co", unicodedata.normalize("NFKC", chr(code)) != chr(code), code
+
+    def rank(it: str) -> Tuple[bool, bool, bool, str]:
+        other = unicodedata.normalize("NFKC", it)
+        return unicodedata.category(it) == "Co", ord(it) in RADICALS, other != it and other in characters, it
+
+    return min(characters, key=rank) if len(characters) > 1 else characters[0]
 
 
 def program_of(font: pikepdf.Dictionary, streams: Streams) -> Program:

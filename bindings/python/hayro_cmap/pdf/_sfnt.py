@@ -3,6 +3,7 @@
 Programs may be hostile, so that what is read has limits, and what is malformed is left out.
 """
 
+import itertools
 import struct
 from typing import Callable, Dict, Iterator, List, Tuple
 
@@ -25,8 +26,7 @@ UNICODE = ((3, 10), (0, 6), (0, 4), (3, 1), (0, 3), (0, 2), (0, 1), (0, 0))
 SYMBOL = (3, 0)
 MAC_ROMAN = (1, 0)
 
-#: How many glyph names the table `post` doesn't spell, and the versions of the table that has names.
-MAC_GLYPHS = 258
+#: The versions of the table `post` that have names: those of the Macintosh alone, and others too.
 POST_MAC, POST_NAMES = 0x00010000, 0x00020000
 
 #: What is raised where a table ends early, or says what can't be.
@@ -50,6 +50,10 @@ class Sfnt:
         for tag, _, offset, length in RECORD.iter_unpack(program[HEADER : HEADER + RECORD.size * count]):
             self._tables.setdefault(tag, (offset, length))
 
+    def __bool__(self) -> bool:
+        """Whether it has tables."""
+        return bool(self._tables)
+
     def table(self, tag: bytes) -> bytes:
         """The bytes of a table; none where the program hasn't got it."""
         offset, length = self._tables.get(tag, (0, 0))
@@ -60,10 +64,10 @@ class Sfnt:
         data = self.table(b"cmap")
         try:
             places = subtables(data)
-            found = (glyphs_of(data[places[it] :]) for it in encodings if it in places)
-            return next((glyphs for glyphs in found if glyphs), {})
         except MALFORMED_TABLE:
             return {}
+        found = (glyphs_of(data[places[it] :]) for it in encodings if it in places)
+        return next((glyphs for glyphs in found if glyphs), {})
 
     def advances(self) -> List[float]:
         """The advance widths of the glyphs from 0 on, in thousandths of the size; those after have the last one's."""
@@ -77,10 +81,10 @@ class Sfnt:
             return []
 
     def names(self) -> List[str]:
-        """The names of the glyphs from 0 on, of the table `post`."""
+        """The names of the glyphs from 0 on, of the table `post`; none without fontTools."""
         try:
             return names_of(self.table(b"post"))
-        except MALFORMED_TABLE:
+        except (*MALFORMED_TABLE, ImportError):
             return []
 
 
@@ -95,14 +99,15 @@ def subtables(cmap: bytes) -> Dict[Tuple[int, int], int]:
 
 
 def glyphs_of(data: bytes) -> Glyphs:
-    """The glyphs of the codes of a subtable, but for glyph 0, which stands for none."""
+    """The glyphs of the codes of a subtable, up to where it is malformed; glyph 0 stands for none."""
     read = FORMATS.get(int.from_bytes(data[:2], "big"))
     glyphs: Glyphs = {}
-    for looked_at, (code, glyph) in enumerate(() if read is None else read(data)):
-        if looked_at >= MOST_CODES:
-            break
-        if glyph != 0:
-            glyphs.setdefault(code, glyph)
+    try:
+        for code, glyph in itertools.islice(() if read is None else read(data), MOST_CODES):
+            if glyph != 0:
+                glyphs.setdefault(code, glyph)
+    except MALFORMED_TABLE:
+        pass
     return glyphs
 
 
@@ -148,13 +153,13 @@ FORMATS: Dict[int, Callable[[bytes], Pairs]] = {0: bytes_to_glyphs, 4: segments,
 
 def names_of(post: bytes) -> List[str]:
     """The names of the glyphs from 0 on in a table `post`: those of the Macintosh, and those that it spells."""
+    [version] = struct.unpack_from(">L", post)
+    if version not in (POST_MAC, POST_NAMES):
+        return []
     from fontTools.ttLib.standardGlyphOrder import standardGlyphOrder
 
-    [version] = struct.unpack_from(">L", post)
     if version == POST_MAC:
         return list(standardGlyphOrder)
-    if version != POST_NAMES:
-        return []
     [count] = struct.unpack_from(">H", post, 32)
     numbers = struct.unpack_from(f">{count}H", post, 34)
     names = [*standardGlyphOrder, *spelled(post[34 + 2 * count :])]
