@@ -3,6 +3,7 @@
 import random
 import struct
 import unittest
+from types import SimpleNamespace
 
 from pikepdf import Array, Dictionary, Name
 
@@ -153,6 +154,15 @@ class Composite(unittest.TestCase):
         file = File()
         file.show(b"/F 9 Tf <000200010003> Tj", F=wide(file, cff_program(), key="FontFile3"))
         self.assertEqual(file.text(), "AB?")
+
+    def test_cids_of_a_cff_program(self):
+        """Where its glyphs have CIDs, the CIDs of the font are these, and no names."""
+        program = _programs.Program(truetype(["x", "y"], (3, 1, 4, {0x3B1: "x", 0x3B2: "y"})))
+        charset = [".notdef", "cid00907", "cid00005"]
+        program.__dict__["_cff"] = SimpleNamespace(ROS=("Adobe", "Identity", 0), charset=charset)
+        glyphs = _programs.GlyphsOfCids(Dictionary(), program, None)
+        self.assertEqual([glyphs.text(cid) for cid in (907, 5, 1, 2)], ["α", "β", None, None])
+        self.assertEqual(program.names, [])
 
     def test_a_subtable_that_is_cut(self):
         """The codes before the cut stay, and one of no code has the next subtable looked at."""

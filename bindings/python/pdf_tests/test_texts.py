@@ -5,10 +5,10 @@ from unittest import mock
 
 from pikepdf import Array, Dictionary, Name
 
-from hayro_cmap import pdf
-from hayro_cmap.pdf import Source, _content, _encodings, _glyphs
+from hayro_cmap import Code, pdf
+from hayro_cmap.pdf import Source, _content, _encodings, _fonts, _glyphs
 
-from made import BAD, GOOD, File, needs_glyph_list, needs_resources, showing
+from made import BAD, GOOD, WIDE, File, needs_glyph_list, needs_resources, showing
 
 #: A part of a Type 1 font program, up to its encrypted part. 41 is alpha, 42 beta, by three ways to write numbers.
 TYPE1 = b"""%!PS-AdobeFont-1.0: F
@@ -137,6 +137,25 @@ class Sources(unittest.TestCase):
         self.assertEqual([it.source for it in file.characters()], [Source.TO_UNICODE, Source.COLLECTION])
 
     @needs_resources
+    def test_the_collection_of_a_predefined_encoding(self):
+        """Whatever collection the font names."""
+        for collection in ("Identity", "Japan1"):
+            file = File()
+            file.show(b"/F 9 Tf <4E2D6587> Tj", F=file.composite(Name("/UniGB-UCS2-H"), collection))
+            self.assertEqual((file.text(), {it.source for it in file.characters()}), ("中文", {Source.COLLECTION}))
+
+    def test_the_empty_text(self):
+        """It is the text of a code, so that nothing else is asked."""
+        simple, composite = File(), File()
+        simple.show(b"", F=simple.simple(GOOD, Encoding=Name.WinAnsiEncoding))
+        composite.show(b"", F=composite.composite(Name("/Identity-H"), "Japan1", WIDE))
+        for file, string in [(simple, b"A"), (composite, b"\0A")]:
+            font = file.font()
+            font.__dict__["to_unicode"] = _fonts.Read(EmptyTexts(), EmptyTexts(), [])
+            font.__dict__["_extractors"] = {False: EmptyTexts(len(string))}
+            self.assertEqual([it[2:] for it in font.characters(string)], [("", Source.TO_UNICODE)])
+
+    @needs_resources
     def test_cids_of_the_collection_of_the_font(self):
         for mode in "HV":
             file = File()
@@ -152,6 +171,19 @@ class Sources(unittest.TestCase):
             F=file.composite(Name("/Nowhere-H"), to_unicode=b"1 beginbfchar <0041> <0041> endbfchar"),
         )
         self.assertEqual(file.text(), "A?")
+
+
+class EmptyTexts:
+    """In the place of a ToUnicode CMap, and of an extractor over it: the text of each code is empty."""
+
+    def __init__(self, length=1):
+        self.length = length
+
+    def text(self, code):
+        return ""
+
+    def characters_of(self, strings):
+        return [[(Code(0x41, self.length, 34, True, False), "")] for string in strings]
 
 
 @needs_glyph_list
@@ -262,7 +294,7 @@ class GlyphNames(unittest.TestCase):
         self.assertEqual([it for it in dingbats if _glyphs.text_of_glyph(it, True) is None], [])
 
     def test_without_the_list(self):
-        with mock.patch.object(_glyphs, "agl", None):
+        with mock.patch.object(_glyphs, "glyph_list", lambda: None):
             _glyphs.text_of_glyph.cache_clear()
             self.addCleanup(_glyphs.text_of_glyph.cache_clear)
             self.assertEqual(self.text(b"A", Encoding=Name.WinAnsiEncoding), "?")

@@ -38,7 +38,6 @@ class Simple(unittest.TestCase):
         self.assertAlmostEqual(found.advance(65), 600)
         self.assertAlmostEqual(self.widths("Type3", **entries).advance(65), 12)
 
-    @needs_glyph_list
     def test_standard_fonts(self):
         """The entries WX of A, and of alpha and a1, in the AFM files."""
         for base_font, width in [

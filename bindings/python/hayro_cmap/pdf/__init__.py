@@ -12,7 +12,8 @@
     python3 -m hayro_cmap.pdf repair IN.pdf OUT.pdf
 
 A text is that of the font's ToUnicode CMap; else of a composite font that of the CID in the map of its character
-collection, and of a simple font that of the name of the glyph, if fontTools is there (ISO 32000-1, 9.10.2).
+collection, and of a simple font that of the name of the glyph, if fontTools is there (ISO 32000-1, 9.10.2); else that
+of the glyph in the embedded font program. `Source` has all sources.
 """
 
 try:
@@ -27,6 +28,7 @@ from ._glyphs import HAS_GLYPH_LIST, glyph_names
 from ._many import check_files
 from ._objects import TooLarge, Undecodable
 from ._repair import Repaired, Signed, repair, save
+from ._widths import Vertical, Widths
 
 __all__ = [
     "HAS_GLYPH_LIST",
@@ -46,6 +48,8 @@ __all__ = [
     "Source",
     "TooLarge",
     "Undecodable",
+    "Vertical",
+    "Widths",
     "characters",
     "check",
     "check_files",

@@ -5,6 +5,7 @@ fontTools has. Names that are numbers have no texts there; what they may stand f
 """
 
 import functools
+import importlib.util
 import io
 import re
 from typing import Any, Dict, List, Optional, Tuple
@@ -15,13 +16,8 @@ from ._encodings import BY_NAME, EXPERT, STANDARD, SYMBOL, ZAPF_DINGBATS
 from ._objects import MALFORMED, Streams, dictionary_at, integer_at, name_at, stream_at, text_of
 from ._sfnt import Sfnt
 
-try:
-    from fontTools import agl
-except ImportError:
-    agl = None
-
 #: Whether names of glyphs have texts: whether fontTools is there.
-HAS_GLYPH_LIST = agl is not None
+HAS_GLYPH_LIST = importlib.util.find_spec("fontTools") is not None
 
 #: Names of glyphs in the mathematical fonts of TeX, which no list of Adobe's has, with their texts.
 TEX = {
@@ -167,10 +163,10 @@ def of_type1(program: bytes) -> Optional[Names]:
 
 def cff_font(program: bytes) -> Any:
     """The font of a CFF font program, as fontTools reads it; None without fontTools, or where it is malformed."""
-    if agl is None:
+    try:
+        from fontTools import cffLib
+    except ImportError:
         return None
-    from fontTools import cffLib
-
     fonts = cffLib.CFFFontSet()
     try:
         fonts.decompile(io.BytesIO(program), None)
@@ -211,12 +207,23 @@ def codes_of_cff(data: bytes) -> Tuple[List[int], List[Tuple[int, int]]]:
     return codes, [(data[at], int.from_bytes(data[at + 1 : at + 3], "big")) for at in entries]
 
 
+@functools.lru_cache(maxsize=None)
+def glyph_list() -> Any:
+    """The Adobe Glyph List of fontTools, which takes time to load, or None."""
+    try:
+        from fontTools import agl
+    except ImportError:
+        return None
+    return agl
+
+
 @functools.lru_cache(maxsize=1 << 16)
 def text_of_glyph(name: str, is_dingbat: bool = False) -> Optional[str]:
     """The text of the name of a glyph, by the Adobe Glyph List and the rules that go with it, or None.
 
     The digits of `uni20AC` and `u1040C` may also be small letters.
     """
+    agl = glyph_list()
     if agl is None:
         return None
     name = BY_NUMBER.sub(lambda found: found[1] + found[2].upper(), name)
