@@ -6,7 +6,7 @@ from decimal import Decimal
 
 from pikepdf import Array, Dictionary, Name
 
-from hayro_cmap.pdf import _metrics, _widths
+from hayro_cmap.pdf import _metrics
 
 from made import File, needs_glyph_list, needs_resources, truetype
 
@@ -68,6 +68,10 @@ class Simple(unittest.TestCase):
             self.assertEqual((len(table), len({table[it] for it in digits})), (315, 1))
         self.assertEqual((len(_metrics.SYMBOL), len(_metrics.ZAPF_DINGBATS)), (190, 202))
         self.assertEqual({_metrics.TIMES[it] for it in digits} | {_metrics.HELVETICA["space"]}, {500, 278})
+
+    def test_arrays_without_numbers(self):
+        for widths in (Array([]), Array([Name.x]), Name.x, 12):
+            self.assertEqual(self.widths("Type1", "Courier", FirstChar=65, Widths=widths).advance(65), 600)
 
     def test_unknown_fonts(self):
         self.assertEqual(self.widths().advance(65), 500)

@@ -86,16 +86,23 @@ DEFAULT_VERTICAL = (880.0, -1000.0)
 class Widths:
     """The widths of the glyphs of a font."""
 
-    def __init__(self, table: List[float], by_cid: Dict[int, float], default: float):
+    def __init__(
+        self,
+        table: List[float],
+        by_cid: Dict[int, float],
+        default: float,
+        verticals: Optional[Dict[int, Vertical]] = None,
+        vertical_default: Tuple[float, float] = DEFAULT_VERTICAL,
+    ):
         #: The widths of the codes 0 to 255 of a simple font; none of a composite one.
         self.table = table
         #: The widths of the CIDs of a composite font, and that of all others.
         self.by_cid = by_cid
         self.default = default
         #: Whether strings are written from the top down.
-        self.is_vertical = False
-        self._vertical_by_cid: Dict[int, Vertical] = {}
-        self._vertical_default = DEFAULT_VERTICAL
+        self.is_vertical = verticals is not None
+        self._verticals = verticals or {}
+        self._vertical_default = vertical_default
 
     @classmethod
     def of(cls, font: "Font") -> "Widths":
@@ -104,12 +111,9 @@ class Widths:
             return cls(simple_widths(font), {}, DEFAULT_OF_CODE)
         descendant = pikepdf.Dictionary() if font.descendant is None else font.descendant
         default = number_at(descendant, "/DW", DEFAULT_OF_CID)
-        found = cls([], widths_of_cids(descendant), default)
-        found.is_vertical = is_vertical(font)
-        if found.is_vertical:
-            found._vertical_by_cid = verticals_of_cids(descendant)
-            found._vertical_default = pair_of(descendant.get("/DW2"), DEFAULT_VERTICAL)
-        return found
+        verticals = verticals_of_cids(descendant) if is_vertical(font) else None
+        vertical_default = pair_of(descendant.get("/DW2"), DEFAULT_VERTICAL)
+        return cls([], widths_of_cids(descendant), default, verticals, vertical_default)
 
     def advance(self, code: int, cid: Optional[int] = None) -> float:
         """By how much the glyph of a code, or of a CID of a composite font, moves on what is shown next in horizontal
@@ -120,7 +124,7 @@ class Widths:
 
     def vertical(self, cid: Optional[int]) -> Vertical:
         """How the glyph of a CID of a composite font is placed in vertical writing."""
-        found = self._vertical_by_cid.get(cid or 0)
+        found = self._verticals.get(cid or 0)
         if found is not None:
             return found
         y, advance = self._vertical_default
@@ -130,17 +134,21 @@ class Widths:
 def simple_widths(font: "Font") -> List[float]:
     """The widths of the codes 0 to 255 of a simple font: those that it gives, or else of its program, or of a standard
     font of its name."""
+    return given_widths(font) or program_widths(font) or standard_widths(font)
+
+
+def given_widths(font: "Font") -> List[float]:
+    """The widths of the codes 0 to 255 by the array Widths of a simple font; none where it has no number."""
+    given = numbers(font.dictionary.get("/Widths"))
+    if not any(it is not None for it in given):
+        return []
     scale = 1000 * matrix_of(font) if font.subtype == "Type3" else 1
-    given = font.dictionary.get("/Widths")
-    if isinstance(given, pikepdf.Array):
-        descriptor = dictionary_at(font.dictionary, "/FontDescriptor")
-        table = [scale * number_at(descriptor, "/MissingWidth", 0.0)] * 256
-        first = integer_at(font.dictionary, "/FirstChar")
-        for code, width in enumerate(numbers(given), first):
-            if 0 <= code < 256 and width is not None:
-                table[code] = scale * width
-        return table
-    return program_widths(font) or standard_widths(font)
+    missing = number_at(dictionary_at(font.dictionary, "/FontDescriptor"), "/MissingWidth", 0.0)
+    table = [scale * missing] * 256
+    for code, width in enumerate(given, integer_at(font.dictionary, "/FirstChar")):
+        if 0 <= code < 256 and width is not None:
+            table[code] = scale * width
+    return table
 
 
 def program_widths(font: "Font") -> List[float]:
