@@ -2,12 +2,15 @@
 
 import random
 import struct
+import time
 import unittest
-from types import SimpleNamespace
+from unittest import mock
 
 from pikepdf import Array, Dictionary, Name
 
+from hayro_cmap import pdf
 from hayro_cmap.pdf import Source, _encodings, _programs, _sfnt
+from hayro_cmap.pdf._budget import Budget
 
 from made import File, needs_glyph_list, needs_resources, truetype
 from test_texts import cff_program
@@ -158,8 +161,7 @@ class Composite(unittest.TestCase):
     def test_cids_of_a_cff_program(self):
         """Where its glyphs have CIDs, the CIDs of the font are these, and no names."""
         program = _programs.Program(truetype(["x", "y"], (3, 1, 4, {0x3B1: "x", 0x3B2: "y"})))
-        charset = [".notdef", "cid00907", "cid00005"]
-        program.__dict__["_cff"] = SimpleNamespace(ROS=("Adobe", "Identity", 0), charset=charset)
+        program.__dict__["_charset"] = ([".notdef", "cid00907", "cid00005"], True)
         glyphs = _programs.GlyphsOfCids(Dictionary(), program, None)
         self.assertEqual([glyphs.text(cid) for cid in (907, 5, 1, 2)], ["α", "β", None, None])
         self.assertEqual(program.names, [])
@@ -168,13 +170,34 @@ class Composite(unittest.TestCase):
         """The codes before the cut stay, and one of no code has the next subtable looked at."""
         rows = b"".join(struct.pack(">LLL", code, code, 1) for code in (0x41, 0x42))
         data = struct.pack(">HHLLL", 12, 0, 40, 0, 2) + rows
-        self.assertEqual([len(_sfnt.glyphs_of(data[:size])) for size in (40, 39, 28, 16, 9, 0)], [2, 1, 1, 0, 0, 0])
+        self.assertEqual([len(_sfnt.glyphs_of(data[:size], Budget())) for size in (40, 39, 28, 16, 9, 0)], [2, 1, 1, 0, 0, 0])
+
+    def test_many_programs(self):
+        """All fonts of a file together have a limit."""
+        file = File()
+        program = self.program(post=False)
+        file.show(b"", A=wide(file, program), B=wide(file, program))
+        with mock.patch.object(Budget.__init__, "__defaults__", (1,)):
+            fonts = pdf.Document(file.pdf).fonts
+        self.assertEqual([font.characters(b"\0\1")[0].text for font in fonts], ["α", None])
+
+    def test_many_characters_of_a_glyph(self):
+        """No time that grows with the square of their number."""
+        start = time.monotonic()
+        self.assertEqual(_programs.best_of({chr(code) for code in range(0x20, 0xD800)}), " ")
+        self.assertLess(time.monotonic() - start, 2)
+
+    def test_tables_that_overlap(self):
+        """All tables together are no longer than the program."""
+        records = b"".join(struct.pack(">4sLLL", tag, 0, 0, 1 << 20) for tag in _sfnt.TABLES)
+        it = _sfnt.Sfnt(b"OTTO" + struct.pack(">HHHH", len(_sfnt.TABLES), 0, 0, 0) + records + bytes(1 << 20))
+        self.assertLess(sum(len(it.table(tag)) for tag in _sfnt.TABLES), 1.1 * (1 << 20))
 
     def test_hostile(self):
         """Programs that are cut and changed have no fault, and no time that grows with what they claim."""
         rows = b"".join(first.to_bytes(4, "big") + b"\0\x10\xff\xff\0\0\0\1" for first in range(1000))
         data = b"\0\x0c\0\0" + bytes(8) + (1000).to_bytes(4, "big") + rows
-        self.assertLessEqual(len(_sfnt.glyphs_of(data)), _sfnt.MOST_CODES)
+        self.assertLessEqual(len(_sfnt.glyphs_of(data, Budget())), _sfnt.MOST_CODES)
         program, chance = self.program(), random.Random(1)
         for _ in range(300):
             changed = bytearray(program[: chance.randrange(len(program) + 1)])

@@ -8,6 +8,7 @@ import pikepdf
 
 from .. import CMap, Code, Extractor, NotWritable, Refused, predefined
 from .._faults import Lines
+from ._budget import Budget
 from ._glyphs import Names, differences_of, glyph_names, guessed_texts, is_symbolic, texts_of_names
 from ._objects import (
     MALFORMED,
@@ -117,9 +118,13 @@ NOTHING = Read(None, None, [])
 class Font:
     """A font of a PDF file. Its CMaps are read when they are first asked for, while the file is open."""
 
-    def __init__(self, dictionary: pikepdf.Dictionary, streams: Optional[Streams] = None):
+    def __init__(
+        self, dictionary: pikepdf.Dictionary, streams: Optional[Streams] = None, budget: Optional[Budget] = None
+    ):
         self.dictionary = dictionary
         self._streams = Streams() if streams is None else streams
+        #: What may still be taken of the programs and the widths of the fonts of the file.
+        self.budget = Budget() if budget is None else budget
         self._characters: Dict[Tuple[bool, bool], Dict[Tuple[int, int], Character]] = {}
         #: The numbers of its object, or None where it is written where it is used.
         self.objgen: Optional[Tuple[int, int]] = dictionary.objgen if dictionary.is_indirect else None
@@ -230,7 +235,8 @@ class Font:
     @functools.cached_property
     def program(self) -> Program:
         """The embedded TrueType, OpenType or CFF program of the font, or of its CIDFont."""
-        return program_of(self.dictionary if self.descendant is None else self.descendant, self._streams)
+        holder = self.dictionary if self.descendant is None else self.descendant
+        return program_of(holder, self._streams, self.budget)
 
     @property
     def names_in_program(self) -> Optional[Names]:
@@ -450,6 +456,7 @@ class Fonts:
 
     def __init__(self, streams: Optional[Streams] = None):
         self.streams = Streams() if streams is None else streams
+        self.budget = Budget()
         self.found: Dict[Any, Font] = {}
 
     def of(self, value: Any) -> Optional[Font]:
@@ -460,7 +467,7 @@ class Fonts:
         if key not in self.found:
             if len(self.found) >= MOST_FONTS:
                 raise TooLarge(f"the file has more than {MOST_FONTS:,} fonts")
-            self.found[key] = Font(value, self.streams)
+            self.found[key] = Font(value, self.streams, self.budget)
         return self.found[key]
 
     def walk(self, holders: Iterable[pikepdf.Object]) -> None:

@@ -2,10 +2,11 @@
 
 import functools
 import unicodedata
-from typing import Dict, List, Optional, Tuple
+from typing import Dict, List, Optional, Set, Tuple
 
 import pikepdf
 
+from ._budget import Budget
 from ._encodings import MAC_ROMAN
 from ._glyphs import Names, cff_font, text_of_glyph
 from ._objects import MALFORMED, Streams, TooLarge, Undecodable, dictionary_at, stream_at
@@ -26,41 +27,42 @@ RADICALS = range(0x2E80, 0x2FE0)
 class Program:
     """The TrueType, OpenType or CFF program of a font. One that is malformed has no texts and no widths."""
 
-    def __init__(self, data: bytes = b"", is_cff: bool = False):
+    def __init__(self, data: bytes = b"", is_cff: bool = False, budget: Optional[Budget] = None):
         #: The tables of a TrueType or OpenType program; those of any other are empty.
-        self.sfnt = Sfnt(data if data[:4] in VERSIONS else b"")
+        self.sfnt = Sfnt(data if data[:4] in VERSIONS else b"", budget)
         self._cff_data = data if is_cff and data[:4] not in VERSIONS else self.sfnt.table(b"CFF ")
 
     @functools.cached_property
-    def _cff(self):
-        """The CFF font, as fontTools has it, or None."""
-        return cff_font(self._cff_data) if self._cff_data else None
+    def _charset(self) -> Tuple[List[str], bool]:
+        """The names of the glyphs of a CFF font, and whether they are CIDs."""
+        font = cff_font(self._cff_data) if self._cff_data else None
+        return ([], False) if font is None else (list(font.charset), hasattr(font, "ROS"))
 
-    @functools.cached_property
+    @property
     def has_cids(self) -> bool:
         """Whether it is a CFF font whose glyphs have CIDs in the place of names."""
-        return self._cff is not None and hasattr(self._cff, "ROS")
+        return self._charset[1]
 
     @functools.cached_property
     def names(self) -> List[str]:
         """The names of the glyphs from 0 on; none where they have CIDs."""
-        if self.has_cids:
-            return []
-        return self.sfnt.names() if self._cff is None else list(self._cff.charset)
+        charset, has_cids = self._charset
+        return [] if has_cids else charset or self.sfnt.names()
 
     @functools.cached_property
     def glyphs_of_cids(self) -> Dict[int, int]:
         """The glyphs of the CIDs of a CFF font."""
-        charset = self._cff.charset if self.has_cids else []
-        return {int(name[3:]): glyph for glyph, name in enumerate(charset) if name[3:].isdigit()}
+        charset, has_cids = self._charset
+        names = charset if has_cids else []
+        return {int(name[3:]): glyph for glyph, name in enumerate(names) if name[3:].isdigit()}
 
     @functools.cached_property
     def characters(self) -> Dict[int, str]:
         """The characters of the glyphs by the `cmap` of Unicode: of several characters the best one."""
-        found: Dict[int, List[str]] = {}
+        found: Dict[int, Set[str]] = {}
         for code, glyph in self._unicode.items():
             if is_text(code):
-                found.setdefault(glyph, []).append(chr(code))
+                found.setdefault(glyph, set()).add(chr(code))
         return {glyph: best_of(characters) for glyph, characters in found.items()}
 
     @functools.cached_property
@@ -109,7 +111,7 @@ def is_text(code: int) -> bool:
     return code <= 0x10FFFF and unicodedata.category(chr(code)) not in ("Cc", "Cs")
 
 
-def best_of(characters: List[str]) -> str:
+def best_of(characters: Set[str]) -> str:
     """The character, of those that have one glyph, that is its text.
 
     It is the least one that is for no private use, is no radical in the place of an ideograph, and doesn't stand for
@@ -120,17 +122,17 @@ def best_of(characters: List[str]) -> str:
         other = unicodedata.normalize("NFKC", it)
         return unicodedata.category(it) == "Co", ord(it) in RADICALS, other != it and other in characters, it
 
-    return min(characters, key=rank) if len(characters) > 1 else characters[0]
+    return min(characters, key=rank)
 
 
-def program_of(font: pikepdf.Dictionary, streams: Streams) -> Program:
+def program_of(font: pikepdf.Dictionary, streams: Streams, budget: Budget) -> Program:
     """The embedded TrueType, OpenType or CFF program of a simple font or a CIDFont (ISO 32000-1, 9.9)."""
     descriptor = dictionary_at(font, "/FontDescriptor")
     truetype, other = stream_at(descriptor, "/FontFile2"), stream_at(descriptor, "/FontFile3")
     try:
         if truetype is not None:
-            return Program(streams.decoded(truetype))
-        return Program() if other is None else Program(streams.decoded(other), is_cff=True)
+            return Program(streams.decoded(truetype), budget=budget)
+        return Program() if other is None else Program(streams.decoded(other), is_cff=True, budget=budget)
     except (TooLarge, Undecodable, *MALFORMED):
         return Program()
 

@@ -3,9 +3,10 @@
 Programs may be hostile, so that what is read has limits, and what is malformed is left out.
 """
 
-import itertools
 import struct
-from typing import Callable, Dict, Iterator, List, Tuple
+from typing import Callable, Dict, Iterable, Iterator, List, Optional, Tuple
+
+from ._budget import Budget
 
 #: The first bytes of a program.
 VERSIONS = (b"\x00\x01\x00\x00", b"true", b"OTTO")
@@ -14,8 +15,9 @@ VERSIONS = (b"\x00\x01\x00\x00", b"true", b"OTTO")
 HEADER = 12
 RECORD = struct.Struct(">4sLLL")
 
-#: How many tables a program may have.
+#: How many tables a program may have, and those that are read.
 MOST_TABLES = 64
+TABLES = (b"cmap", b"post", b"head", b"hhea", b"hmtx", b"CFF ")
 
 #: How many entries of the table `cmap` are looked at, and how many codes one of them may have.
 MOST_SUBTABLES = 64
@@ -36,28 +38,31 @@ MALFORMED_TABLE = (struct.error, IndexError, ValueError, OverflowError)
 Glyphs = Dict[int, int]
 
 #: Codes from the first to the last one, each with its glyph.
-Pairs = Iterator[Tuple[int, int]]
+Pairs = Iterable[Tuple[int, int]]
 
 
 class Sfnt:
     """A TrueType or OpenType font program."""
 
-    def __init__(self, program: bytes):
-        self._program = program
-        self._tables: Dict[bytes, Tuple[int, int]] = {}
+    def __init__(self, program: bytes, budget: Optional[Budget] = None):
+        self._budget = Budget() if budget is None else budget
+        self._tables: Dict[bytes, bytes] = {}
         count = int.from_bytes(program[4:6], "big") if program[:4] in VERSIONS else 0
         count = min(count, MOST_TABLES, max(len(program) - HEADER, 0) // RECORD.size)
+        left = len(program)
         for tag, _, offset, length in RECORD.iter_unpack(program[HEADER : HEADER + RECORD.size * count]):
-            self._tables.setdefault(tag, (offset, length))
+            # tables don't overlap, so that all of them together are no longer than the program
+            if tag in TABLES and tag not in self._tables and left > 0:
+                self._tables[tag] = program[offset : offset + min(length, left)]
+                left -= len(self._tables[tag])
 
     def __bool__(self) -> bool:
         """Whether it has tables."""
         return bool(self._tables)
 
     def table(self, tag: bytes) -> bytes:
-        """The bytes of a table; none where the program hasn't got it."""
-        offset, length = self._tables.get(tag, (0, 0))
-        return self._program[offset : offset + length]
+        """The bytes of one of the tables that are read; none where the program hasn't got it."""
+        return self._tables.get(tag, b"")
 
     def glyphs(self, *encodings: Tuple[int, int]) -> Glyphs:
         """The glyphs of the codes of an encoding: of the first one, of these platforms and encodings, that has any."""
@@ -66,7 +71,7 @@ class Sfnt:
             places = subtables(data)
         except MALFORMED_TABLE:
             return {}
-        found = (glyphs_of(data[places[it] :]) for it in encodings if it in places)
+        found = (glyphs_of(data[places[it] :], self._budget) for it in encodings if it in places)
         return next((glyphs for glyphs in found if glyphs), {})
 
     def advances(self) -> List[float]:
@@ -98,12 +103,12 @@ def subtables(cmap: bytes) -> Dict[Tuple[int, int], int]:
     return places
 
 
-def glyphs_of(data: bytes) -> Glyphs:
+def glyphs_of(data: bytes, budget: Budget) -> Glyphs:
     """The glyphs of the codes of a subtable, up to where it is malformed; glyph 0 stands for none."""
     read = FORMATS.get(int.from_bytes(data[:2], "big"))
     glyphs: Glyphs = {}
     try:
-        for code, glyph in itertools.islice(() if read is None else read(data), MOST_CODES):
+        for code, glyph in budget.take(() if read is None else read(data), MOST_CODES):
             if glyph != 0:
                 glyphs.setdefault(code, glyph)
     except MALFORMED_TABLE:

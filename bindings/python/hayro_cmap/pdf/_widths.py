@@ -10,6 +10,7 @@ from typing import TYPE_CHECKING, Any, Dict, Iterator, List, NamedTuple, Optiona
 import pikepdf
 
 from .. import WritingMode
+from ._budget import Budget
 from ._glyphs import Names
 from ._metrics import (
     COURIERS,
@@ -111,9 +112,9 @@ class Widths:
             return cls(simple_widths(font), {}, DEFAULT_OF_CODE)
         descendant = pikepdf.Dictionary() if font.descendant is None else font.descendant
         default = number_at(descendant, "/DW", DEFAULT_OF_CID)
-        verticals = verticals_of_cids(descendant) if is_vertical(font) else None
-        vertical_default = pair_of(descendant.get("/DW2"), DEFAULT_VERTICAL)
-        return cls([], widths_of_cids(descendant), default, verticals, vertical_default)
+        by_cid = widths_of_cids(descendant, font.budget)
+        verticals = verticals_of_cids(descendant, font.budget) if is_vertical(font) else None
+        return cls([], by_cid, default, verticals, pair_of(descendant.get("/DW2"), DEFAULT_VERTICAL))
 
     def advance(self, code: int, cid: Optional[int] = None) -> float:
         """By how much the glyph of a code, or of a CID of a composite font, moves on what is shown next in horizontal
@@ -192,21 +193,21 @@ def is_vertical(font: "Font") -> bool:
     return mode is WritingMode.VERTICAL
 
 
-def widths_of_cids(descendant: pikepdf.Dictionary) -> Dict[int, float]:
+def widths_of_cids(descendant: pikepdf.Dictionary, budget: Budget) -> Dict[int, float]:
     """The widths of the CIDs of the array W of a CIDFont."""
-    return {cid: width for cid, [width] in rows_of(descendant.get("/W"), 1)}
+    return {cid: width for cid, [width] in rows_of(descendant.get("/W"), 1, budget)}
 
 
-def verticals_of_cids(descendant: pikepdf.Dictionary) -> Dict[int, Vertical]:
+def verticals_of_cids(descendant: pikepdf.Dictionary, budget: Budget) -> Dict[int, Vertical]:
     """How the CIDs of the array W2 of a CIDFont are placed in vertical writing."""
-    return {cid: Vertical(*row) for cid, row in rows_of(descendant.get("/W2"), len(Vertical._fields))}
+    return {cid: Vertical(*row) for cid, row in rows_of(descendant.get("/W2"), len(Vertical._fields), budget)}
 
 
-def rows_of(listed: Any, size: int) -> Iterator[Tuple[int, List[float]]]:
+def rows_of(listed: Any, size: int, budget: Budget) -> Iterator[Tuple[int, List[float]]]:
     """The CIDs of an array W or W2, each with its numbers, of which it has `size`."""
     values = iter(items(listed))
     rows = itertools.chain.from_iterable(rows_from(first, values, size) for first in values)
-    for cid, row in itertools.islice(rows, MOST_WIDTHS):
+    for cid, row in budget.take(rows, MOST_WIDTHS):
         found = [it for it in row if it is not None]
         if 0 <= cid < CIDS and len(found) == size:
             yield cid, found
