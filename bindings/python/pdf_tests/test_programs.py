@@ -170,7 +170,8 @@ class Composite(unittest.TestCase):
         """The codes before the cut stay, and one of no code has the next subtable looked at."""
         rows = b"".join(struct.pack(">LLL", code, code, 1) for code in (0x41, 0x42))
         data = struct.pack(">HHLLL", 12, 0, 40, 0, 2) + rows
-        self.assertEqual([len(_sfnt.glyphs_of(data[:size], Budget())) for size in (40, 39, 28, 16, 9, 0)], [2, 1, 1, 0, 0, 0])
+        for size, codes in [(40, 2), (39, 1), (28, 1), (16, 0), (9, 0), (0, 0)]:
+            self.assertEqual(len(_sfnt.glyphs_of(data[:size], Budget())), codes)
 
     def test_many_programs(self):
         """All fonts of a file together have a limit."""
