@@ -59,12 +59,18 @@ class Source(enum.Enum):
     FONT_PROGRAM = "font program"
     #: The number that a glyph has for a name.
     GLYPH_NUMBER = "glyph number"
+    #: The text that the file gives for marked content with the code (ISO 32000-1, 14.9.4).
+    ACTUAL_TEXT = "ActualText"
     NONE = "none"
 
     @property
     def is_guess(self) -> bool:
         """Whether the file only suggests the text."""
         return self is Source.GLYPH_NUMBER
+
+
+#: The sources of texts that fonts have: all but that of marked content.
+SOURCES_OF_FONTS = [source for source in Source if source is not Source.ACTUAL_TEXT]
 
 
 class Character(NamedTuple):
