@@ -36,7 +36,7 @@ class Counts(unittest.TestCase):
             [(bytes(it.character.code), it.times) for it in font.codes], [(b"A", 3), (b"B", 1), (b"\1", 1)]
         )
         self.assertEqual((digits(font.no_text), font.no_cid, font.outside_codespace), (["01"], [], []))
-        self.assertEqual(list(font.sources), [source.value for source in pdf.Source])
+        self.assertEqual(list(font.sources), [it.value for it in pdf.Source if it is not pdf.Source.ACTUAL_TEXT])
         self.assertEqual(counts(font), {"ToUnicode": 4, "none": 1})
 
     @needs_glyph_list

@@ -80,7 +80,9 @@ class UnicodeCodes(unittest.TestCase):
     def test_only_past_faults(self):
         file = File()
         file.show(b"/F 9 Tf <0041> Tj", F=wide(file, to_unicode=CIDS, CIDToGIDMap=file.stream(bytes(2))))
-        self.assertEqual(file.text(), "?")
+        self.assertEqual(file.text(), "A")
+        [character] = pdf.characters(file.pdf.pages[0], lenient=False)
+        self.assertEqual((character.text, character.source), (None, Source.NONE))
 
     @needs_resources
     def test_before_the_collection(self):

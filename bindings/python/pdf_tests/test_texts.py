@@ -6,7 +6,7 @@ from unittest import mock
 from pikepdf import Array, Dictionary, Name
 
 from hayro_cmap import Code, pdf
-from hayro_cmap.pdf import Source, _content, _encodings, _fonts, _glyphs
+from hayro_cmap.pdf import Source, _encodings, _fonts, _glyphs, _interpreter
 
 from made import BAD, GOOD, WIDE, File, needs_glyph_list, needs_resources, showing
 
@@ -70,7 +70,7 @@ class Contents(unittest.TestCase):
 
     def test_too_much(self):
         file = showing(b"A", GOOD, b"/F 9 Tf (%b) Tj (A) Tj (A) Tj")
-        with mock.patch.object(_content, "MOST_STEPS", 2):
+        with mock.patch.object(_interpreter, "MOST_STEPS", 2):
             report = pdf.check(file.pdf)
         self.assertEqual((report.shown, report.faults), (1, ["a page has more than 2 operators"]))
 
@@ -84,7 +84,7 @@ class Contents(unittest.TestCase):
             form = above
         file.page.Resources.XObject.X = form
         file.show(b"/X Do")
-        with mock.patch.object(_content, "MOST_STEPS", 10_000):
+        with mock.patch.object(_interpreter, "MOST_STEPS", 10_000):
             report = pdf.check(file.pdf)
         self.assertLess(report.shown, 10_000)
         self.assertEqual(report.faults, ["a page has more than 10,000 operators"])
@@ -116,11 +116,11 @@ class Sources(unittest.TestCase):
         )
 
     def test_faults(self):
-        """A CMap with faults gives no text, unless they are read past."""
+        """The faults of a CMap are read past, unless that isn't wanted: then it gives no text."""
         file = showing(b"ABC", BAD)
-        self.assertEqual(file.characters()[0].source is Source.TO_UNICODE, False)
-        lenient = file.font().characters(b"ABC", lenient=True)
-        self.assertEqual([it.source is Source.TO_UNICODE for it in lenient], [True, False, True])
+        strict = pdf.characters(file.pdf.pages[0], lenient=False)
+        self.assertEqual([it.source is Source.TO_UNICODE for it in strict], [False, False, False])
+        self.assertEqual([it.source is Source.TO_UNICODE for it in file.characters()], [True, False, True])
 
     @needs_resources
     def test_a_predefined_map(self):

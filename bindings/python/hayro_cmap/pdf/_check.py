@@ -8,7 +8,7 @@ import pikepdf
 
 from .. import CMap
 from ._content import Document
-from ._fonts import Character, Font, Source
+from ._fonts import SOURCES_OF_FONTS, Character, Font
 from ._objects import object_number
 
 #: What is found of shown codes, beside the warnings of CMaps.
@@ -74,7 +74,7 @@ class FontReport:
     @property
     def sources(self) -> Dict[str, int]:
         """How many shown codes have a text of each source."""
-        counts = Counter({source.value: 0 for source in Source})
+        counts = Counter({source.value: 0 for source in SOURCES_OF_FONTS})
         for it in self.codes:
             counts[it.character.source.value] += it.times
         return dict(counts)

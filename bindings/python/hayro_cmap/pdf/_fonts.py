@@ -2,6 +2,7 @@
 
 import enum
 import functools
+import re
 from typing import Any, Callable, Dict, Iterable, Iterator, List, NamedTuple, Optional, Tuple
 
 import pikepdf
@@ -44,6 +45,9 @@ COLLECTIONS = {b"Adobe-GB1", b"Adobe-CNS1", b"Adobe-Japan1", b"Adobe-Korea1", b"
 #: The encodings by which codes are CIDs.
 IDENTITIES = ("Identity-H", "Identity-V")
 
+#: A hexadecimal string.
+HEXADECIMAL = re.compile(rb"<([0-9A-Fa-f\0\t\n\f\r ]*)>")
+
 #: How many bytes a code has that is a character.
 UNICODE_BYTES = 2
 
@@ -60,12 +64,18 @@ class Source(enum.Enum):
     FONT_PROGRAM = "font program"
     #: The number that a glyph has for a name.
     GLYPH_NUMBER = "glyph number"
+    #: The text that the file gives for marked content with the code (ISO 32000-1, 14.9.4).
+    ACTUAL_TEXT = "ActualText"
     NONE = "none"
 
     @property
     def is_guess(self) -> bool:
         """Whether the file only suggests the text."""
         return self is Source.GLYPH_NUMBER
+
+
+#: The sources of texts that fonts have: all but that of marked content.
+SOURCES_OF_FONTS = [source for source in Source if source is not Source.ACTUAL_TEXT]
 
 
 class Character(NamedTuple):
@@ -412,6 +422,10 @@ def read_stream(stream: pikepdf.Stream, of: str, streams: Streams, over: Tuple =
         data = streams.decoded(stream)
         below = read_base(stream.get("/UseCMap"), of, streams, (*over, stream.objgen))
         cmap, refusals = CMap.salvage(data, predefined, base=below.lenient, most_faults=MOST_FAULTS + 1)
+        past_faults = cmap
+        read_as = with_whole_characters(data)
+        if read_as != data:
+            past_faults, _ = CMap.salvage(read_as, predefined, base=below.lenient, most_faults=0)
     except (TooLarge, Undecodable) as fault:
         return Read(None, None, [Fault(of, number, None, None, (), str(fault))])
     except NotWritable as fault:
@@ -421,7 +435,28 @@ def read_stream(stream: pikepdf.Stream, of: str, streams: Streams, over: Tuple =
     if len(refusals) > MOST_FAULTS:
         faults.append(Fault(of, number, None, None, (), f"more than {MOST_FAULTS:,} faults"))
     faults += below.faults
-    return Read(None if faults else cmap, cmap, faults)
+    return Read(None if faults else cmap, past_faults, faults)
+
+
+def with_whole_characters(data: bytes) -> bytes:
+    """The same CMap with each text of five digits in UTF-16, if no other string has an odd number of digits.
+
+    Some producers write the number of a character past U+FFFF so, as `<20BB7>`, which is the bytes 20 BB 70.
+    """
+    odd = [it for it in map(digits_of, HEXADECIMAL.findall(data)) if len(it) % 2]
+    if not odd or any(len(it) != 5 or not 0x10000 <= int(it, 16) for it in odd):
+        return data
+    return HEXADECIMAL.sub(lambda found: in_utf_16(digits_of(found[1])) or found[0], data)
+
+
+def digits_of(written: bytes) -> bytes:
+    """The digits of a hexadecimal string, without white space."""
+    return b"".join(written.replace(b"\0", b"").split())
+
+
+def in_utf_16(digits: bytes) -> Optional[bytes]:
+    """The hexadecimal string of the character whose number is written with five digits; None of other numbers."""
+    return b"<%b>" % chr(int(digits, 16)).encode("utf-16-be").hex().encode() if len(digits) == 5 else None
 
 
 def read_base(base: Any, of: str, streams: Streams, over: Tuple) -> Read:

@@ -7,13 +7,13 @@ from pathlib import Path
 from typing import Any, Dict, Iterable, List, Tuple, Union
 
 from ._check import FontReport, Report, share
-from ._fonts import Source
+from ._fonts import SOURCES_OF_FONTS
 
 #: How many codes of a font a chart has that have a text and aren't shown.
 MOST_UNSHOWN = 1 << 16
 
 #: What a code has, as the page numbers it.
-KINDS = [source.value for source in Source]
+KINDS = [source.value for source in SOURCES_OF_FONTS]
 UNSHOWN = len(KINDS)
 
 #: What the page says of each, and its colour: colours that people tell apart who don't tell red from green.

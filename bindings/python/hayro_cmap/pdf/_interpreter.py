@@ -1,0 +1,430 @@
+"""Goes through the content of a page, and gives the strings that it shows, each with its font and its place."""
+
+import math
+from typing import Any, Callable, Dict, Iterator, List, NamedTuple, Optional, Sequence, Tuple, Union
+
+import pikepdf
+
+from ._fonts import Font, resources_of
+from ._measured import Measure, Measured
+from ._objects import bytes_of, dictionary_at, name_at, named, object_number
+from ._scan import Operand, Operator, actual_text, elements_of, last_name, last_string, numbers_in, operators
+
+#: How many operators that text may depend on one page may have, with those of its forms, each as often as it is drawn.
+MOST_STEPS = 5_000_000
+
+#: How many graphics states are kept at a time.
+MOST_SAVED = 1 << 12
+
+#: How deep forms may draw each other.
+MOST_NESTED = 64
+
+#: The six numbers of a matrix (ISO 32000-1, 8.3.4).
+Matrix = Tuple[float, float, float, float, float, float]
+IDENTITY: Matrix = (1.0, 0.0, 0.0, 1.0, 0.0, 0.0)
+
+#: How wide the space between two codes is a blank, in sizes of the font.
+WIDE = 0.17
+BLANK = " "
+
+#: The unit of widths and of the numbers of TJ, in sizes of the font.
+THOUSANDTH = 0.001
+
+
+class Span(NamedTuple):
+    """Marked content with a text of its own (ISO 32000-1, 14.9.4), within so many marks."""
+
+    text: str
+    depth: int
+
+
+class Place(NamedTuple):
+    """Where a string is shown on a page: from the origin of its first code to the end of its last one."""
+
+    x: float
+    y: float
+    end_x: float
+    end_y: float
+    #: The direction of its line, of length 1.
+    along_x: float
+    along_y: float
+    #: The size of its font.
+    size: float
+
+
+class Piece(NamedTuple):
+    """A string that is shown."""
+
+    #: None where no font is chosen, or one that isn't there.
+    font: Optional[Font]
+    string: bytes
+    #: The marked content with a text of its own in which it stands.
+    span: Optional[Span]
+    #: The texts of its codes, whether one is written from right to left, and where it is; only where strings are
+    #: measured. None stands for the place of a string without an extent.
+    texts: Sequence[str] = ()
+    is_right_to_left: bool = False
+    place: Optional[Place] = None
+
+
+class State:
+    """What `q` keeps and `Q` brings back: the matrix of the user space, and how text is shown (ISO 32000-1, 9.3)."""
+
+    __slots__ = ("matrix", "font", "size", "char_space", "word_space", "scale", "leading", "rise")
+
+    def __init__(self, matrix: Matrix, font: Optional[Font] = None, size: float = 0.0, *others: float):
+        self.matrix, self.font, self.size = matrix, font, size
+        self.char_space, self.word_space, self.scale, self.leading, self.rise = others or (0.0, 0.0, 1.0, 0.0, 0.0)
+
+    def copy(self) -> "State":
+        """Another one that is the same."""
+        spaces = self.char_space, self.word_space, self.scale, self.leading, self.rise
+        return State(self.matrix, self.font, self.size, *spaces)
+
+
+class Level:
+    """A content that is gone through, of the page or of a form, and what was there before it."""
+
+    def __init__(self, data: bytes, resources: pikepdf.Dictionary, form: Optional[pikepdf.Stream], run: "Interpreter"):
+        self.operators = operators(data)
+        self.resources = resources
+        self.form = None if form is None else form.objgen
+        self.state, self.saved, self.text, self.span, self.marks = run.state, len(run.saved), run.text, run.span, run.marks
+        self._fonts: Dict[bytes, Any] = {}
+
+    def named(self, kind: str, name: bytes) -> Any:
+        """What the resources name so."""
+        return named(dictionary_at(self.resources, kind), name)
+
+    def font(self, name: bytes, font_of: Callable[[Any], Optional[Font]]) -> Optional[Font]:
+        """The font of a name, looked up once."""
+        if name not in self._fonts:
+            self._fonts[name] = font_of(self.named("/Font", name))
+        return self._fonts[name]
+
+
+class TextMatrix:
+    """Where the next code is shown: the matrix of the line, and how far text has gone from its origin (9.4.2)."""
+
+    __slots__ = ("line", "along", "down")
+
+    def __init__(self, line: Matrix = IDENTITY):
+        self.line, self.along, self.down = line, 0.0, 0.0
+
+    def moved(self, x: float, y: float) -> "TextMatrix":
+        """The one of a line whose origin is moved."""
+        a, b, c, d, e, f = self.line
+        return TextMatrix((a, b, c, d, x * a + y * c + e, x * b + y * d + f))
+
+
+class Interpreter:
+    """How the content of a page, or of an appearance of an annotation, is gone through.
+
+    `content` reads streams and fonts, and takes faults. With `measure` the strings of fonts are measured.
+    """
+
+    def __init__(self, content: Any, measure: Optional[Callable[[Optional[Font]], Measure]] = None):
+        self._content, self._measure = content, measure
+        self._steps_left = MOST_STEPS
+        self._levels: List[Level] = []
+        self.state = State(IDENTITY)
+        self.saved: List[State] = []
+        #: How many states weren't kept, since there were too many.
+        self._unsaved = 0
+        self.text = TextMatrix()
+        self.span: Optional[Span] = None
+        self.marks = 0
+
+    def pieces(
+        self, data: bytes, resources: pikepdf.Dictionary, form: Optional[pikepdf.Stream] = None
+    ) -> Iterator[Piece]:
+        """The strings that a content with these resources shows, in its order."""
+        self._enter(data, resources, form)
+        while self._levels:
+            level = self._levels[-1]
+            for name, numbers, operands in level.operators:
+                action = ACTIONS.get(name)
+                if action is None:
+                    continue
+                self._steps_left -= 1
+                if self._steps_left < 0:
+                    self._content.fault(f"a page has more than {MOST_STEPS:,} operators")
+                    return
+                shown = action(self, numbers, operands)
+                if shown is not None:
+                    yield from shown
+                elif level is not self._levels[-1]:
+                    break
+            else:
+                self._leave()
+
+    def _enter(self, data: bytes, resources: pikepdf.Dictionary, form: Optional[pikepdf.Stream]) -> None:
+        """Begins a content."""
+        self._levels.append(Level(data, resources, form, self))
+        self.state = self.state.copy()
+        if form is not None:
+            self.state.matrix = product(matrix_of(form), self.state.matrix)
+
+    def _leave(self) -> None:
+        """Goes on with the content that drew a form."""
+        level = self._levels.pop()
+        self.state, self.text, self.span, self.marks = level.state, level.text, level.span, level.marks
+        del self.saved[level.saved :]
+
+    def _save(self, *_: Any) -> None:
+        if len(self.saved) < MOST_SAVED:
+            self.saved.append(self.state.copy())
+        else:
+            self._unsaved += 1
+
+    def _restore(self, *_: Any) -> None:
+        if self._unsaved:
+            self._unsaved -= 1
+        elif len(self.saved) > self._levels[-1].saved:
+            self.state = self.saved.pop()
+
+    def _concatenate(self, numbers: bytes, _: Any) -> None:
+        matrix = numbers_in(numbers)[-6:]
+        if len(matrix) == 6:
+            self.state.matrix = product(matrix, self.state.matrix)
+
+    def _choose_state(self, _: bytes, operands: List[Operand]) -> None:
+        """Takes the font that a graphics state chooses (ISO 32000-1, 8.4.5)."""
+        state = self._levels[-1].named("/ExtGState", last_name(operands))
+        pair = state.get("/Font") if isinstance(state, pikepdf.Dictionary) else None
+        if isinstance(pair, pikepdf.Array) and len(pair) == 2:
+            self.state.font = self._content.font(pair[0])
+            self.state.size = number_of(pair[1])
+
+    def _draw(self, _: bytes, operands: List[Operand]) -> None:
+        """Begins a form, which has the font that is chosen, and without resources those of what draws it."""
+        level = self._levels[-1]
+        form = level.named("/XObject", last_name(operands))
+        if not isinstance(form, pikepdf.Stream) or name_at(form, "/Subtype") != "Form":
+            return
+        if len(self._levels) > MOST_NESTED or any(it.form == form.objgen for it in self._levels):
+            self._content.fault(f"form {object_number(form)} is drawn within itself, or too deep")
+            return
+        self._enter(
+            self._content.of_form(form),
+            resources_of(form) if form.get("/Resources") is not None else level.resources,
+            form,
+        )
+
+    def _begin_text(self, *_: Any) -> None:
+        self.text = TextMatrix()
+
+    def _set_text_matrix(self, numbers: bytes, _: Any) -> None:
+        matrix = numbers_in(numbers)[-6:]
+        if len(matrix) == 6:
+            self.text = TextMatrix(tuple(matrix))
+
+    def _move(self, numbers: bytes, _: Any) -> None:
+        x, y = pair_in(numbers)
+        self.text = self.text.moved(x, y)
+
+    def _move_and_lead(self, numbers: bytes, _: Any) -> None:
+        x, y = pair_in(numbers)
+        self.state.leading = -y
+        self.text = self.text.moved(x, y)
+
+    def _next_line(self, *_: Any) -> None:
+        self.text = self.text.moved(0.0, -self.state.leading)
+
+    def _choose_font(self, numbers: bytes, operands: List[Operand]) -> None:
+        self.state.font = self._levels[-1].font(last_name(operands), self._content.font)
+        self.state.size = last_in(numbers)
+
+    def _set_char_space(self, numbers: bytes, _: Any) -> None:
+        self.state.char_space = last_in(numbers)
+
+    def _set_word_space(self, numbers: bytes, _: Any) -> None:
+        self.state.word_space = last_in(numbers)
+
+    def _set_scale(self, numbers: bytes, _: Any) -> None:
+        self.state.scale = last_in(numbers) / 100
+
+    def _set_leading(self, numbers: bytes, _: Any) -> None:
+        self.state.leading = last_in(numbers)
+
+    def _set_rise(self, numbers: bytes, _: Any) -> None:
+        self.state.rise = last_in(numbers)
+
+    def _begin_mark(self, _: bytes, operands: List[Operand]) -> None:
+        """Counts marked content, which may have a text of its own."""
+        self.marks += 1
+        if self.span is None and operands:
+            text = self._text_of_mark(operands)
+            self.span = None if text is None else Span(text, self.marks)
+
+    def _text_of_mark(self, operands: List[Operand]) -> Optional[str]:
+        """The text of marked content: of the dictionary that stands there, or of one that the resources name."""
+        text = actual_text(operands)
+        if text is not None or len(operands) != 2:
+            return text
+        properties = self._levels[-1].named("/Properties", last_name(operands))
+        text = properties.get("/ActualText") if isinstance(properties, pikepdf.Dictionary) else None
+        return str(text) if isinstance(text, pikepdf.String) else None
+
+    def _end_mark(self, *_: Any) -> None:
+        self.marks = max(self.marks - 1, 0)
+        if self.span is not None and self.marks < self.span.depth:
+            self.span = None
+
+    def _show(self, _: bytes, operands: List[Operand]) -> List[Piece]:
+        string = last_string(operands)
+        return [] if string is None else self._shown([string])
+
+    def _show_elements(self, _: bytes, operands: List[Operand]) -> List[Piece]:
+        return self._shown(elements_of(operands))
+
+    def _show_on_next_line(self, numbers: bytes, operands: List[Operand]) -> List[Piece]:
+        self._next_line()
+        return self._show(numbers, operands)
+
+    def _show_with_spaces(self, numbers: bytes, operands: List[Operand]) -> List[Piece]:
+        kind_and_numbers = operands[-2:-1]
+        spaces = numbers_in(kind_and_numbers[0][1]) if kind_and_numbers else []
+        if len(spaces) >= 2:
+            self.state.word_space, self.state.char_space = spaces[-2:]
+        return self._show_on_next_line(numbers, operands)
+
+    def _shown(self, elements: List[Union[bytes, float]]) -> List[Piece]:
+        """The strings of these elements, of which numbers move the next string."""
+        font, span = self.state.font, self.span
+        if self._measure is None:
+            return [Piece(font, it, span) for it in elements if isinstance(it, bytes)]
+        measure = self._measure(font)
+        frame = Frame(self.state, self.text, measure.is_vertical)
+        pieces = []
+        for it in elements:
+            if isinstance(it, bytes):
+                found = measure.of(it)
+                place = frame.show(found)
+                texts = [found.texts[0], BLANK, found.texts[1]] if frame.is_spaced(found) else found.texts
+                pieces.append(Piece(font, it, span, texts, found.is_right_to_left, place))
+            else:
+                frame.move(it)
+        frame.leave(self.text)
+        return pieces
+
+
+class Frame:
+    """The space in which the strings of one operator are shown."""
+
+    def __init__(self, state: State, text: TextMatrix, is_vertical: bool):
+        a, b, c, d, e, f = product(text.line, state.matrix)
+        rise = state.rise
+        self._is_vertical = is_vertical
+        if is_vertical:
+            self._gone, unit, unit_x, unit_y = text.down, 1.0, c, d
+            e, f = e + text.along * a, f + text.along * b
+        else:
+            self._gone, unit, unit_x, unit_y = text.along, state.scale, a, b
+            e, f = e + text.down * c, f + text.down * d
+        self._x, self._y, self._unit_x, self._unit_y = e + rise * c, f + rise * d, unit_x, unit_y
+        self._em = state.size * THOUSANDTH * unit
+        self._char_space, self._word_space = state.char_space * unit, state.word_space * unit
+        self._is_wide = state.char_space > WIDE * state.size
+        length = math.hypot(unit_x, unit_y)
+        sign = math.copysign(1.0, state.size * unit) * (-1.0 if is_vertical else 1.0)
+        self._size = abs(state.size) * math.hypot(c, d)
+        self._along = (sign * unit_x / length, sign * unit_y / length) if length > 0 else None
+
+    def move(self, number: float) -> None:
+        """Moves the next string back by thousandths of the size of the font."""
+        self._gone -= number * self._em
+
+    def show(self, string: Measured) -> Optional[Place]:
+        """The place of a string."""
+        start, codes = self._gone, len(string.texts)
+        end = start + string.width * self._em + codes * self._char_space + string.spaces * self._word_space
+        self._gone = end
+        if self._along is None or self._size == 0.0:
+            return None
+        if self.is_spaced(string):
+            end -= self._char_space
+        x, y, unit_x, unit_y = self._x, self._y, self._unit_x, self._unit_y
+        return Place(
+            x + start * unit_x,
+            y + start * unit_y,
+            x + end * unit_x,
+            y + end * unit_y,
+            self._along[0],
+            self._along[1],
+            self._size,
+        )
+
+    def is_spaced(self, string: Measured) -> bool:
+        """Whether a string is the last letter of a word and the first one of another: two codes with a wide space between
+        them. More codes are letters that are spaced out."""
+        return self._is_wide and len(string.texts) == 2
+
+    def leave(self, text: TextMatrix) -> None:
+        """Lets the text go on after these strings."""
+        if self._is_vertical:
+            text.down = self._gone
+        else:
+            text.along = self._gone
+
+
+#: What is done for each operator.
+ACTIONS: Dict[bytes, Callable[[Interpreter, bytes, List[Operand]], Optional[List[Piece]]]] = {
+    b"TJ": Interpreter._show_elements,
+    b"Tj": Interpreter._show,
+    b"'": Interpreter._show_on_next_line,
+    b'"': Interpreter._show_with_spaces,
+    b"Td": Interpreter._move,
+    b"TD": Interpreter._move_and_lead,
+    b"Tm": Interpreter._set_text_matrix,
+    b"T*": Interpreter._next_line,
+    b"BT": Interpreter._begin_text,
+    b"Tf": Interpreter._choose_font,
+    b"Tc": Interpreter._set_char_space,
+    b"Tw": Interpreter._set_word_space,
+    b"Tz": Interpreter._set_scale,
+    b"TL": Interpreter._set_leading,
+    b"Ts": Interpreter._set_rise,
+    b"BMC": Interpreter._begin_mark,
+    b"BDC": Interpreter._begin_mark,
+    b"EMC": Interpreter._end_mark,
+    b"q": Interpreter._save,
+    b"Q": Interpreter._restore,
+    b"cm": Interpreter._concatenate,
+    b"gs": Interpreter._choose_state,
+    b"Do": Interpreter._draw,
+}
+
+
+def product(first: Sequence[float], second: Matrix) -> Matrix:
+    """The matrix that is applied as the first one and then the second one (ISO 32000-1, 8.3.4)."""
+    a, b, c, d, e, f = first
+    g, h, i, j, k, l = second
+    return a * g + b * i, a * h + b * j, c * g + d * i, c * h + d * j, e * g + f * i + k, e * h + f * j + l
+
+
+def matrix_of(form: pikepdf.Stream) -> Matrix:
+    """The matrix of a form (ISO 32000-1, 8.10.2)."""
+    listed = form.get("/Matrix")
+    numbers = [number_of(it) for it in list(listed)[:6]] if isinstance(listed, pikepdf.Array) else []
+    return tuple(numbers) if len(numbers) == 6 else IDENTITY
+
+
+def number_of(value: Any) -> float:
+    """A number of a PDF file; 0 for anything else."""
+    try:
+        return float(value)
+    except (TypeError, ValueError):
+        return 0.0
+
+
+def pair_in(numbers: bytes) -> Tuple[float, float]:
+    """The last two numbers; 0 for missing ones."""
+    *_, x, y = 0.0, 0.0, *numbers_in(numbers)
+    return x, y
+
+
+def last_in(numbers: bytes) -> float:
+    """The last number; 0 where there is none."""
+    *_, last = 0.0, *numbers_in(numbers)
+    return last

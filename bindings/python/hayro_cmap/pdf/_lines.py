@@ -1,0 +1,281 @@
+"""Lines and words of the strings that a page shows, by where they are shown.
+
+The order is that of the content. Strings are on one line as long as the next one begins near the line of the one
+before, and a gap between two that is wide for their size is a space. Text from right to left that is shown from left to
+right is turned round.
+"""
+
+import enum
+import unicodedata
+from typing import Iterable, Iterator, List, NamedTuple, Optional, Sequence, Tuple
+
+from ._interpreter import BLANK, WIDE, Piece, Place
+from ._measured import is_right_to_left
+
+#: How far from the line a string may begin that is on it, as one that is raised, in sizes of the smaller font.
+RAISED = 0.7
+
+#: How far back a string may begin that goes on with the one before, as an accent does, in sizes of the font.
+BACK = 0.5
+
+#: How far apart strings may be that are shown one after another from right to left.
+FAR = 3.0
+
+#: By how much two directions may differ that are taken as one: the cosine of the angle between them.
+SAME_DIRECTION = 0.95
+
+#: How far a character is below the one before in vertical text that is shown with a font for horizontal text.
+BELOW = (0.9, 1.15)
+
+#: How far before the end of an accent, or of a letter, the other one begins that is shown over it.
+OVER = (0.15, 1.0)
+
+#: Accents that take a place of their own, and the marks that are combined with letters.
+COMBINING = {
+    "`": "\u0300",
+    "\u00b4": "\u0301",
+    "\u02c6": "\u0302",
+    "^": "\u0302",
+    "\u02dc": "\u0303",
+    "~": "\u0303",
+    "\u00af": "\u0304",
+    "\u02d8": "\u0306",
+    "\u02d9": "\u0307",
+    "\u00a8": "\u0308",
+    "\u02da": "\u030a",
+    "\u02dd": "\u030b",
+    "\u02c7": "\u030c",
+    "\u00b8": "\u0327",
+    "\u02db": "\u0328",
+}
+
+#: Letters under an accent, and what they are without.
+DOTLESS = {"\u0131": "i", "\u0237": "j"}
+
+#: What ends a sentence or a part of one.
+ENDS = ".,:;!?\u060c\u061b\u061f\u06d4"
+
+#: What stands between strings.
+NOTHING, LINE_END = "", "\n"
+
+#: How a text is written: from right to left, from left to right, as a number, which is so also within text from right to
+#: left, or as the texts around it.
+RIGHT, LEFT, NUMBER, NEUTRAL = "right", "left", "number", "neutral"
+
+
+class Flow(enum.Enum):
+    """How a string goes on with the one before on its line: after it, left of it, or elsewhere."""
+
+    AFTER = "after"
+    LEFT = "left"
+    ELSEWHERE = "elsewhere"
+
+
+class Gap(NamedTuple):
+    """What is between two strings."""
+
+    separator: str
+    flow: Flow = Flow.AFTER
+
+
+def gap(before: Piece, piece: Piece, flow: Flow = Flow.AFTER) -> Gap:
+    """What is between a string and the one that is shown after it; `flow` is how the first one went on."""
+    first, second = before.place, piece.place
+    if first is None or second is None or is_below(before, piece):
+        return Gap(NOTHING)
+    size = max(first.size, second.size)
+    along, across = distance(first, first.end_x, first.end_y, second.x, second.y)
+    if first.along_x * second.along_x + first.along_y * second.along_y < SAME_DIRECTION:
+        return Gap(NOTHING if max(abs(along), abs(across)) < BACK * size else LINE_END)
+    if abs(across) > RAISED * min(first.size, second.size):
+        return Gap(LINE_END)
+    if flow is Flow.LEFT or before.is_right_to_left or piece.is_right_to_left:
+        left, _ = distance(first, second.end_x, second.end_y, first.x, first.y)
+        if left < FAR * size and (abs(left) < abs(along) or flow is Flow.LEFT and left == along):
+            return Gap(BLANK if left > WIDE * size else NOTHING, Flow.LEFT)
+    if along < -BACK * size:
+        return Gap(LINE_END)
+    return Gap(BLANK if along > WIDE * size else NOTHING, Flow.AFTER if along < FAR * size else Flow.ELSEWHERE)
+
+
+def distance(line: Place, x: float, y: float, other_x: float, other_y: float) -> Tuple[float, float]:
+    """How far another point is from a point, along a line and across it."""
+    right, up = other_x - x, other_y - y
+    return right * line.along_x + up * line.along_y, up * line.along_x - right * line.along_y
+
+
+def is_mark_on(before: Piece, piece: Piece) -> bool:
+    """Whether a string has nothing but marks that are combined with a letter, shown near the string before."""
+    first, second = before.place, piece.place
+    if first is None or second is None or not all(map(unicodedata.combining, text_of(piece))) or not text_of(piece):
+        return False
+    along, across = distance(first, first.end_x, first.end_y, second.x, second.y)
+    return max(abs(along), abs(across)) < max(first.size, second.size)
+
+
+def overlaps(before: Piece, piece: Piece) -> bool:
+    """Whether a string begins above the last code of the one before."""
+    first, second = before.place, piece.place
+    if first is None or second is None:
+        return False
+    along, across = distance(first, first.end_x, first.end_y, second.x, second.y)
+    size = min(first.size, second.size)
+    return -OVER[1] * size < along < -OVER[0] * size and abs(across) < size
+
+
+def is_below(before: Piece, piece: Piece) -> bool:
+    """Whether two characters as wide as high stand one below the other, as in vertical text."""
+    first, second = before.place, piece.place
+    if first is None or second is None or len(before.texts) != 1 or len(piece.texts) != 1:
+        return False
+    along, across = distance(first, first.x, first.y, second.x, second.y)
+    size = max(first.size, second.size)
+    return (
+        BELOW[0] * size <= -across <= BELOW[1] * size
+        and abs(along) < BACK * size
+        and is_wide(text_of(before))
+        and is_wide(text_of(piece))
+    )
+
+
+def is_wide(text: str) -> bool:
+    """Whether a text begins with a character that is as wide as high (Unicode Standard Annex 11)."""
+    return unicodedata.east_asian_width(text[:1] or " ") in "WF"
+
+
+def text_of(piece: Piece) -> str:
+    """The text of a string."""
+    return piece.span.text if piece.span is not None else "".join(piece.texts)
+
+
+class Part(NamedTuple):
+    """What a line has of a string."""
+
+    gap: Gap
+    texts: Sequence[str]
+
+
+class Lines:
+    """Takes strings one after another, and gives the lines that they make."""
+
+    def __init__(self) -> None:
+        self._before: Optional[Piece] = None
+        self._parts: List[Part] = []
+        self._has_right_to_left = False
+
+    def add(self, piece: Piece) -> Optional[str]:
+        """Takes a string, and gives the line before it if it begins another one."""
+        before, line = self._before, None
+        if before is None:
+            self._put(Gap(NOTHING), piece)
+        elif piece.span is not None and piece.span is before.span:
+            # its text stands there already
+            self._before = piece
+        else:
+            found = gap(before, piece, self._parts[-1].gap.flow)
+            if is_mark_on(before, piece):
+                self._put(found._replace(separator=NOTHING), piece)
+                # the next string goes on with the one before the mark
+                self._before = before
+            elif overlaps(before, piece) and self._accents(piece):
+                self._before = piece
+            else:
+                line = self.end() if found.separator == LINE_END else None
+                self._put(found, piece)
+        return line
+
+    def _put(self, found: Gap, piece: Piece) -> None:
+        """Puts a string to the end of the line."""
+        texts = piece.texts if piece.span is None else [piece.span.text]
+        self._parts.append(Part(found, texts))
+        self._has_right_to_left |= piece.is_right_to_left or piece.span is not None and is_right_to_left(texts[0])
+        self._before = piece
+
+    def _accents(self, piece: Piece) -> bool:
+        """Puts a string to the end of the line that begins above an accent, or is one above a letter, with the letter
+        that has the accent. False where that isn't so."""
+        last = self._parts[-1]
+        if piece.span is not None or not piece.texts or not last.texts:
+            return False
+        for accent, letter in [(last.texts[-1], piece.texts[0]), (piece.texts[0], last.texts[-1])]:
+            if accent in COMBINING and letter.isalpha():
+                accented = unicodedata.normalize("NFC", DOTLESS.get(letter, letter) + COMBINING[accent])
+                self._parts[-1] = last._replace(texts=[*last.texts[:-1], accented, *piece.texts[1:]])
+                return True
+        return False
+
+    def end(self) -> Optional[str]:
+        """The line that the strings so far make; None where it is blank."""
+        parts, self._parts, self._before = self._parts, [], None
+        is_turned, self._has_right_to_left = self._has_right_to_left, False
+        line = "".join(turned(parts) if is_turned else units_of(parts))
+        return line if line.strip() else None
+
+
+def units_of(parts: Iterable[Part]) -> Iterator[str]:
+    """The texts of the codes of a line, with a blank for a gap that isn't beside one."""
+    last = BLANK
+    for (separator, _), texts in parts:
+        if separator == BLANK and last[-1:] != BLANK and next(iter(texts), "")[:1] != BLANK:
+            yield BLANK
+        yield from texts
+        last = texts[-1] if texts else last
+
+
+def turned(parts: List[Part]) -> Iterator[str]:
+    """The texts of a line with text from right to left, in the order in which they are read.
+
+    Strings that are shown one left of the other stand in this order; what is shown from left to right is turned round.
+    """
+    starts = [index for index, part in enumerate(parts) if part.gap.flow is not Flow.AFTER]
+    rows = [list(units_of(parts[start:end])) for start, end in zip([0, *starts], [*starts, len(parts)])]
+    is_base = is_from_right_to_left([unit for row in rows for unit in row if not unit.isspace()])
+    for index, row in enumerate(rows):
+        if index > 0 and parts[starts[index - 1]].gap.separator == BLANK:
+            yield BLANK
+        if is_base:
+            row = turned_round(row)
+        else:
+            for run in runs(row, (RIGHT,), LEFT):
+                row[run] = turned_round(row[run])
+        yield from row
+
+
+def is_from_right_to_left(units: List[str]) -> bool:
+    """Whether a line is read from right to left, whose texts are shown in this order: whether more texts are so. But no
+    line begins with what ends a sentence."""
+    for end, is_base in [(units[:1], True), (units[-1:], False)]:
+        if end and end[0] in ENDS:
+            return is_base
+    classes = [class_of(unit) for unit in units]
+    return classes.count(RIGHT) > classes.count(LEFT)
+
+
+def turned_round(units: List[str]) -> List[str]:
+    """Texts that are shown from left to right and read from right to left, as they are read: the last one first, but
+    those that are written from left to right in their order."""
+    found = units[::-1]
+    for run in runs(found, (LEFT, NUMBER), RIGHT):
+        found[run] = found[run][::-1]
+    return found
+
+
+def runs(units: Sequence[str], kinds: Sequence[str], other: str) -> List[slice]:
+    """Where texts of these kinds stand, each as far as none of the other kind comes between."""
+    found: List[slice] = []
+    is_open = False
+    for index, kind in enumerate(map(class_of, units)):
+        if kind in kinds:
+            found.append(slice(found.pop().start if is_open else index, index + 1))
+            is_open = True
+        elif kind == other:
+            is_open = False
+    return found
+
+
+def class_of(text: str) -> str:
+    """How a text is written (Unicode Standard Annex 9, 3.2)."""
+    classes = set(map(unicodedata.bidirectional, text))
+    if classes & {"R", "AL"}:
+        return RIGHT
+    return LEFT if "L" in classes else NUMBER if classes & {"EN", "AN"} else NEUTRAL

@@ -1,0 +1,39 @@
+"""How the streams of ToUnicode CMaps are read."""
+
+import unittest
+
+from hayro_cmap import pdf
+
+from made import showing
+
+RANGES = b"1 begincodespacerange <00> <FF> endcodespacerange "
+
+
+class FiveDigits(unittest.TestCase):
+    """Texts of five digits, which some producers write for characters past U+FFFF."""
+
+    def text(self, entries, string=b"\1\2", **options):
+        file = showing(string, RANGES + b"beginbfchar %b endbfchar" % entries)
+        return "".join(it.text or "?" for it in pdf.characters(file.pdf.pages[0], **options))
+
+    def test_they_are_the_number_of_a_character(self):
+        self.assertEqual(self.text(b"<01> <20BB7> <02> <0062>"), "\U00020bb7b")
+        self.assertEqual(self.text(b"<01> <1F 600> <02> <0062>"), "\U0001f600b")
+
+    def test_they_are_bytes_where_faults_are_not_read_past(self):
+        """An odd digit is the high one of a byte: 20 BB 70, of which the first byte is a unit."""
+        self.assertEqual(self.text(b"<01> <20BB7> <02> <0062>", lenient=False), " \ubb70b")
+
+    def test_they_are_bytes_beside_other_odd_digits(self):
+        self.assertEqual(self.text(b"<01> <20BB7> <02> <006>"), " \ubb70`")
+        self.assertEqual(self.text(b"<01> <00BB7> <02> <20BB7>"), "\0\ubb70 \ubb70")
+
+    def test_faults_stay_where_they_are(self):
+        file = showing(b"\1\2", RANGES + b"beginbfchar <01> <20BB7> <02> /x endbfchar")
+        [fault] = file.font().to_unicode.faults
+        self.assertEqual(fault.offset, len(RANGES) + len(b"beginbfchar <01> <20BB7> <02> /x"))
+        self.assertEqual(file.text(), "\U00020bb7?")
+
+
+if __name__ == "__main__":
+    unittest.main()
