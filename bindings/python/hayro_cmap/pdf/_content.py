@@ -1,5 +1,6 @@
 """Which strings the pages of a PDF file show, with which fonts, and the lines of text that they make."""
 
+import functools
 from typing import Any, Dict, Iterator, List, NamedTuple, Optional, Tuple
 
 import pikepdf
@@ -11,7 +12,7 @@ from ._fonts import (
     Fonts,
     Source,
     annotations_of,
-    every_font,
+    fonts_of,
     pages_of,
     resources_of,
 )
@@ -160,14 +161,15 @@ class Document(Content):
     """The fonts of a PDF file, and what its pages show."""
 
     def __init__(self, pdf: pikepdf.Pdf, places: bool = False, lenient: bool = True):
-        super().__init__(every_font(pdf), places, lenient)
+        super().__init__(None, places, lenient)
+        self._pdf = pdf
         #: The pages.
         self.pages: List[pikepdf.Page] = pages_of(pdf)
 
-    @property
+    @functools.cached_property
     def fonts(self) -> List[Font]:
-        """The fonts, each once."""
-        return list(self._found.found.values())
+        """The fonts, each once: those of pages, forms, patterns, soft masks, Type 3 fonts, annotations and form fields."""
+        return fonts_of(self._pdf, self._found)
 
 
 def characters(page: pikepdf.Page, lenient: bool = True) -> Iterator[Character]:

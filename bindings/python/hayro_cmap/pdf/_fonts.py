@@ -136,6 +136,7 @@ class Font:
         #: What may still be taken of the programs and the widths of the fonts of the file.
         self.budget = Budget() if budget is None else budget
         self._characters: Dict[Tuple[bool, bool], Dict[Tuple[int, int], Character]] = {}
+        self._extractors: Dict[bool, Extractor] = {}
         #: The numbers of its object, or None where it is written where it is used.
         self.objgen: Optional[Tuple[int, int]] = dictionary.objgen if dictionary.is_indirect else None
         #: "Type0", "Type1", "TrueType" and so on.
@@ -314,9 +315,16 @@ class Font:
             encoding = left if has_ranges else CMap.identity()
         return Extractor(encoding, to_unicode=to_unicode, collection=self.texts_of_cids)
 
-    @functools.cached_property
-    def _extractors(self) -> Dict[bool, Extractor]:
-        return {lenient: self.extractor(lenient) for lenient in (False, True)}
+    def _kept_extractor(self, lenient: bool) -> Extractor:
+        """The same, made once."""
+        if lenient not in self._extractors:
+            self._extractors[lenient] = self.extractor(lenient)
+        return self._extractors[lenient]
+
+    @property
+    def code_length(self) -> Optional[int]:
+        """How many bytes each code has; None where codes have several lengths."""
+        return 1 if not self.is_composite else self._kept_extractor(True)._code_length
 
     def characters(self, string: bytes, lenient: bool = False, guesses: bool = True) -> List[Character]:
         """The codes of a string that is shown with the font, with their texts, also those that are guesses."""
@@ -328,7 +336,7 @@ class Font:
         """What `characters` gives for each of many strings, which takes less time than to ask for each."""
         known = self._characters.setdefault((lenient, guesses), {})
         found = []
-        for characters in self._extractors[lenient].characters_of(strings):
+        for characters in self._kept_extractor(lenient).characters_of(strings):
             row = []
             for code, text in characters:
                 key = code[:2] if not code.cut_short else (code.code, -code.byte_len)
@@ -505,8 +513,9 @@ class Fonts:
             self.found[key] = Font(value, self.streams, self.budget)
         return self.found[key]
 
-    def walk(self, holders: Iterable[pikepdf.Object]) -> None:
-        """Finds those in the resources of pages, forms, patterns, soft masks and Type 3 fonts, each of these once."""
+    def walk(self, holders: Iterable[pikepdf.Object]) -> List[Font]:
+        """The fonts in the resources of pages, forms, patterns, soft masks and Type 3 fonts, each once."""
+        found: Dict[Font, None] = {}
         seen, left = set(), list(holders)
         while left:
             holder = left.pop()
@@ -518,10 +527,12 @@ class Fonts:
             states = [it for it in values(dictionary_at(resources, "/ExtGState")) if isinstance(it, pikepdf.Dictionary)]
             listed = values(dictionary_at(resources, "/Font")) + [font_of_state(state) for state in states]
             fonts = [font for font in map(self.of, listed) if font is not None]
+            found.update(dict.fromkeys(fonts))
             left += [font.dictionary for font in reversed(fonts) if font.subtype == "Type3"]
             groups = [dictionary_at(state, "/SMask").get("/G") for state in states]
             drawn = [it for kind in ("/XObject", "/Pattern") for it in values(dictionary_at(resources, kind))]
             left += [form for form in drawn + groups if isinstance(form, pikepdf.Stream)]
+        return list(found)
 
 
 def font_of_state(state: pikepdf.Dictionary) -> Optional[pikepdf.Object]:
@@ -564,16 +575,15 @@ def appearances_of(page: pikepdf.Object) -> Iterator[pikepdf.Stream]:
             yield from (it for it in states if isinstance(it, pikepdf.Stream))
 
 
-def every_font(pdf: pikepdf.Pdf, streams: Optional[Streams] = None) -> Fonts:
-    """The fonts of a file: those of pages, forms, patterns, soft masks, Type 3 fonts, annotations and form fields."""
-    found = Fonts(streams)
+def fonts_of(pdf: pikepdf.Pdf, found: Fonts) -> List[Font]:
+    """The fonts of a file, each once: those of pages, forms, patterns, soft masks, Type 3 fonts, annotations and form
+    fields."""
     holders = [form for page in pages_of(pdf) for form in (*appearances_of(page.obj), page.obj)]
     fields = dictionary_at(dictionary_at(pdf.Root, "/AcroForm"), "/DR")
-    found.walk([pikepdf.Dictionary(Resources=fields), *reversed(holders)])
-    return found
+    return found.walk([pikepdf.Dictionary(Resources=fields), *reversed(holders)])
 
 
 def fonts(pdf: pikepdf.Pdf) -> List[Font]:
     """The fonts of a file, each once: those of pages, forms, patterns, soft masks, Type 3 fonts, annotations and form
     fields."""
-    return list(every_font(pdf).found.values())
+    return fonts_of(pdf, Fonts())

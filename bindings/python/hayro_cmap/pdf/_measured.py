@@ -20,13 +20,19 @@ RIGHT_TO_LEFT = ("R", "AL")
 MOST_KEPT = 1 << 20
 
 
+class Glyph(NamedTuple):
+    """A code that is shown: its text, how far it reaches, and whether it is a space of one byte."""
+
+    text: str
+    width: float
+    is_space: bool
+
+
 class Measured(NamedTuple):
     """A string that a font shows."""
 
     #: The text of each code, U+FFFD for one without a text.
     texts: List[str]
-    #: These one after another.
-    text: str
     #: How far the codes reach together, in thousandths of the size of the font, along the line.
     width: float
     #: How many codes are spaces of one byte.
@@ -44,12 +50,14 @@ def is_right_to_left(text: str) -> bool:
 
 
 class Measure:
-    """Measures the strings of a font, each once as long as there aren't many."""
+    """Measures the strings of a font. Each code is looked up once, as long as there aren't many strings."""
 
     def __init__(self, font: Optional[Font], characters: Callable[[Font, bytes], List[Character]]):
         self._font, self._characters = font, characters
         self._widths = None if font is None else font.widths
+        self._length = 1 if font is None else font.code_length
         self._known: Dict[bytes, Measured] = {}
+        self._glyphs: Dict[bytes, Glyph] = {}
         self._kept = 0
         #: Whether its lines go down the page.
         self.is_vertical = self._widths is not None and self._widths.is_vertical
@@ -58,28 +66,42 @@ class Measure:
         """What a string of the font shows."""
         found = self._known.get(string)
         if found is None:
-            found = self._measured(string)
-            self._kept += len(string) + len(found.text)
+            found = measured(self._glyphs_of(string))
+            self._kept += len(string) + sum(map(len, found.texts))
             if self._kept > MOST_KEPT:
                 self._known.clear()
+                self._glyphs.clear()
                 self._kept = 0
             self._known[string] = found
         return found
 
-    def _measured(self, string: bytes) -> Measured:
-        if self._font is None or self._widths is None:
-            text = REPLACEMENT * len(string)
-            return Measured(list(text), text, 0.0, 0, False)
-        characters = self._characters(self._font, string)
-        texts = [REPLACEMENT if it.text is None else it.text for it in characters]
-        text = "".join(texts)
-        codes = [it.code for it in characters]
-        width = sum(map(self._advance_of, codes))
-        spaces = sum(code.code == SPACE and code.byte_len == 1 for code in codes)
-        return Measured(texts, text, width, spaces, is_right_to_left(text))
+    def _glyphs_of(self, string: bytes) -> List[Glyph]:
+        """What the codes of a string are."""
+        length, known = self._length, self._glyphs
+        if length is None or len(string) % length:
+            return self._looked_up(string)
+        codes = [string[at : at + length] for at in range(0, len(string), length)]
+        unknown = [code for code in dict.fromkeys(codes) if code not in known]
+        if unknown:
+            known.update(zip(unknown, self._looked_up(b"".join(unknown))))
+        return [known[code] for code in codes]
 
-    def _advance_of(self, code: Code) -> float:
-        """How far a code reaches along the line."""
+    def _looked_up(self, string: bytes) -> List[Glyph]:
+        """What the codes of a string are, as the font says; each byte is one where there is no font."""
+        if self._font is None:
+            return [Glyph(REPLACEMENT, 0.0, False)] * len(string)
+        return [self._glyph(*it[1:3]) for it in self._characters(self._font, string)]
+
+    def _glyph(self, code: Code, text: Optional[str]) -> Glyph:
+        """What a code with this text is."""
         if self.is_vertical:
-            return self._widths.vertical(code.cid).advance
-        return self._widths.advance(code.code, code.cid)
+            width = self._widths.vertical(code.cid).advance
+        else:
+            width = self._widths.advance(code.code, code.cid)
+        return Glyph(REPLACEMENT if text is None else text, width, code.code == SPACE and code.byte_len == 1)
+
+
+def measured(glyphs: List[Glyph]) -> Measured:
+    """What the codes of a string are together."""
+    texts, widths, spaces = zip(*glyphs) if glyphs else ((), (), ())
+    return Measured(list(texts), sum(widths), sum(spaces), is_right_to_left("".join(texts)))
