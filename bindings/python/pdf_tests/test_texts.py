@@ -152,7 +152,7 @@ class Sources(unittest.TestCase):
         for file, string in [(simple, b"A"), (composite, b"\0A")]:
             font = file.font()
             font.__dict__["to_unicode"] = _fonts.Read(EmptyTexts(), EmptyTexts(), [])
-            font.__dict__["_extractors"] = {False: EmptyTexts(len(string))}
+            font.__dict__["_extractors"] = dict.fromkeys((True, False), EmptyTexts(len(string)))
             self.assertEqual([it[2:] for it in font.characters(string)], [("", Source.TO_UNICODE)])
 
     @needs_resources

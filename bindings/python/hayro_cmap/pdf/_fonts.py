@@ -326,12 +326,16 @@ class Font:
         """How many bytes each code has; None where codes have several lengths."""
         return 1 if not self.is_composite else self._kept_extractor(True)._code_length
 
-    def characters(self, string: bytes, lenient: bool = False, guesses: bool = True) -> List[Character]:
-        """The codes of a string that is shown with the font, with their texts, also those that are guesses."""
+    def characters(self, string: bytes, lenient: bool = True, guesses: bool = True) -> List[Character]:
+        """The codes of a string that is shown with the font, with their texts.
+
+        A ToUnicode CMap with faults gives the texts that it has apart from them, and none with `lenient=False`. With
+        `guesses=False` a text that is a guess is left out.
+        """
         return self.characters_of([string], lenient, guesses)[0]
 
     def characters_of(
-        self, strings: Iterable[bytes], lenient: bool = False, guesses: bool = True
+        self, strings: Iterable[bytes], lenient: bool = True, guesses: bool = True
     ) -> List[List[Character]]:
         """What `characters` gives for each of many strings, which takes less time than to ask for each."""
         known = self._characters.setdefault((lenient, guesses), {})
