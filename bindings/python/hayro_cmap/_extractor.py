@@ -59,7 +59,7 @@ class Extractor:
             if not isinstance(cmap, (CMap, type(None))):
                 raise TypeError(f"an Extractor is made of CMaps, and not of {type(cmap).__name__}")
         if encoding is None:
-            encoding = CMap.parse(SINGLE_BYTES)
+            encoding = single_bytes()
         if collection is None and (files is not None or bundle is not None):
             collection = encoding.collection(files, bundle)
         maps = (encoding, to_unicode, collection)
@@ -180,6 +180,12 @@ class Extractor:
 
     def __reduce__(self):
         raise TypeError("the extractor can't be copied or pickled: another is made of the same maps")
+
+
+@functools.lru_cache(maxsize=1)
+def single_bytes() -> CMap:
+    """The encoding of a simple font."""
+    return CMap.parse(SINGLE_BYTES)
 
 
 def character_of(code: bytes, has_text: int, text: bytes) -> Character:

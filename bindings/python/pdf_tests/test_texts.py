@@ -182,8 +182,8 @@ class EmptyTexts:
     def text(self, code):
         return ""
 
-    def characters_of(self, strings):
-        return [[(Code(0x41, self.length, 34, True, False), "")] for string in strings]
+    def characters(self, string):
+        return [(Code(0x41, self.length, 34, True, False), "")]
 
 
 @needs_glyph_list

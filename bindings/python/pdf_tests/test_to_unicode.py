@@ -18,7 +18,6 @@ class FiveDigits(unittest.TestCase):
 
     def test_they_are_the_number_of_a_character(self):
         self.assertEqual(self.text(b"<01> <20BB7> <02> <0062>"), "\U00020bb7b")
-        self.assertEqual(self.text(b"<01> <1F 600> <02> <0062>"), "\U0001f600b")
 
     def test_they_are_bytes_where_faults_are_not_read_past(self):
         """An odd digit is the high one of a byte: 20 BB 70, of which the first byte is a unit."""

@@ -45,7 +45,8 @@ COLLECTIONS = {b"Adobe-GB1", b"Adobe-CNS1", b"Adobe-Japan1", b"Adobe-Korea1", b"
 #: The encodings by which codes are CIDs.
 IDENTITIES = ("Identity-H", "Identity-V")
 
-#: A hexadecimal string.
+#: Five digits without others beside them, and a hexadecimal string.
+FIVE_DIGITS = re.compile(rb"(?<![0-9A-Fa-f])[0-9A-Fa-f]{5}(?![0-9A-Fa-f])")
 HEXADECIMAL = re.compile(rb"<([0-9A-Fa-f\0\t\n\f\r ]*)>")
 
 #: How many bytes a code has that is a character.
@@ -329,25 +330,27 @@ class Font:
     def characters(self, string: bytes, lenient: bool = True, guesses: bool = True) -> List[Character]:
         """The codes of a string that is shown with the font, with their texts.
 
-        A ToUnicode CMap with faults gives the texts that it has apart from them, and none with `lenient=False`. With
-        `guesses=False` a text that is a guess is left out.
+        The faults of a ToUnicode CMap are read past where `lenient` is so. Without `guesses` a text whose source is one
+        is None.
         """
-        return self.characters_of([string], lenient, guesses)[0]
+        return self._found(self._kept_extractor(lenient).characters(string), lenient, guesses)
 
     def characters_of(
         self, strings: Iterable[bytes], lenient: bool = True, guesses: bool = True
     ) -> List[List[Character]]:
         """What `characters` gives for each of many strings, which takes less time than to ask for each."""
+        rows = self._kept_extractor(lenient).characters_of(strings)
+        return [self._found(row, lenient, guesses) for row in rows]
+
+    def _found(self, characters: Iterable[Tuple[Code, Optional[str]]], lenient: bool, guesses: bool) -> List[Character]:
+        """The characters of the font for those of its extractor, each made once."""
         known = self._characters.setdefault((lenient, guesses), {})
         found = []
-        for characters in self._kept_extractor(lenient).characters_of(strings):
-            row = []
-            for code, text in characters:
-                key = code[:2] if not code.cut_short else (code.code, -code.byte_len)
-                if key not in known:
-                    known[key] = self._character(code, text, lenient, guesses)
-                row.append(known[key])
-            found.append(row)
+        for code, text in characters:
+            key = code[:2] if not code.cut_short else (code.code, -code.byte_len)
+            if key not in known:
+                known[key] = self._character(code, text, lenient, guesses)
+            found.append(known[key])
         return found
 
     def _character(self, code: Code, text: Optional[str], lenient: bool, guesses: bool) -> Character:
@@ -362,7 +365,8 @@ class Font:
     def _text_of_composite(self, code: Code, text: Optional[str], lenient: bool) -> Tuple[Optional[str], Source]:
         """The text of a code of a composite font, of which an extractor gives this text."""
         to_unicode = self.to_unicode.lenient if lenient else self.to_unicode.strict
-        if text is not None and to_unicode is not None and to_unicode.text(code.code) is not None:
+        is_own = self.texts_of_cids is None or to_unicode is not None and to_unicode.text(code.code) is not None
+        if text is not None and is_own:
             return text, Source.TO_UNICODE
         if lenient and code.byte_len == UNICODE_BYTES and self.has_unicode_codes and is_character(code.code):
             return chr(code.code), Source.UNICODE_CODES
@@ -433,11 +437,13 @@ def read_stream(stream: pikepdf.Stream, of: str, streams: Streams, over: Tuple =
     try:
         data = streams.decoded(stream)
         below = read_base(stream.get("/UseCMap"), of, streams, (*over, stream.objgen))
-        cmap, refusals = CMap.salvage(data, predefined, base=below.lenient, most_faults=MOST_FAULTS + 1)
+        # without the operator no file is used, and none is looked for
+        files = predefined if b"usecmap" in data else None
+        cmap, refusals = CMap.salvage(data, files, base=below.lenient, most_faults=MOST_FAULTS + 1)
         past_faults = cmap
         read_as = with_whole_characters(data)
         if read_as != data:
-            past_faults, _ = CMap.salvage(read_as, predefined, base=below.lenient, most_faults=0)
+            past_faults, _ = CMap.salvage(read_as, files, base=below.lenient, most_faults=0)
     except (TooLarge, Undecodable) as fault:
         return Read(None, None, [Fault(of, number, None, None, (), str(fault))])
     except NotWritable as fault:
@@ -455,6 +461,8 @@ def with_whole_characters(data: bytes) -> bytes:
 
     Some producers write the number of a character past U+FFFF so, as `<20BB7>`, which is the bytes 20 BB 70.
     """
+    if FIVE_DIGITS.search(data) is None:
+        return data
     odd = [it for it in map(digits_of, HEXADECIMAL.findall(data)) if len(it) % 2]
     if not odd or any(len(it) != 5 or not 0x10000 <= int(it, 16) for it in odd):
         return data

@@ -4,8 +4,9 @@ Widths are in thousandths of a unit of text space, before the size of the font. 
 """
 
 import itertools
+import re
 from decimal import Decimal
-from typing import TYPE_CHECKING, Any, Dict, Iterator, List, NamedTuple, Optional, Tuple
+from typing import TYPE_CHECKING, Any, Dict, Iterator, List, NamedTuple, Optional, Tuple, Union
 
 import pikepdf
 
@@ -52,7 +53,13 @@ LARGEST = 1e6
 NO_CID = -1
 
 #: A CID with its numbers of an array, and None for what is no number.
-Row = Tuple[int, List[Optional[float]]]
+Row = Tuple[int, List[Any]]
+
+#: What an array of numbers has: a number, an array, or None for anything else.
+Value = Union[None, float, List[Any]]
+
+#: An array as it is written, if it has nothing but direct numbers and arrays of these.
+PLAIN = re.compile(rb"\[[-+.0-9\[\] ]*\]")
 
 #: The widths of standard fonts, by what their names have: of the first row all of whose words a name has.
 STANDARD_FONTS: List[Tuple[Tuple[str, ...], Dict[str, int]]] = [
@@ -205,43 +212,68 @@ def verticals_of_cids(descendant: pikepdf.Dictionary, budget: Budget) -> Dict[in
 
 def rows_of(listed: Any, size: int, budget: Budget) -> Iterator[Tuple[int, List[float]]]:
     """The CIDs of an array W or W2, each with its numbers, of which it has `size`."""
-    values = iter(items(listed))
+    values = iter(values_of(listed))
     rows = itertools.chain.from_iterable(rows_from(first, values, size) for first in values)
     for cid, row in budget.take(rows, MOST_WIDTHS):
-        found = [it for it in row if it is not None]
+        found = list(filter(is_width, row))
         if 0 <= cid < CIDS and len(found) == size:
             yield cid, found
 
 
-def rows_from(first: Any, values: Iterator[Any], size: int) -> Iterator[Row]:
+def rows_from(first: Value, values: Iterator[Value], size: int) -> Iterator[Row]:
     """The CIDs of what stands in an array W or W2 from its first CID on.
 
     An array follows, with the numbers of CID after CID, or the last CID, and the numbers of all up to it.
     """
     cid, second = cid_of(first), next(values, None)
-    if isinstance(second, pikepdf.Array):
-        found = numbers(second)
+    if isinstance(second, list):
+        found = second
         return ((cid + rank, found[at : at + size]) for rank, at in enumerate(range(0, len(found), size)))
-    row = [number(it) for it in itertools.islice(values, size)]
+    row = list(itertools.islice(values, size))
     return ((it, row) for it in range(max(cid, 0), min(cid_of(second), CIDS - 1) + 1))
 
 
-def cid_of(value: Any) -> int:
+def cid_of(value: Value) -> int:
     """The CID of a number; one that is none for anything else."""
-    return int(min(value, CIDS)) if is_number(value) else NO_CID
+    return int(min(value, CIDS)) if isinstance(value, float) else NO_CID
 
 
-def items(listed: Any) -> List[Any]:
-    """What an array has; nothing for anything else."""
+def values_of(listed: Any) -> List[Value]:
+    """What an array has, with None for what is neither a number nor an array; nothing for anything else."""
     try:
-        return list(listed) if isinstance(listed, pikepdf.Array) else []
+        if not isinstance(listed, pikepdf.Array):
+            return []
+        written = listed.unparse()
+        if PLAIN.fullmatch(written):
+            return values_in(written[1:-1])
+        return [values_of(it) if isinstance(it, pikepdf.Array) else number(it) for it in list(listed)]
     except MALFORMED:
         return []
 
 
+def values_in(written: bytes) -> List[Value]:
+    """The numbers and arrays of numbers that are written here. To make objects of each takes longer."""
+    found: List[Value] = []
+    inner = found
+    for token in written.replace(b"[", b" [ ").replace(b"]", b" ] ").split():
+        if token == b"[":
+            inner = []
+            found.append(inner)
+        elif token == b"]":
+            inner = found
+        else:
+            inner.append(float(token))
+    return found
+
+
 def numbers(listed: Any) -> List[Optional[float]]:
-    """The numbers of an array, with None for what is none."""
-    return [number(it) for it in items(listed)]
+    """The numbers of an array, with None for what is none, or is too large."""
+    return [it if is_width(it) else None for it in values_of(listed)]
+
+
+def is_width(value: Value) -> bool:
+    """Whether a value is a number that isn't too large."""
+    return isinstance(value, float) and abs(value) <= LARGEST
 
 
 def pair_of(listed: Any, usual: Tuple[float, float]) -> Tuple[float, float]:
@@ -254,15 +286,11 @@ def pair_of(listed: Any, usual: Tuple[float, float]) -> Tuple[float, float]:
 
 
 def number_at(dictionary: pikepdf.Object, key: str, default: float) -> float:
-    """The number at a key; the default where there is none."""
+    """The number at a key; the default where there is none, or one that is too large."""
     found = number(dictionary.get(key))
-    return default if found is None else found
+    return found if is_width(found) else default
 
 
 def number(value: Any) -> Optional[float]:
-    """A number of a PDF file; None for what is none, or is too large."""
-    return float(value) if is_number(value) and abs(value) <= LARGEST else None
-
-
-def is_number(value: Any) -> bool:
-    return isinstance(value, (int, Decimal)) and not isinstance(value, bool)
+    """A number of a PDF file; None for anything else."""
+    return float(value) if isinstance(value, (int, Decimal)) and not isinstance(value, bool) else None
