@@ -15,10 +15,12 @@ A text is that of the font's ToUnicode CMap; else of a composite font that of th
 collection, and of a simple font that of the name of the glyph, if fontTools is there (ISO 32000-1, 9.10.2).
 """
 
+from .._missing import missing
+
 try:
     import pikepdf  # noqa: F401
 except ImportError as fault:
-    raise ImportError('pikepdf is missing: pip install "hayro-cmap[pdf]", or Debian\'s python3-pikepdf') from fault
+    raise missing('pikepdf is missing: pip install "hayro-cmap[pdf]", or Debian\'s python3-pikepdf') from fault
 
 from ._check import CMapWarning, FontReport, Report, ShownCode, check
 from ._content import Content, Document, Shown, characters
