@@ -1,6 +1,8 @@
 """What a file may take: time, and memory. What ends the command, and what is left then."""
 
+import contextlib
 import os
+import resource
 import signal
 import subprocess
 import unittest
@@ -17,20 +19,16 @@ from made import GOOD, File, showing
 TOO_LONG = "it can't be read: it takes more than {} seconds of processor time"
 TOO_MUCH = "it can't be read: it takes too much memory"
 
+#: What is said where the code of pikepdf ends its process for lack of memory.
+CRASHED = "the process that read it ended, by signal 11"
+
 
 def busy(seconds):
     """Takes so much processor time."""
     deadline = _limits.Deadline(seconds)
-    with_exception(deadline)
-
-
-def with_exception(deadline):
-    """Goes on until the time is over."""
-    try:
+    with contextlib.suppress(_limits.TooLong):
         while True:
             deadline.check()
-    except _limits.TooLong:
-        return
 
 
 class Deadlines(Folder):
@@ -123,19 +121,25 @@ class Memory(Folder):
     def test_small_files_that_grow(self):
         """Each is read, or said to take too much memory, and the file after it is read."""
         bombs = {
-            "operators.pdf": b"/F 9 Tf " + b"(A) Tj " * 2_000_000,
-            "states.pdf": b"q " * 5_000_000,
-            "strings.pdf": b"/F 9 Tf [" + b"(A) " * 2_000_000 + b"] TJ",
+            "operators.pdf": b"/F 9 Tf " + b"(A) Tj " * 1_000_000,
+            "states.pdf": b"q " * 2_000_000,
+            "strings.pdf": b"/F 9 Tf [" + b"(A) " * 1_000_000 + b"] TJ",
             "string.pdf": b"/F 9 Tf (" + b"A" * 20_000_000 + b") Tj",
         }
         for name, content in bombs.items():
             file = File()
             file.show(content, F=file.simple(GOOD)).saved(self.path(name), compress_streams=True)
         paths = [str(self.path(name)) for bomb in bombs for name in (bomb, "good.pdf")]
-        for command in ["check", "text"]:
-            results = list(_many.by_processes(paths, _many.Task(command, {}, 400 << 20), jobs=1))
-            self.assertEqual([it.status for it in results[1::2]], [0] * len(bombs))
-            self.assertTrue({it.fault for it in results[::2]} <= {TOO_MUCH, None}, results[::2])
+        results = list(_many.by_processes(paths, _many.Task("check", {}, 300 << 20), jobs=2))
+        self.assertEqual([it.status for it in results[1::2]], [0] * len(bombs))
+        self.assertTrue({it.fault for it in results[::2]} <= {TOO_MUCH, CRASHED, None}, results[::2])
+
+    def test_a_limit_ends_with_its_block(self):
+        before = resource.getrlimit(resource.RLIMIT_AS)
+        self.assertEqual(self.command("repair", "bad.pdf", "out.pdf")[0], 0)
+        self.assertEqual(resource.getrlimit(resource.RLIMIT_AS), before)
+        with _many.limited_memory(1 << 40):
+            self.assertEqual(resource.getrlimit(resource.RLIMIT_AS)[0], 1 << 40)
 
     def test_a_result_that_cannot_be_sent(self):
         [end, other] = _many.multiprocessing.Pipe()

@@ -19,7 +19,7 @@ from . import HAS_GLYPH_LIST
 from ._check import OF_SHOWN_CODES, share
 from ._commands import Result, run
 from ._limits import MEMORY, SECONDS
-from ._many import Task, by_dask, by_processes, json_lines, limit_memory
+from ._many import Task, by_dask, by_processes, json_lines, limited_memory
 from ._paths import STANDARD_INPUT, listed, readable, reason_of
 from ._report import try_report, write_report
 from ._warning_names import WARNINGS
@@ -143,8 +143,7 @@ def results(asked: argparse.Namespace, paths: List[str]) -> Iterator[Result]:
     options = options_of(asked)
     if asked.command == "repair":
         # another process, that an interrupt ends, would leave a part of OUT
-        limit_memory(MEMORY)
-        return (run(path, "repair", options, of_pages) for path in paths)
+        return repaired(asked.input, options)
     if asked.dask:
         done = by_dask(paths, asked.command, options, asked.dask)
     else:
@@ -152,6 +151,12 @@ def results(asked: argparse.Namespace, paths: List[str]) -> Iterator[Result]:
         task = Task(asked.command, options, MEMORY, of_pages if len(paths) == 1 else iter)
         done = by_processes(paths, task, asked.jobs)
     return progress(done, len(paths), "files")
+
+
+def repaired(path: str, options: dict) -> Iterator[Result]:
+    """What is said of a file that is repaired."""
+    with limited_memory(MEMORY):
+        yield run(path, "repair", options, of_pages)
 
 
 def put(result: Result, asked: argparse.Namespace) -> None:

@@ -1,6 +1,7 @@
 """Many PDF files: one after another, over processes of this machine, or over a cluster of Dask."""
 
 import asyncio
+import contextlib
 import errno
 import functools
 import itertools
@@ -48,13 +49,20 @@ def json_lines(result: Result) -> Iterator[str]:
         yield json.dumps({"file": readable(result.path), **it}, sort_keys=True, separators=(",", ":"))
 
 
-def limit_memory(most: Optional[int]) -> None:
-    """Lets this process have so many bytes of memory: what asks for more is a MemoryError."""
-    if most is not None:
-        import resource
+@contextlib.contextmanager
+def limited_memory(most: Optional[int]) -> Iterator[None]:
+    """Lets this process have so many bytes of memory in the block: what asks for more is a MemoryError."""
+    if most is None:
+        yield
+        return
+    import resource
 
-        _, hard = resource.getrlimit(resource.RLIMIT_AS)
-        resource.setrlimit(resource.RLIMIT_AS, (most if hard < 0 else min(most, hard), hard))
+    soft, hard = resource.getrlimit(resource.RLIMIT_AS)
+    resource.setrlimit(resource.RLIMIT_AS, (most if hard < 0 else min(most, hard), hard))
+    try:
+        yield
+    finally:
+        resource.setrlimit(resource.RLIMIT_AS, (soft, hard))
 
 
 class Task(NamedTuple):
@@ -129,15 +137,12 @@ def serve(end: connection.Connection, task: Task, parent: int) -> None:
     """Does a task with the files that come through a pipe, until the other process is gone."""
     # an interrupt is for that one, which then ends this one
     signal.signal(signal.SIGINT, signal.SIG_IGN)
-    limit_memory(task.memory)
-    try:
+    with limited_memory(task.memory), contextlib.suppress(EOFError, OSError):
         while True:
             while not end.poll(SECONDS_TO_LOOK):
                 if os.getppid() != parent:
                     return
             give(end, task, end.recv())
-    except (EOFError, OSError):
-        return
 
 
 def give(end: connection.Connection, task: Task, path: str) -> None:
