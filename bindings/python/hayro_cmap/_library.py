@@ -20,7 +20,7 @@ from ctypes import (
 )
 from pathlib import Path
 
-from ._missing import missing
+from ._run import missing
 
 #: The name of the library in a system: its number is the first one of the project's version.
 SONAME = "libhayro_cmap.so.1"

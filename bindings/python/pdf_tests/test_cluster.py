@@ -4,6 +4,7 @@ import contextlib
 import importlib.util
 import io
 import json
+import logging
 import os
 import signal
 import socket
@@ -106,6 +107,7 @@ class Cluster(unittest.TestCase):
 class NoScheduler(unittest.TestCase):
     def test_addresses_where_none_is(self):
         """They are said in a line, and soon."""
+        self.addCleanup(logging.disable, logging.NOTSET)
         free = socket.socket()
         self.addCleanup(free.close)
         free.bind(("127.0.0.1", 0))

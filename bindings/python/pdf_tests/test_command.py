@@ -70,7 +70,7 @@ class Command(Folder):
             out, rf"bad.pdf: font \d+: ToUnicode \d+: byte {AT_FAULT} \(line 1\): the text of a code was expected"
         )
         self.assertRegex(out.splitlines()[-1], r"of 3 shown codes have a text; 1 of 1 fonts refused$")
-        self.assertIn("none.pdf: it can't be read", fault)
+        self.assertIn("none.pdf: it can't be read: unable to find trailer dictionary", fault)
         self.assertRegex(
             fault.splitlines()[-1],
             "^hayro_cmap: 1 file checked, 1 refused, 1 can't be read; .* of 3 shown codes have a text$",

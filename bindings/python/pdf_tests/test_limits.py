@@ -178,6 +178,29 @@ class Interrupted(Folder):
         for words in [["check"], ["check", "--jobs", "3"], ["text", "--jobs", "2"], ["fonts"]]:
             self.assertEqual(self.interrupted(*words, "--files-from", "list"), (130, b""))
 
+    def test_an_early_interrupt(self):
+        """The program ends while its modules are imported."""
+        self.path("pikepdf.py").write_text("import os, signal\nos.kill(os.getpid(), signal.SIGINT)\n")
+        places = os.pathsep.join([str(self.folder), os.environ.get("PYTHONPATH", "")])
+        ran = self.program("check", "good.pdf", env={**os.environ, "PYTHONPATH": places})
+        self.assertEqual((ran.returncode, ran.stdout, ran.stderr), (-signal.SIGINT, b"", b""))
+
+    def test_an_interrupt_while_a_process_starts(self):
+        """It is for the process that starts it."""
+        path, started = str(self.path("good.pdf")), []
+        start = _many.multiprocessing.Process.start
+
+        def interrupted(process):
+            signal.raise_signal(signal.SIGINT)
+            start(process)
+            self.addCleanup(process.kill)
+            started.append(process)
+
+        with mock.patch.object(_many.multiprocessing.Process, "start", interrupted):
+            with self.assertRaises(KeyboardInterrupt):
+                list(_many.by_processes([path], _many.Task("check", {}, None), jobs=1))
+        self.assertEqual(len(started), 1)
+
     def test_an_interrupt_leaves_reports(self):
         self.path("list").write_text("good.pdf\n" * 20_000)
         self.command("check", "--html", str(self.path("r.html")), "good.pdf")

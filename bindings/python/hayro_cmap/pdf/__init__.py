@@ -15,8 +15,9 @@ A text is that of the font's ToUnicode CMap; else of a composite font that of th
 collection, and of a simple font that of the name of the glyph, if fontTools is there (ISO 32000-1, 9.10.2).
 """
 
-from .._missing import missing
+from .._run import end_on_interrupt, missing
 
+end_on_interrupt()
 try:
     import pikepdf  # noqa: F401
 except ImportError as fault:

@@ -9,12 +9,14 @@ reader of the output goes away.
 import argparse
 import contextlib
 import errno
+import logging
 import os
 import sys
 from typing import Iterator, List
 
 from .. import __version__
 from .._escaped import escaped
+from .._run import raise_on_interrupt
 from . import HAS_GLYPH_LIST
 from ._check import OF_SHOWN_CODES, share
 from ._commands import Result, run
@@ -144,7 +146,9 @@ def results(asked: argparse.Namespace, paths: List[str]) -> Iterator[Result]:
     if asked.command == "repair":
         # another process, that an interrupt ends, would leave a part of OUT
         return repaired(asked.input, options)
-    if asked.dask:
+    if asked.dask is not None:
+        # what Dask prints of a scheduler that goes away would stand between the lines
+        logging.disable(logging.CRITICAL)
         done = by_dask(paths, asked.command, options, asked.dask)
     else:
         # what ends a process, as a lack of memory may, costs the file that it reads
@@ -224,6 +228,7 @@ def main(words=None) -> int:
         # else what is printed there would stand in the output
         sys.stderr = open(os.devnull, "w")
     try:
+        raise_on_interrupt()
         asked = arguments(words)
         if sys.stdout is None:
             raise OSError(errno.EBADF, os.strerror(errno.EBADF), "the standard output")

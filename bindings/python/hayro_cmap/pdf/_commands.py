@@ -75,7 +75,9 @@ def run(path: str, command: str, options: Dict[str, Any], progress: Progress = i
     except pikepdf.PasswordError:
         return unread(path, f"it can't be read {'by this' if password else 'without its'} password")
     except Exception as fault:  # pikepdf raises many kinds over objects that are none, and the run goes on
-        return unread(path, f"it can't be read: {NO_MEMORY if is_memory(fault) else reason_of(fault)}")
+        # pikepdf begins with what it reads from
+        reason = reason_of(fault).replace(f"<_io.BufferedReader name={path!r}>: ", "")
+        return unread(path, f"it can't be read: {NO_MEMORY if is_memory(fault) else reason}")
 
 
 def unread(path: str, fault: str) -> Result:

@@ -96,7 +96,12 @@ class Worker:
         self._task = task
         self.end, other = multiprocessing.Pipe()
         self.process = multiprocessing.Process(target=serve, args=(other, task, os.getpid()), daemon=True)
-        self.process.start()
+        # an interrupt is for this process, which then ends the other one
+        before = signal.pthread_sigmask(signal.SIG_BLOCK, [signal.SIGINT])
+        try:
+            self.process.start()
+        finally:
+            signal.pthread_sigmask(signal.SIG_SETMASK, before)
         # with no other end in this process, that of the worker is the only one
         other.close()
         #: The index and the path of the file that it has.
@@ -135,8 +140,6 @@ class Worker:
 
 def serve(end: connection.Connection, task: Task, parent: int) -> None:
     """Does a task with the files that come through a pipe, until the other process is gone."""
-    # an interrupt is for that one, which then ends this one
-    signal.signal(signal.SIGINT, signal.SIG_IGN)
     with limited_memory(task.memory), contextlib.suppress(EOFError, OSError):
         while True:
             while not end.poll(SECONDS_TO_LOOK):
@@ -220,17 +223,21 @@ def by_dask(paths: Sequence[str], command: str, options: Dict[str, Any], address
     Each worker has the package, the library and pikepdf, and the files under the same paths. A worker that dies costs
     no file: another one takes what it had. A file over which one worker after another dies, is one that can't be read.
     """
-    with client_of(address) as client:
-        suspects = []
-        for path, result in submitted(client, paths, command, options):
-            if result is None:
-                suspects.append(path)
-            else:
-                yield result
-        # some only stood beside a file that ends workers: each is tried alone
-        for path in suspects:
-            for _, result in submitted(client, [path], command, options):
-                yield unread(path, "the workers that read it ended") if result is None else result
+    client = client_of(address)
+    try:
+        with client:
+            suspects = []
+            for path, result in submitted(client, paths, command, options):
+                if result is None:
+                    suspects.append(path)
+                else:
+                    yield result
+            # some only stood beside a file that ends workers: each is tried alone
+            for path in suspects:
+                for _, result in submitted(client, [path], command, options):
+                    yield unread(path, "the workers that read it ended") if result is None else result
+    except OSError as fault:
+        raise OSError(errno.ECONNRESET, f"the scheduler went away: {reason_of(fault)}", address) from fault
 
 
 def client_of(address: str):
