@@ -20,6 +20,8 @@ from ctypes import (
 )
 from pathlib import Path
 
+from ._run import missing
+
 #: The name of the library in a system: its number is the first one of the project's version.
 SONAME = "libhayro_cmap.so.1"
 
@@ -219,7 +221,7 @@ def load():
             return typed(ctypes.CDLL(path))
         except (OSError, AttributeError) as fault:
             faults.append(str(fault))
-    raise ImportError("the C library of hayro_cmap isn't found: " + "; ".join(faults))
+    raise missing("the C library of hayro_cmap isn't found: " + "; ".join(faults))
 
 
 def typed(library):

@@ -1,12 +1,24 @@
 """`python3 -m hayro_cmap.pdf --dask`, over a scheduler and two workers on this machine."""
 
+import contextlib
 import importlib.util
+import io
 import json
+import logging
+import os
+import signal
+import socket
 import subprocess
 import sys
 import tempfile
 import unittest
 from pathlib import Path
+from unittest import mock
+
+import pikepdf
+
+from hayro_cmap.pdf import __main__ as command
+from hayro_cmap.pdf import _many
 
 from made import BAD, GOOD, showing
 
@@ -56,6 +68,29 @@ class Cluster(unittest.TestCase):
         self.assertEqual((sorted(out.splitlines()), there.returncode), (sorted(lines.splitlines()), 2))
         self.assertEqual(errors.splitlines()[-1], faults.splitlines()[-1])
 
+    def test_limits_and_options(self):
+        """They hold on the workers, for each file. A path needn't be UTF-8."""
+        name = os.path.join(os.fsencode(self.folder), b"a\xff.pdf")
+        showing(b"A", GOOD).saved(self.folder / "locked.pdf", encryption=pikepdf.Encryption(owner="o", user="u"))
+        showing(b"A", GOOD).saved(self.folder / "ascii.pdf")
+        os.rename(self.folder / "ascii.pdf", name)
+        words = ["fonts", "--dask", self.address, "--password", "u", name, str(self.folder / "locked.pdf")]
+        with self.command(*words) as ran:
+            out, errors = ran.communicate()
+        self.assertEqual((ran.returncode, errors, len(out.splitlines())), (0, "", 2))
+        self.assertIn("a\\xFF.pdf: font ", out)
+        options = {"seconds": 0}
+        [result] = _many.by_dask([os.fsdecode(name)], "check", options, self.address)
+        self.assertEqual(result.fault, "it can't be read: it takes more than 0 seconds of processor time")
+
+    def test_an_interrupt(self):
+        paths = [showing(b"AB", GOOD).saved(self.folder / "good.pdf")] * 1000
+        with self.command("fonts", "--dask", self.address, *paths) as ran:
+            ran.stdout.readline()
+            ran.send_signal(signal.SIGINT)
+            ran.stdout.read()
+            self.assertEqual((ran.stderr.read(), ran.wait()), ("", 130))
+
     def test_when_a_worker_dies(self):
         """The other one reads its files. This test comes last, by its name."""
         paths = [showing(b"AB", GOOD).saved(self.folder / f"{number}.pdf") for number in range(FILES)]
@@ -66,6 +101,23 @@ class Cluster(unittest.TestCase):
         objects = [it for it in map(json.loads, lines) if "pages" in it]
         self.assertEqual((sorted(it["file"] for it in objects), ran.returncode), (sorted(paths), 0))
         self.assertEqual({it["shown"] for it in objects}, {2})
+
+
+@unittest.skipUnless(importlib.util.find_spec("distributed"), "Debian's package python3-distributed isn't installed")
+class NoScheduler(unittest.TestCase):
+    def test_addresses_where_none_is(self):
+        """They are said in a line, and soon."""
+        self.addCleanup(logging.disable, logging.NOTSET)
+        free = socket.socket()
+        self.addCleanup(free.close)
+        free.bind(("127.0.0.1", 0))
+        with mock.patch.object(_many, "TO_ANSWER", 0.5):
+            for address in ["garbage", "127.0.0.1", "none://x:1", f"127.0.0.1:{free.getsockname()[1]}", "x y:z"]:
+                fault = io.StringIO()
+                with contextlib.redirect_stderr(fault), contextlib.redirect_stdout(io.TextIOWrapper(io.BytesIO())):
+                    status = command.main(["check", "-q", "--dask", address, "a.pdf"])
+                self.assertEqual((status, len(fault.getvalue().splitlines())), (2, 1), fault.getvalue())
+                self.assertIn(f"hayro_cmap: {address}: the scheduler can't be reached: ", fault.getvalue())
 
 
 if __name__ == "__main__":

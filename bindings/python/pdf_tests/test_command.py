@@ -1,14 +1,11 @@
 """`python3 -m hayro_cmap.pdf`, over files and over many of them."""
 
-import contextlib
-import html.parser
-import io
 import json
 import os
+import re
 import signal
 import subprocess
 import sys
-import tempfile
 import unittest
 from pathlib import Path
 from unittest import mock
@@ -16,12 +13,15 @@ from unittest import mock
 import pikepdf
 from pikepdf import Array, Dictionary
 
+import hayro_cmap
 from hayro_cmap import pdf
-from hayro_cmap.pdf import __main__ as command
-from hayro_cmap.pdf import _commands, _many, _report
+from hayro_cmap.pdf import _commands, _many
 
+from folder import PROGRAM, Folder
 from made import AT_FAULT, BAD, GOOD, File, needs_glyph_list, showing, with_many_codes
-from tests.steps import limited
+
+#: Where the command `cmap` has the names of its warnings.
+LINT = Path(__file__).resolve().parents[3] / "crates" / "cmap_lint" / "src" / "warning.rt"
 
 
 def ends_its_process(path, *arguments, **options):
@@ -29,31 +29,6 @@ def ends_its_process(path, *arguments, **options):
     if Path(path).name == "kills.pdf":
         os.kill(os.getpid(), signal.SIGKILL)
     return _commands.run(path, *arguments, **options)
-
-
-class Folder(unittest.TestCase):
-    def setUp(self):
-        folder = tempfile.TemporaryDirectory()
-        self.addCleanup(folder.cleanup)
-        self.folder = Path(folder.name)
-        showing(b"AB", GOOD).saved(self.path("good.pdf"))
-        showing(b"A\1C", BAD).saved(self.path("bad.pdf"))
-        self.path("none.pdf").write_bytes(b"no PDF file")
-
-    def path(self, name):
-        return self.folder / name
-
-    def command(self, *words):
-        """The status, the output and the errors of the command. Names of PDF files are those of the folder."""
-        words = [str(self.path(word)) if word.endswith(".pdf") else word for word in words]
-        out, fault = io.TextIOWrapper(io.BytesIO(), encoding="utf-8"), io.StringIO()
-        with contextlib.redirect_stdout(out), contextlib.redirect_stderr(fault):
-            try:
-                status = command.main(words)
-            except SystemExit as ended:
-                status = ended.code
-        out.flush()
-        return status, out.buffer.getvalue().decode(), fault.getvalue()
 
 
 class Command(Folder):
@@ -77,13 +52,25 @@ class Command(Folder):
         self.assertEqual(self.command("check", "textless.pdf")[0], 0)
         self.assertEqual(self.command("check", "--deny", "no-text", "textless.pdf")[0], 1)
 
+    def test_names_for_deny(self):
+        """They are those of `cmap check --lint`, of shown codes, and all; any other is refused with a list of them."""
+        source = LINT.read_text(encoding="utf-8")
+        listed = re.findall(r'Warning::\w+ => "([a-z-]+)"', source)
+        self.assertEqual(len(listed), 21)
+        for name in [*listed, "no-text", "no-cid", "outside-codespace", "all"]:
+            self.assertEqual(self.command("check", "--deny", name, "good.pdf")[0], 0)
+        for name in ["no-txt", "ALL", ""]:
+            status, out, fault = self.command("check", "--deny", "all", "--deny", name, "good.pdf")
+            self.assertEqual((status, out), (2, ""))
+            self.assertIn("'replacement-character'", fault)
+
     def test_lines(self):
         _, out, fault = self.command("check", "bad.pdf", "none.pdf")
         self.assertRegex(
             out, rf"bad.pdf: font \d+: ToUnicode \d+: byte {AT_FAULT} \(line 1\): the text of a code was expected"
         )
         self.assertRegex(out.splitlines()[-1], r"of 3 shown codes have a text; 1 of 1 fonts refused$")
-        self.assertIn("none.pdf: it can't be read", fault)
+        self.assertIn("none.pdf: it can't be read: unable to find trailer dictionary", fault)
         self.assertRegex(
             fault.splitlines()[-1],
             "^hayro_cmap: 1 file checked, 1 refused, 1 can't be read; .* of 3 shown codes have a text$",
@@ -117,8 +104,46 @@ class Command(Folder):
         [page] = map(json.loads, self.command("text", "--json", "good.pdf")[1].splitlines())
         self.assertEqual((page["page"], page["text"]), (1, "Affi"))
         showing(b"\1\2", BAD.replace(b"<41>", b"<01>").replace(b"<43>", b"<02>")).saved(self.path("faults.pdf"))
-        shown = [self.command("text", *words, "faults.pdf")[1] for words in [[], ["--lenient"]]]
-        self.assertEqual(shown, ["\ufffd\ufffd\n", "AC\n"])
+        shown = [self.command("text", *words, "faults.pdf")[1] for words in [[], ["--lenient"], ["--strict"]]]
+        self.assertEqual(shown, ["AC\n", "AC\n", "\ufffd\ufffd\n"])
+        self.assertEqual(self.command("text", "--strict", "--lenient", "faults.pdf")[0], 2)
+
+    def test_fonts_by_the_numbers_of_their_objects(self):
+        file, made = File(), {}
+        for name in "ABCDEFGHIJKL":
+            made[name] = file.simple(GOOD)
+        # by their names the last one comes first
+        file.show(b"", **{chr(ord("Z") - number): made[name] for number, name in enumerate(made)})
+        file.saved(self.path("many.pdf"))
+        for command, last in [("fonts", None), ("check", -1)]:
+            lines = self.command(command, "many.pdf")[1].splitlines()[:last]
+            numbers = [int(re.search(r": font (\d+)", line)[1]) for line in lines]
+            self.assertEqual((len(numbers), numbers), (12, sorted(numbers)))
+            self.assertGreater(numbers[-1], 9)
+
+    def test_version(self):
+        self.assertEqual(self.command("--version")[:2], (0, f"hayro_cmap {hayro_cmap.__version__}\n"))
+
+    def test_help(self):
+        """It says what each argument is."""
+        for command, arguments in [("check", ["FILE"]), ("text", ["FILE"]), ("repair", ["IN", "OUT"])]:
+            shown = self.command(command, "--help")[1]
+            for argument in arguments:
+                self.assertRegex(shown, rf"(?m)^  {argument} +[a-z]")
+        self.assertIn("no-cid", self.command("check", "--help")[1])
+
+    def test_password(self):
+        locked = pikepdf.Encryption(owner="o", user="u")
+        showing(b"A\1C", BAD).saved(self.path("locked.pdf"), encryption=locked)
+        for words, status in [(["check"], 1), (["fonts"], 0), (["text"], 0), (["check", "--jobs", "2"], 1)]:
+            self.assertEqual(self.command(*words, "locked.pdf")[0], 2)
+            found, out, fault = self.command(*words, "--password", "x", "locked.pdf")
+            self.assertEqual((found, out), (2, ""))
+            self.assertIn("it can't be read by this password", fault)
+            self.assertEqual(self.command(*words, "--password", "u", "locked.pdf", "good.pdf")[0], status)
+        self.assertEqual(self.command("repair", "--password", "u", "locked.pdf", "out.pdf")[0], 0)
+        self.assertEqual(self.command("check", "out.pdf")[0], 2)
+        self.assertEqual(self.command("check", "--password", "u", "out.pdf")[0], 0)
 
     def test_what_controls_a_terminal_is_escaped(self):
         showing(b"A", GOOD.replace(b"<0041>", b"<001B>")).saved(self.path("escape.pdf"))
@@ -130,8 +155,22 @@ class Command(Folder):
         self.assertRegex(out, r"written anew, with texts for 2 codes")
         self.assertRegex(out, rf"lost at ToUnicode \d+: byte {AT_FAULT}")
         self.assertEqual(self.command("check", "out.pdf")[0], 0)
-        self.assertEqual(self.command("repair", "good.pdf", "new.pdf")[1].split(": ")[-1], "nothing to repair\n")
-        self.assertFalse(self.path("new.pdf").exists())
+
+    def test_repair_with_nothing_to_do(self):
+        """The file is copied byte for byte, but not onto itself."""
+        good, new = self.path("good.pdf"), self.path("new.pdf")
+        data, before = good.read_bytes(), good.stat()
+        status, out, _ = self.command("repair", "good.pdf", "new.pdf")
+        self.assertEqual((status, out), (0, f"{good}: nothing to repair, and {new} is a copy\n"))
+        self.assertEqual(new.read_bytes(), data)
+        [done] = map(json.loads, self.command("repair", "--json", "good.pdf", "new.pdf")[1].splitlines())
+        self.assertEqual((done["output"], done["written"]), (str(new), 0))
+        self.path("link.pdf").symlink_to(good)
+        for output in ["good.pdf", "link.pdf"]:
+            status, out, _ = self.command("repair", "good.pdf", output)
+            self.assertEqual((status, out), (0, f"{good}: nothing to repair\n"))
+        self.assertEqual((good.read_bytes(), good.stat()), (data, before))
+        self.assertIn("can't be written", self.command("repair", "good.pdf", "none/new.pdf")[2])
 
     def test_repair_of_a_signed_file(self):
         file = showing(b"A", BAD)
@@ -163,8 +202,10 @@ class Command(Folder):
 
     def test_repair_where_nothing_is_left(self):
         showing(b"A", b"1 beginbfchar <41> (x").saved(self.path("lost.pdf"))
-        self.assertEqual(self.command("repair", "lost.pdf", "out.pdf")[0], 1)
-        self.assertFalse(self.path("out.pdf").exists())
+        status, out, _ = self.command("repair", "lost.pdf", "out.pdf")
+        self.assertEqual(status, 1)
+        self.assertRegex(out.splitlines()[-1], "0 of 1 ToUnicode CMaps with faults are written anew, and .* is a copy$")
+        self.assertEqual(self.path("out.pdf").read_bytes(), self.path("lost.pdf").read_bytes())
 
     def test_files_that_cannot_be_read(self):
         """The run goes on after each."""
@@ -197,67 +238,42 @@ class Command(Folder):
         self.assertTrue(shown.endswith("\r\033[K"), shown)
         self.assertEqual(subprocess.run(words, capture_output=True).stderr, b"")
 
-    def test_without_pikepdf(self):
-        program = "import sys; sys.modules['pikepdf'] = None; import hayro_cmap; import hayro_cmap.pdf"
-        ran = subprocess.run([sys.executable, "-c", program], capture_output=True, text=True)
-        self.assertEqual(ran.returncode, 1)
-        self.assertIn('pip install "hayro-cmap[pdf]"', ran.stderr)
+    def test_where_something_is_missing(self):
+        """A line says what, and a program that imports the package gets an exception."""
+        none = Path(self.folder, "pikepdf.py")
+        none.write_text("raise ImportError")
+        places = os.pathsep.join([str(self.folder), os.environ.get("PYTHONPATH", "")])
+        without_pikepdf, words = {**os.environ, "PYTHONPATH": places}, 'pip install "hayro-cmap[pdf]"'
+        without_library = {**os.environ, "HAYRO_CMAP_LIBRARY": str(self.folder / "none.so")}
+        for environment, said in [(without_pikepdf, words), (without_library, "the C library of hayro_cmap isn't")]:
+            ran = self.program("check", "good.pdf", env=environment, text=True)
+            self.assertEqual((ran.returncode, ran.stdout, len(ran.stderr.splitlines())), (2, "", 1))
+            self.assertIn(said, ran.stderr)
+            program = [sys.executable, "-c", "import hayro_cmap.pdf"]
+            ran = subprocess.run(program, env=environment, capture_output=True, text=True)
+            self.assertEqual(ran.returncode, 1)
+            self.assertRegex(ran.stderr.splitlines()[-1], f"^ImportError: .*{re.escape(said)}")
 
+    def test_output_that_cannot_be_written(self):
+        """It is one line, whatever the program is asked for."""
+        for words in [("check", "good.pdf"), ("text", "good.pdf"), ("fonts", "--jobs", "2", "good.pdf", "bad.pdf")]:
+            with open("/dev/full", "wb") as full:
+                ran = self.program(*words, capture_output=False, stdout=full, stderr=subprocess.PIPE)
+            self.assertEqual(ran.returncode, 2)
+            self.assertEqual(ran.stderr, b"hayro_cmap: the standard output: No space left on device\n")
+            closed = ["sh", "-c", 'exec "$@" >&-', "sh", *PROGRAM, *words]
+            ran = subprocess.run(closed, cwd=self.folder, capture_output=True)
+            self.assertEqual(ran.returncode, 2)
+            self.assertEqual(ran.stderr, b"hayro_cmap: the standard output: Bad file descriptor\n")
 
-class Page(html.parser.HTMLParser):
-    """The data of a page, and how many of its elements there are by their names."""
-
-    def __init__(self):
-        super().__init__()
-        self.data, self.counts, self._is_data = "", {}, False
-
-    def handle_starttag(self, tag, attributes):
-        self.counts[tag] = self.counts.get(tag, 0) + 1
-        self._is_data = dict(attributes).get("id") == "data"
-
-    def handle_data(self, data):
-        if self._is_data:
-            self.data, self._is_data = data, False
-
-
-class Report(Folder):
-    def test_a_chart_for_each_font(self):
-        texts = GOOD.replace(b"<0041>", b"<003C002F007300630072006900700074003E>")
-        showing(b"AA\1", texts).saved(self.path("script.pdf"))
-        report = self.path("report.html")
-        self.command("check", "--html", str(report), "script.pdf", "none.pdf")
-        page = Page()
-        page.feed(report.read_text(encoding="utf-8"))
-        self.assertEqual((page.counts["section"], page.counts["canvas"]), (2, 1))
-        [cells] = json.loads(page.data)
-        # the code, its length, what it has, its CID, its text, and how often it is shown
-        of_none, of_map = map(_report.KINDS.index, ("none", "ToUnicode"))
-        expected = [[1, 1, of_none, None, None, 1], [0x41, 1, of_map, None, "</script>", 2]]
-        self.assertEqual(cells, [*expected, [0x42, 1, _report.UNSHOWN, None, "ffi", 0]])
-        self.assertEqual(len(_report.LEGEND), _report.UNSHOWN + 1)
-
-    def test_many_codes(self):
-        """The chart has some of them, and no step is taken for each."""
-        ranges = b" ".join(b"<0000%02X00> <FFFF%02XFF>" % (row, row) for row in range(0, 256, 2))
-        encoding = b"begincodespacerange <20> <7E> %b endcodespacerange" % ranges
-        file = File()
-        to_unicode = with_many_codes(rows=40, text=b"0000")
-        file.show(b"", F=file.composite(file.stream(encoding), to_unicode=to_unicode))
-        with limited(4_000_000):
-            [chart] = _report.charts_of(pdf.check(file.pdf))
-        self.assertEqual(len(chart["cells"]), 1 << 16)
-
-    def test_a_page_that_cannot_be_written(self):
-        status, out, fault = self.command("check", "--html", str(self.folder / "none" / "r.html"), "good.pdf")
-        self.assertEqual((status, "good.pdf" in out, "r.html" in fault), (2, True, True))
-
-    def test_names_are_escaped(self):
-        file = File()
-        file.show(b"/F 9 Tf (A) Tj", F=file.simple(GOOD, base_font="<b>"))
-        file.saved(self.path("name.pdf"))
-        report = self.path("report.html")
-        self.command("check", "--html", str(report), "name.pdf")
-        self.assertNotIn("<b>", report.read_text(encoding="utf-8"))
+    def test_without_a_standard_error(self):
+        """What is said there doesn't stand in the output."""
+        closed = ["sh", "-c", 'exec "$@" 2>&-', "sh", *PROGRAM, "check", "good.pdf", "none.pdf"]
+        ran = subprocess.run(closed, cwd=self.folder, stdout=subprocess.PIPE)
+        self.assertEqual((ran.returncode, len(ran.stdout.splitlines())), (2, 2))
+        with open("/dev/full", "wb") as full:
+            ran = self.program("check", "good.pdf", "none.pdf", capture_output=False, stdout=-1, stderr=full)
+        self.assertEqual((ran.returncode, len(ran.stdout.splitlines())), (2, 2))
 
 
 class Many(Folder):
@@ -271,7 +287,7 @@ class Many(Folder):
         showing(b"A", GOOD).saved(self.path("kills.pdf"))
         paths = [str(self.path(name)) for name in ["kills.pdf", *self.NAMES, "kills.pdf", *self.NAMES]]
         with mock.patch.object(_many, "run", ends_its_process):
-            found = list(_many.by_processes(paths, "check", {}, jobs=2))
+            found = list(_many.by_processes(paths, _many.Task("check", {}, None), jobs=2))
         self.assertEqual([it.path for it in found], paths)
         killed = [it for it in found if it.path.endswith("kills.pdf")]
         self.assertEqual({it.fault for it in killed}, {"the process that read it ended, by signal 9"})
@@ -279,7 +295,7 @@ class Many(Folder):
 
     def test_a_process_that_ends_without_a_file(self):
         """It costs none."""
-        pool, path = _many.Pool("check", {}, None), str(self.path("good.pdf"))
+        pool, path = _many.Pool(_many.Task("check", {}, None)), str(self.path("good.pdf"))
         self.addCleanup(pool.close)
         for index in range(2):
             pool.begin(index, path)
@@ -288,12 +304,6 @@ class Many(Folder):
             [worker] = pool.idle
             os.kill(worker.process.pid, signal.SIGKILL)
             worker.process.join()
-
-    def test_memory(self):
-        """A process may have so much memory alone, and what asks for more is said of its file."""
-        with mock.patch.object(_commands.pikepdf, "open", lambda path: bytearray(1 << 30)):
-            [result] = _many.by_processes([str(self.path("good.pdf"))], "check", {}, jobs=1, memory=1 << 29)
-        self.assertEqual((result.status, result.fault), (2, "it can't be read: it takes too much memory"))
 
 
 if __name__ == "__main__":

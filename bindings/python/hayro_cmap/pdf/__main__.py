@@ -2,39 +2,52 @@
 
 check says so of each font; fonts lists the fonts; text prints the texts that pages show; repair writes the ToUnicode
 CMaps with faults anew. The status is 0; 1 where a font is refused or what --deny names is found, or where a part of a
-file can't be repaired; 2 where a file can't be read or the arguments are wrong; 141 where the reader of the output goes
-away.
+file can't be repaired; 2 where a file can't be read or the arguments are wrong; 130 after an interrupt; 141 where the
+reader of the output goes away.
 """
 
 import argparse
+import contextlib
+import errno
+import logging
 import os
 import sys
 from typing import Iterator, List
 
+from .. import __version__
 from .._escaped import escaped
+from .._run import raise_on_interrupt
 from . import HAS_GLYPH_LIST
-from ._check import share
-from ._commands import Result, results_of, run
-from ._many import by_dask, by_processes, json_lines, limit_memory
-from ._report import write_report
+from ._check import OF_SHOWN_CODES, share
+from ._commands import Result, run
+from ._limits import MEMORY, SECONDS
+from ._many import Task, by_dask, by_processes, json_lines, limited_memory
+from ._paths import STANDARD_INPUT, listed, readable, reason_of
+from ._report import try_report, write_report
+from ._warning_names import FEW_TEXTS, LEFT_OUT, WARNINGS
 
-#: How many bytes of memory a process may have.
-MEMORY = 4 << 30
+#: What --deny takes.
+DENIABLE = [it for it in dict.fromkeys([*WARNINGS, FEW_TEXTS, *OF_SHOWN_CODES]) if it not in LEFT_OUT] + ["all"]
 
 #: How wide a progress bar is.
 WIDTH = 40
+
+#: The status after an interrupt, and where the reader of the output goes away, as shells have them.
+INTERRUPTED, READER_GONE = 130, 141
 
 
 def progress(over, total: int, what: str):
     """The same, with a bar on the standard error where that is a terminal and the standard output isn't."""
     is_seen = sys.stderr.isatty() and not sys.stdout.isatty()
-    for done, it in enumerate(over):
+    try:
+        for done, it in enumerate(over):
+            if is_seen:
+                full = WIDTH * done // max(total, 1)
+                print(f"\r[{'#' * full:{WIDTH}}] {done} of {total} {what}", end="", file=sys.stderr, flush=True)
+            yield it
+    finally:
         if is_seen:
-            full = WIDTH * done // max(total, 1)
-            print(f"\r[{'#' * full:{WIDTH}}] {done} of {total} {what}", end="", file=sys.stderr, flush=True)
-        yield it
-    if is_seen:
-        print("\r\033[K", end="", file=sys.stderr, flush=True)
+            print("\r\033[K", end="", file=sys.stderr, flush=True)
 
 
 def of_pages(pages):
@@ -42,75 +55,142 @@ def of_pages(pages):
     return progress(pages, len(pages), "pages")
 
 
+def at_least_one(number: str) -> int:
+    """An argument that is a number from 1 on."""
+    value = int(number) if number.isascii() and number.isdigit() else 0
+    if value == 0:
+        raise argparse.ArgumentTypeError(f"not a number from 1 on: {number!r}")
+    return value
+
+
 def arguments(words) -> argparse.Namespace:
     parser = argparse.ArgumentParser(
         prog="python3 -m hayro_cmap.pdf", description=__doc__, formatter_class=argparse.RawDescriptionHelpFormatter
     )
+    parser.add_argument("--version", action="version", version=f"hayro_cmap {__version__}")
     commands = parser.add_subparsers(dest="command", metavar="COMMAND", required=True)
-    every = argparse.ArgumentParser(add_help=False)
-    every.add_argument("--json", action="store_true", help="one JSON object per line")
-    many = argparse.ArgumentParser(add_help=False, parents=[every])
-    many.add_argument("files", metavar="FILE", nargs="+")
-    many.add_argument("--jobs", metavar="N", type=int, default=1, help="how many processes read files")
-    many.add_argument("--dask", metavar="ADDRESS", help="read files on the workers of this scheduler")
-    check = commands.add_parser("check", parents=[many], help="faults of CMaps, and codes without a text")
-    check.add_argument(
-        "--deny", metavar="NAME", action="append", default=[], help="status 1 where this is found, or all"
-    )
+    every, many, read = of_every_command(), of_many_files(), of_reading()
+    check = commands.add_parser("check", parents=[every, many, read], help="faults of CMaps, and codes without a text")
+    named = f"status 1 where this is found: {', '.join(DENIABLE[:-1])}, or all"
+    check.add_argument("--deny", metavar="NAME", action="append", default=[], choices=DENIABLE, help=named)
     check.add_argument("--html", metavar="REPORT", help="also write a page with a chart of the codes of each font")
-    check.add_argument("-q", "--quiet", action="store_true", help="only files with something wrong, and no last line")
-    commands.add_parser("fonts", parents=[many], help="the fonts of each file")
-    text = commands.add_parser("text", parents=[many], help="the texts that pages show")
-    text.add_argument("--lenient", action="store_true", help="also those of ToUnicode CMaps with faults")
+    check.add_argument("-q", "--quiet", action="store_true", help="only files with faults or warnings, and no last line")
+    commands.add_parser("fonts", parents=[every, many], help="the fonts of each file")
+    commands.add_parser("text", parents=[every, many, read], help="the texts that pages show")
     mend = commands.add_parser("repair", parents=[every], help="writes ToUnicode CMaps with faults anew")
-    mend.add_argument("input", metavar="IN")
-    mend.add_argument("output", metavar="OUT")
+    mend.add_argument("input", metavar="IN", help="a PDF file")
+    mend.add_argument("output", metavar="OUT", help="where the file is written, or a copy where nothing is repaired")
     mend.add_argument("--signed", action="store_true", help="also a signed file, whose signature then breaks")
     asked = parser.parse_args(words)
-    if asked.command != "repair" and asked.jobs < 1:
-        parser.error("--jobs is 1 at least")
+    if asked.command != "repair" and not asked.files and asked.files_from is None:
+        parser.error("a FILE, or --files-from, is needed")
+    if getattr(asked, "html", None) == STANDARD_INPUT:
+        parser.error("--html writes no page to the standard output: a file of this name is ./-")
     return asked
 
 
-def results(asked: argparse.Namespace) -> Iterator[Result]:
-    """What is said of the files: in their order, but over a cluster."""
+def of_every_command() -> argparse.ArgumentParser:
+    """The options that all commands have."""
+    options = argparse.ArgumentParser(add_help=False)
+    options.add_argument("--json", action="store_true", help="one JSON object per line")
+    options.add_argument("--password", metavar="WORD", help="the password of encrypted files")
+    allowed = f"the processor time that a file may take, {SECONDS} where it isn't given"
+    options.add_argument("--seconds", metavar="N", type=at_least_one, default=SECONDS, help=allowed)
+    return options
+
+
+def of_many_files() -> argparse.ArgumentParser:
+    """The arguments of commands that read many files."""
+    options = argparse.ArgumentParser(add_help=False)
+    options.add_argument("files", metavar="FILE", nargs="*", help="a PDF file")
+    options.add_argument("--files-from", metavar="LIST", help="a file of further paths, one per line; - is stdin")
+    options.add_argument("-0", "--null", action="store_true", help="a zero byte ends each path in LIST")
+    options.add_argument("--jobs", metavar="N", type=at_least_one, default=1, help="how many processes read files")
+    options.add_argument("--dask", metavar="ADDRESS", help="read files on the workers of this scheduler")
+    return options
+
+
+def of_reading() -> argparse.ArgumentParser:
+    """The options of commands that find texts."""
+    options = argparse.ArgumentParser(add_help=False)
+    strict = options.add_mutually_exclusive_group()
+    strict.add_argument("--strict", action="store_true", help="no texts of ToUnicode CMaps with faults")
+    strict.add_argument("--lenient", action="store_true", help="their texts apart from the faults, as by default")
+    return options
+
+
+def paths_of(asked: argparse.Namespace) -> List[str]:
+    """The files, then those of the list."""
     if asked.command == "repair":
-        options = {"output": asked.output, "signed": asked.signed}
-        yield run(asked.input, "repair", options)
-        return
-    options = {
-        "deny": getattr(asked, "deny", []),
+        return [asked.input]
+    found = [] if asked.files_from is None else listed(asked.files_from, b"\0" if asked.null else b"\n")
+    return asked.files + found
+
+
+def options_of(asked: argparse.Namespace) -> dict:
+    """What the command is asked for."""
+    return {
         "charts": getattr(asked, "html", None) is not None,
-        "lenient": getattr(asked, "lenient", False),
+        "deny": getattr(asked, "deny", []),
+        "lenient": not getattr(asked, "strict", False),
+        "output": getattr(asked, "output", None),
+        "password": asked.password,
+        "seconds": asked.seconds,
+        "signed": getattr(asked, "signed", False),
     }
-    count, task = len(asked.files), (asked.command, options)
-    if asked.dask:
-        yield from progress(by_dask(asked.files, *task, asked.dask), count, "files")
-    elif asked.jobs > 1:
-        yield from progress(by_processes(asked.files, *task, asked.jobs, MEMORY), count, "files")
-    elif count == 1:
-        limit_memory(MEMORY)
-        yield run(asked.files[0], *task, progress=of_pages)
+
+
+def results(asked: argparse.Namespace, paths: List[str]) -> Iterator[Result]:
+    """What is said of the files: in their order, but over a cluster."""
+    options = options_of(asked)
+    if asked.command == "repair":
+        # another process, that an interrupt ends, would leave a part of OUT
+        return repaired(asked.input, options)
+    if asked.dask is not None:
+        # what Dask prints of a scheduler that goes away would stand between the lines
+        logging.disable(logging.CRITICAL)
+        done = by_dask(paths, asked.command, options, asked.dask)
     else:
-        limit_memory(MEMORY)
-        yield from progress(results_of(asked.files, *task), count, "files")
+        # what ends a process, as a lack of memory may, costs the file that it reads
+        task = Task(asked.command, options, MEMORY, of_pages if len(paths) == 1 else iter)
+        done = by_processes(paths, task, asked.jobs)
+    return progress(done, len(paths), "files")
+
+
+def repaired(path: str, options: dict) -> Iterator[Result]:
+    """What is said of a file that is repaired."""
+    with limited_memory(MEMORY):
+        yield run(path, "repair", options, of_pages)
 
 
 def put(result: Result, asked: argparse.Namespace) -> None:
     """Prints what is said of a file."""
-    name = escaped(result.path)
     if result.fault is not None:
-        print(f"hayro_cmap: {name}: {escaped(result.fault)}", file=sys.stderr)
-    if asked.json:
-        for line in json_lines(result):
+        say(f"{readable(result.path)}: {result.fault}")
+    try:
+        for line in lines_of(result, asked):
             print(line)
+        sys.stdout.flush()
+    except OSError as fault:
+        # what is left in the buffer goes nowhere, and Python doesn't say so again at its end
+        os.dup2(os.open(os.devnull, os.O_WRONLY), sys.stdout.fileno())
+        raise OSError(fault.errno, fault.strerror, "the standard output") from fault
+
+
+def lines_of(result: Result, asked: argparse.Namespace) -> Iterator[str]:
+    """The lines for the standard output."""
+    if asked.json:
+        yield from json_lines(result)
     elif asked.command == "text":
-        for line in result.lines:
-            print(escaped(line))
-    elif result.status or not getattr(asked, "quiet", False):
-        for line in result.lines:
-            print(f"{name}: {escaped(line)}")
-    sys.stdout.flush()
+        yield from map(escaped, result.lines)
+    elif result.status or result.has_warnings or not getattr(asked, "quiet", False):
+        yield from (escaped(f"{readable(result.path)}: {line}") for line in result.lines)
+
+
+def say(text: str) -> None:
+    """Prints a line on the standard error, if it can be."""
+    with contextlib.suppress(OSError):
+        print(f"hayro_cmap: {escaped(text)}", file=sys.stderr, flush=True)
 
 
 def last_line(done: List[Result]) -> str:
@@ -123,29 +203,47 @@ def last_line(done: List[Result]) -> str:
     return f"{checked} file{'' if checked == 1 else 's'} checked, {refused} refused{rest}; {counted}"
 
 
-def main(words=None) -> int:
-    asked = arguments(words)
-    sys.stdout.reconfigure(errors="backslashreplace")
-    is_check = asked.command == "check"
+def run_command(asked: argparse.Namespace) -> int:
+    """Runs the command, and gives its status. OSError where a list, a report or the output can't be had."""
+    is_check, paths = asked.command == "check", paths_of(asked)
+    if is_check and asked.html is not None:
+        try_report(asked.html, paths)
     if is_check and not HAS_GLYPH_LIST:
-        print("hayro_cmap: fontTools is missing, so names of glyphs have no texts", file=sys.stderr)
+        say("fontTools is missing, so names of glyphs have no texts")
     done: List[Result] = []
-    try:
-        for result in results(asked):
+    with contextlib.closing(results(asked, paths)) as found:
+        for result in found:
             put(result, asked)
             # the lines are printed, and what a page shows is kept
             done.append(result._replace(lines=[], objects=[]))
-        if is_check and asked.html:
-            write_report(asked.html, done)
-    except BrokenPipeError:
-        os.dup2(os.open(os.devnull, os.O_WRONLY), sys.stdout.fileno())
-        return 141
-    except (OSError, ImportError) as fault:
-        print(f"hayro_cmap: {fault}", file=sys.stderr)
-        return 2
+    if is_check and asked.html is not None:
+        write_report(asked.html, done)
     if is_check and not asked.quiet:
-        print(f"hayro_cmap: {last_line(done)}", file=sys.stderr)
-    return max(result.status for result in done)
+        say(last_line(done))
+    return max((result.status for result in done), default=0)
+
+
+def main(words=None) -> int:
+    if sys.stderr is None:
+        # else what is printed there would stand in the output
+        sys.stderr = open(os.devnull, "w")
+    try:
+        raise_on_interrupt()
+        asked = arguments(words)
+        if sys.stdout is None:
+            raise OSError(errno.EBADF, os.strerror(errno.EBADF), "the standard output")
+        sys.stdout.reconfigure(errors="backslashreplace")
+        return run_command(asked)
+    except BrokenPipeError:
+        return READER_GONE
+    except KeyboardInterrupt:
+        return INTERRUPTED
+    except MemoryError:
+        say("out of memory")
+    except (OSError, ImportError) as fault:
+        path = getattr(fault, "filename", None)
+        say(reason_of(fault) if path is None else f"{readable(os.fsdecode(path))}: {reason_of(fault)}")
+    return 2
 
 
 if __name__ == "__main__":

@@ -36,6 +36,15 @@ def written_beside(path: Union[str, "os.PathLike[str]"]) -> Iterator[BinaryIO]:
         raise
 
 
+def try_beside(path: Union[str, "os.PathLike[str]"]) -> None:
+    """Makes and removes a file beside a path: OSError where `written_beside` can write none there."""
+    place = os.fsdecode(os.path.realpath(path))
+    permissions_of(place)
+    new, file = created_beside(place, NEW_PERMISSIONS)
+    file.close()
+    os.remove(new)
+
+
 def permissions_of(place: str) -> Optional[int]:
     """Who may do what with the file of a path; None where none is there. OSError where not a regular file."""
     try:

@@ -1,47 +1,42 @@
 """Which fonts of a PDF file have CMaps with faults, and which of the codes that it shows have no text."""
 
-import bisect
 import collections
-from typing import Any, Callable, Counter, Dict, Iterable, Iterator, List, NamedTuple, Optional, Set, Tuple
+from typing import Any, Callable, Counter, Dict, Iterable, Iterator, List, NamedTuple, Optional
 
 import pikepdf
 
-from .. import CMap
+from .. import Finding
 from ._content import Document
-from ._fonts import SOURCES_OF_FONTS, Character, Font
+from ._fonts import SOURCES_OF_FONTS, Character, Font, Read
+from ._limits import Deadline
 from ._objects import object_number
+from ._warning_names import FEW_TEXTS, LEFT_OUT
 
 #: What is found of shown codes, beside the warnings of CMaps.
 OF_SHOWN_CODES = ("no-text", "no-cid", "outside-codespace")
 
-#: Characters that are doubtful in a text: the first and the last one of each row, and the name of the warning, in order
-#: (The Unicode Standard, 23.5 and 23.7).
-DOUBTFUL = sorted(
-    [
-        (0x0000, 0x0000, "null-character"),
-        (0xE000, 0xF8FF, "private-use"),
-        (0xFDD0, 0xFDEF, "noncharacter"),
-        (0xFFFD, 0xFFFD, "replacement-character"),
-        *((plane << 16 | 0xFFFE, plane << 16 | 0xFFFF, "noncharacter") for plane in range(17)),
-        *((plane << 16, plane << 16 | 0xFFFD, "private-use") for plane in (15, 16)),
-    ]
-)
-LAST_DOUBTFUL = [last for _, last, _ in DOUBTFUL]
+#: The share of shown codes that have a text, below which a font has few texts.
+FEW = 0.1
 
 #: How many codes of a kind are printed.
 MOST_PRINTED = 8
 
 
 class CMapWarning(NamedTuple):
-    """Something that looks wrong in a CMap that is accepted. The names are those of the command `cmap check --lint`."""
+    """Something that looks wrong in a CMap that is accepted. The names are those of the command `cmap check --lint`, and
+    `few-texts`, which concerns a font."""
 
-    #: The key of the CMap, "ToUnicode" or "Encoding", and the number of the object of its stream.
+    #: The key of the CMap, "ToUnicode" or "Encoding", and the number of the object of its stream; or "font" and the
+    #: number of its object.
     of: str
     number: int
     name: str
-    #: How many codes are concerned, and the first of them; 1 and None where it concerns the whole.
+    #: How many codes, declarations, sections or strings are concerned, and the first code; None where there is none.
     codes: int = 1
     first: Optional[int] = None
+    #: How many of the codes that are shown with the font are concerned, and the lowest of them.
+    shown: int = 0
+    first_shown: Optional[int] = None
 
 
 class ShownCode(NamedTuple):
@@ -58,7 +53,6 @@ class FontReport:
         self.font = font
         #: The codes, those first that are shown most often.
         self.codes = codes
-        self.warnings = warnings_of(font)
         #: How many codes are shown.
         self.shown = total(codes)
         self.no_text = [it for it in codes if it.character.text is None]
@@ -67,6 +61,17 @@ class FontReport:
         #: How many shown codes have a text, and how many do where the faults of the ToUnicode CMap are read past.
         self.with_text = self.shown - total(self.no_text)
         self.with_text_past_faults = sum(it.times for it in lenient if it.character.text is not None)
+        found = warnings_of(font, codes)
+        #: The warnings that concern shown codes, and the others.
+        self.warnings = [it for it in found if it.shown] + self._few_texts()
+        self.other_warnings = [it for it in found if not it.shown]
+
+    def _few_texts(self) -> List[CMapWarning]:
+        """The warning that hardly a shown code has a text."""
+        if self.with_text >= FEW * self.shown:
+            return []
+        lowest = min(it.character.code.code for it in self.no_text)
+        return [CMapWarning("font", self.font.number, FEW_TEXTS, 1, None, len(self.no_text), lowest)]
 
     def __repr__(self) -> str:
         return f"<FontReport of {self.font}>"
@@ -88,8 +93,11 @@ class FontReport:
         if self.with_text_past_faults != self.with_text:
             yield f"{number}: past the faults, {share(self.with_text_past_faults, self.shown)}"
         for it in self.warnings:
-            counted = "" if it.first is None else f": {it.codes:,} codes, first <{it.first:02X}>"
-            yield f"{number}: warning: {it.of} {it.number}: {it.name}{counted}"
+            codes = f"{it.shown:,} shown code{'' if it.shown == 1 else 's'}, first <{it.first_shown:02X}>"
+            yield f"{number}: warning: {it.of} {it.number}: {it.name}: {codes}"
+        if self.other_warnings:
+            names = ", ".join(dict.fromkeys(it.name for it in self.other_warnings))
+            yield f"{number}: {len(self.other_warnings)} other warnings, of no shown code: {names}"
         kinds = [("without a text", self.no_text), ("without a CID", self.no_cid)]
         for what, codes in [*kinds, ("in no codespace range", self.outside_codespace)]:
             if codes:
@@ -103,6 +111,7 @@ class FontReport:
             "no_cid": counted(self.no_cid),
             "no_text": counted(self.no_text),
             "ok": not self.font.faults,
+            "other_warnings": [warning_json(it) for it in self.other_warnings],
             "outside_codespace": counted(self.outside_codespace),
             "shown": self.shown,
             "shown_different": len(self.codes),
@@ -150,13 +159,20 @@ class Report(NamedTuple):
         yield from self.faults
         yield self.summary()
 
+    @property
+    def has_warnings(self) -> bool:
+        """Whether a font has a warning that concerns shown codes."""
+        return any(font.warnings for font in self.fonts)
+
     def has_denied(self, names: Iterable[str]) -> bool:
-        """Whether a font has a warning, or shown codes that lack something, of one of these names; any for "all"."""
+        """Whether a font has a warning, or shown codes that lack something, of one of these names. "all" stands for each
+        one that concerns shown codes."""
         found = {it.name for font in self.fonts for it in font.warnings}
         for name, kind in zip(OF_SHOWN_CODES, ("no_text", "no_cid", "outside_codespace")):
             if any(getattr(font, kind) for font in self.fonts):
                 found.add(name)
-        return bool(found) if "all" in names else not found.isdisjoint(names)
+        others = {it.name for font in self.fonts for it in font.other_warnings}
+        return bool(found) and "all" in names or not (found | others).isdisjoint(names)
 
     def as_json(self) -> Dict[str, Any]:
         """The file as values of JSON, without its fonts."""
@@ -198,12 +214,18 @@ class Strings:
         return [ShownCode(*it) for it in counts.most_common()]
 
 
-def check(pdf: pikepdf.Pdf, progress: Callable[[Iterable[Any]], Iterable[Any]] = iter) -> Report:
+def check(
+    pdf: pikepdf.Pdf,
+    progress: Callable[[Iterable[Any]], Iterable[Any]] = iter,
+    lenient: bool = True,
+    deadline: Optional[Deadline] = None,
+) -> Report:
     """Which fonts of a file have CMaps with faults, and which of the codes that it shows have no text.
 
-    `progress` is handed the pages, and gives them again.
+    `progress` is handed the pages, and gives them again. The texts are those that ToUnicode CMaps have apart from their
+    faults; with `lenient=False` one with faults has none. TooLong where the deadline is over.
     """
-    document, without_font = Document(pdf), 0
+    document, without_font = Document(pdf, lenient=lenient, deadline=deadline), 0
     strings: Dict[Font, Strings] = {}
     for page in progress(document.pages):
         for font, string, _ in document.shown(page):
@@ -213,64 +235,34 @@ def check(pdf: pikepdf.Pdf, progress: Callable[[Iterable[Any]], Iterable[Any]] =
             if font not in strings:
                 strings[font] = Strings(font)
             strings[font].add(string)
-    reports = [report_of(font, strings.get(font) or Strings(font)) for font in document.fonts]
+    reports = [report_of(font, strings.get(font) or Strings(font), lenient) for font in document.fonts]
     return Report(reports, len(document.pages), without_font, document.faults)
 
 
-def report_of(font: Font, strings: Strings) -> FontReport:
+def report_of(font: Font, strings: Strings, lenient: bool) -> FontReport:
     """What is known of a font with which these strings are shown."""
-    codes = strings.codes(lenient=False)
-    return FontReport(font, codes, strings.codes(lenient=True) if font.to_unicode.faults else codes)
+    codes = strings.codes(lenient)
+    return FontReport(font, codes, strings.codes(lenient=True) if font.to_unicode.faults and not lenient else codes)
 
 
-def warnings_of(font: Font) -> List[CMapWarning]:
-    """What looks wrong in the CMaps of a font that are accepted."""
+def warnings_of(font: Font, codes: List[ShownCode]) -> List[CMapWarning]:
+    """What looks wrong in the CMaps of a font that are accepted, of which these codes are shown."""
+    shown = {it.character.code.code for it in codes}
     found = []
     for of, read in [("Encoding", font.encoding), ("ToUnicode", font.to_unicode)]:
         stream = font.dictionary.get(f"/{of}")
-        if read.strict is not None and isinstance(stream, pikepdf.Stream):
-            number = object_number(stream)
-            found += [CMapWarning(of, number, name) for name in whole_warnings(read.strict)]
-            if of == "ToUnicode":
-                found += [CMapWarning(of, number, *it) for it in text_warnings(read.strict)]
+        if isinstance(stream, pikepdf.Stream):
+            found += [
+                CMapWarning(of, object_number(stream), it.warning, it.count, it.first, it.shown, it.first_shown)
+                for it in findings_of(read, of == "ToUnicode", shown)
+                if it.warning not in LEFT_OUT
+            ]
     return found
 
 
-def whole_warnings(cmap: CMap) -> Iterator[str]:
-    """The warnings that concern a CMap as a whole."""
-    layers = cmap.layers
-    has_ranges = any(layer.codespaces for layer in layers)
-    if not has_ranges and not any(layer.cids or layer.notdefs or layer.texts for layer in layers):
-        yield "nothing-declared"
-    elif not has_ranges:
-        yield "no-codespace"
-
-
-def text_warnings(cmap: CMap) -> Iterator[Tuple[str, int, int]]:
-    """The names of the warnings that concern texts, with the number of their codes and the first one."""
-    counts: Counter[str] = collections.Counter()
-    firsts: Dict[str, int] = {}
-    of_starts: Dict[str, Set[str]] = {}
-    for row in cmap._text_rows():
-        if row.start not in of_starts:
-            of_starts[row.start] = {name for it in set(map(ord, row.start)) for _, _, name in doubtful(it, it)}
-        of_all = of_starts[row.start]
-        # a row of codes has characters in a row at the end of its texts
-        first, last = row.character, row.character + row.last - row.first
-        of_ends = [it for it in doubtful(first, last) if it[2] not in of_all]
-        for low, high, name in [*((first, last, name) for name in of_all), *of_ends]:
-            counts[name] += high - low + 1
-            firsts.setdefault(name, row.first + low - first)
-    for name in sorted(counts):
-        yield name, counts[name], firsts[name]
-
-
-def doubtful(first: int, last: int) -> Iterator[Tuple[int, int, str]]:
-    """The doubtful ones of characters in a row, as rows with the names of the warnings."""
-    for low, high, name in DOUBTFUL[bisect.bisect_left(LAST_DOUBTFUL, first) :]:
-        if low > last:
-            break
-        yield max(first, low), min(last, high), name
+def findings_of(read: Read, is_to_unicode: bool, shown: Iterable[int]) -> List[Finding]:
+    """What looks wrong in a CMap; nothing in one that is refused."""
+    return [] if read.strict is None else read.strict.lint(read.data, to_unicode=is_to_unicode, shown=shown)
 
 
 def fault_json(fault) -> Dict[str, Any]:
@@ -286,9 +278,11 @@ def fault_json(fault) -> Dict[str, Any]:
 
 
 def warning_json(it: CMapWarning) -> Dict[str, Any]:
-    """A warning as the command `cmap check --lint --json` has it, with the object."""
+    """A warning as the command `cmap check --lint --json` has it, with the object and the shown codes."""
     first = {} if it.first is None else {"first": f"{it.first:02X}"}
-    return {"count": it.codes, **first, "object": it.number, "of": it.of, "warning": it.name}
+    shown = {} if it.first_shown is None else {"first_shown": f"{it.first_shown:02X}"}
+    counts = {"count": it.codes, "shown": it.shown}
+    return {**counts, **first, **shown, "object": it.number, "of": it.of, "warning": it.name}
 
 
 def total(codes: List[ShownCode]) -> int:

@@ -1,22 +1,28 @@
 """What the commands say of one PDF file. Each may run in another process, or on another machine."""
 
 import logging
-from typing import Any, Callable, Dict, Iterable, Iterator, List, NamedTuple, Optional
+import shutil
+import warnings
+from typing import Any, BinaryIO, Callable, Dict, Iterable, Iterator, List, NamedTuple, Optional
 
 import pikepdf
 
+from ._beside import written_beside
 from ._check import Report, check
 from ._content import Document
 from ._fonts import fonts
+from ._limits import FAILED_ALLOCATION, NO_MEMORY, SECONDS, Deadline, is_memory
+from ._paths import is_among, opened, readable, reason_of
 from ._repair import Signed, repair, save
 from ._report import charts_of
 
 #: What pages are handed to, and gives them again: a progress bar, or nothing.
 Progress = Callable[[Iterable[Any]], Iterable[Any]]
 
-# what it says of damaged files would stand between the lines
+# what it says of damaged files, and of passwords that aren't needed, would stand between the lines
 logging.getLogger("pikepdf").addHandler(logging.NullHandler())
 logging.getLogger("pikepdf").propagate = False
+warnings.filterwarnings("ignore", message="A password was provided", category=UserWarning)
 
 
 class Result(NamedTuple):
@@ -33,21 +39,47 @@ class Result(NamedTuple):
     #: How many codes are shown, and how many of them have a text.
     shown: int = 0
     with_text: int = 0
+    #: Whether there are warnings about shown codes.
+    has_warnings: bool = False
     #: What a page for people shows of each font, where it is asked for.
     charts: List[Dict[str, Any]] = []
 
 
+class Job(NamedTuple):
+    """A file for a command."""
+
+    path: str
+    #: The file as it is opened, and as it is read.
+    file: BinaryIO
+    pdf: pikepdf.Pdf
+    options: Dict[str, Any]
+    progress: Progress
+    deadline: Deadline
+
+    @property
+    def lenient(self) -> bool:
+        """Whether CMaps are read past their faults."""
+        return self.options.get("lenient", True)
+
+    def check(self) -> Report:
+        """What is known of the file, with its fonts by the numbers of their objects."""
+        report = check(self.pdf, self.progress, self.lenient, self.deadline)
+        return report._replace(fonts=sorted(report.fonts, key=lambda it: it.font.number))
+
+
 def run(path: str, command: str, options: Dict[str, Any], progress: Progress = iter) -> Result:
     """What a command says of a file, whatever the file is."""
+    deadline, password = Deadline(options.get("seconds", SECONDS)), options.get("password") or ""
     try:
-        with pikepdf.open(path) as pdf:
-            return COMMANDS[command](path, pdf, options, progress)
+        with opened(path) as file, pikepdf.open(file, password=password) as pdf:
+            job = Job(path, file, pdf, options, lambda pages: deadline.over(progress(pages)), deadline)
+            return COMMANDS[command](job)
     except pikepdf.PasswordError:
-        return unread(path, "it can't be read without its password")
-    except MemoryError:
-        return unread(path, "it can't be read: it takes too much memory")
+        return unread(path, f"it can't be read {'by this' if password else 'without its'} password")
     except Exception as fault:  # pikepdf raises many kinds over objects that are none, and the run goes on
-        return unread(path, f"it can't be read: {fault or type(fault).__name__}")
+        # pikepdf begins with what it reads from
+        reason = reason_of(fault).replace(f"<_io.BufferedReader name={path!r}>: ", "")
+        return unread(path, f"it can't be read: {NO_MEMORY if is_memory(fault) else reason}")
 
 
 def unread(path: str, fault: str) -> Result:
@@ -55,60 +87,79 @@ def unread(path: str, fault: str) -> Result:
     return Result(path, 2, objects=[{"ok": False, "unread": fault}], fault=fault)
 
 
-def run_fonts(path, pdf, options, progress) -> Result:
-    found = fonts(pdf)
-    return Result(path, 0, list(map(str, found)), [it.as_json() for it in found])
+def fault_in(contents: List[str]) -> Optional[str]:
+    """What is said of contents that can't be read; None where there are none. MemoryError where memory ran out."""
+    if any(FAILED_ALLOCATION in it for it in contents):
+        raise MemoryError
+    return "; ".join(contents[:3]) or None
 
 
-def run_check(path, pdf, options, progress) -> Result:
-    report: Report = check(pdf, progress)
-    status = 1 if report.refused or report.has_denied(options.get("deny", ())) else 0
+def run_fonts(job: Job) -> Result:
+    found = sorted(fonts(job.pdf), key=lambda font: font.number)
+    return Result(job.path, 0, list(map(str, found)), [it.as_json() for it in found])
+
+
+def run_check(job: Job) -> Result:
+    report = job.check()
+    status = 1 if report.refused or report.has_denied(job.options.get("deny", ())) else 0
     return Result(
-        path,
+        job.path,
         status=2 if report.faults else status,
         lines=list(report.lines()),
         objects=[*(it.as_json() for it in report.fonts), report.as_json()],
-        fault="; ".join(report.faults[:3]) or None,
+        fault=fault_in(report.faults),
         shown=report.shown,
         with_text=report.with_text,
-        charts=charts_of(report) if options.get("charts") else [],
+        has_warnings=report.has_warnings,
+        charts=charts_of(report) if job.options.get("charts") else [],
     )
 
 
-def run_text(path, pdf, options, progress) -> Result:
-    document, lines, objects = Document(pdf, places=True, lenient=options.get("lenient", False)), [], []
-    for number, page in enumerate(progress(document.pages), 1):
+def run_text(job: Job) -> Result:
+    document, lines, objects = Document(job.pdf, True, job.lenient, job.deadline), [], []
+    for number, page in enumerate(job.progress(document.pages), 1):
         of_page = list(document.lines(page))
         lines += of_page
         objects.append({"page": number, "text": "\n".join(of_page)})
-    fault = "; ".join(document.faults[:3]) or None
-    return Result(path, 2 if fault else 0, lines, objects, fault)
+    fault = fault_in(document.faults)
+    return Result(job.path, 2 if fault else 0, lines, objects, fault)
 
 
-def run_repair(path, pdf, options, progress) -> Result:
-    before = {report.font.number: report for report in check(pdf, progress).fonts}
+def run_repair(job: Job) -> Result:
+    before = {report.font.number: report for report in job.check().fonts}
     try:
-        done = repair(pdf, signed=options.get("signed", False))
+        done = repair(job.pdf, signed=job.options.get("signed", False))
     except Signed:
-        return Result(path, 2, fault="it is signed, and its signature would no longer hold: --signed writes it anyway")
+        signed = "it is signed, and its signature would no longer hold: --signed writes it anyway"
+        return Result(job.path, 2, fault=signed)
+    output, written = job.options["output"], sum(bool(it.kept) for it in done)
     try:
-        if any(it.kept for it in done):
-            save(pdf, options["output"])
+        is_written = write_output(job, output, written)
     except (pikepdf.PdfError, OSError, RuntimeError) as fault:
-        reason = getattr(fault, "strerror", None) or fault
-        return Result(path, 2, fault=f"{options['output']} can't be written: {reason}")
+        return Result(job.path, 2, fault=f"{readable(output)} can't be written: {reason_of(fault)}")
     lines, objects = [], []
     for it in done:
         reports = [before[font.number] for font in it.fonts if font.number in before]
         shown, past = sum(font.shown for font in reports), sum(font.with_text_past_faults for font in reports)
         lines += [*it.lines(), f"ToUnicode {it.number}: of {shown:,} shown codes {past:,} have a text"]
         objects.append({**it.as_json(), "shown": shown, "with_text": past})
-    written = sum(bool(it.kept) for it in done)
-    lines.append(
-        f"{written} of {len(done)} ToUnicode CMaps with faults are written anew" if done else "nothing to repair"
-    )
-    objects.append({"output": options["output"] if written else None, "written": written})
-    return Result(path, int(written < len(done)), lines, objects)
+    said = f"{written} of {len(done)} ToUnicode CMaps with faults are written anew" if done else "nothing to repair"
+    lines.append(said if written or not is_written else f"{said}, and {readable(output)} is a copy")
+    objects.append({"output": readable(output) if is_written else None, "written": written})
+    return Result(job.path, int(written < len(done)), lines, objects)
+
+
+def write_output(job: Job, output: str, written: int) -> bool:
+    """Writes the file, or a copy of it where no CMap is written anew. False where it would be a copy of itself."""
+    if written:
+        save(job.pdf, output)
+    elif is_among(output, [job.path]):
+        return False
+    else:
+        job.file.seek(0)
+        with written_beside(output) as copy:
+            shutil.copyfileobj(job.file, copy)
+    return True
 
 
 COMMANDS = {"check": run_check, "fonts": run_fonts, "text": run_text, "repair": run_repair}

@@ -17,12 +17,16 @@ from ._fonts import (
     resources_of,
 )
 from ._interpreter import Interpreter, Piece, Span
+from ._limits import Deadline
 from ._lines import NOTHING, Lines, gap
 from ._measured import Measure
 from ._objects import Streams, TooLarge, Undecodable, bytes_of, dictionary_at, named, object_number
 
 #: How many bytes of decoded forms are kept, for forms that are drawn again.
 MOST_KEPT = 1 << 24
+
+#: How many characters the lines of a page may have.
+MOST_CHARACTERS = 1 << 24
 
 #: How many faults of a file's contents are listed.
 MOST_FAULTS = 100
@@ -43,11 +47,18 @@ class Content:
     """What pages show, with the fonts that they name, each read once.
 
     `places` is for the separators of `shown`, and takes more time. A ToUnicode CMap with faults gives the texts that it
-    has apart from them, and none with `lenient=False`.
+    has apart from them, and none with `lenient=False`. Where a deadline is over while a page is read, that is TooLong.
     """
 
-    def __init__(self, fonts: Optional[Fonts] = None, places: bool = False, lenient: bool = True):
+    def __init__(
+        self,
+        fonts: Optional[Fonts] = None,
+        places: bool = False,
+        lenient: bool = True,
+        deadline: Optional[Deadline] = None,
+    ):
         self._found = Fonts() if fonts is None else fonts
+        self._deadline = Deadline(None) if deadline is None else deadline
         self._has_places, self._is_lenient = places, lenient
         self._streams: Streams = self._found.streams
         #: What of the contents couldn't be read.
@@ -83,14 +94,20 @@ class Content:
         A line goes on as long as strings are shown on it, one after another, and a wide gap between two is a space. Text
         from right to left is in the order in which it is read.
         """
+        left = MOST_CHARACTERS
+        for line in filter(None, self._lines_and_none(page)):
+            left -= len(line)
+            if left < 0:
+                self.fault(f"a page has more than {MOST_CHARACTERS:,} characters")
+                return
+            yield line
+
+    def _lines_and_none(self, page: pikepdf.Page) -> Iterator[Optional[str]]:
+        """The lines of a page, each when the string after it comes, and None where a string goes on with a line."""
         lines = Lines()
         for piece in self._pieces(page, True, self._measure):
-            line = lines.add(piece)
-            if line is not None:
-                yield line
-        line = lines.end()
-        if line is not None:
-            yield line
+            yield lines.add(piece)
+        yield lines.end()
 
     def shown(self, page: pikepdf.Page, annotations: bool = True) -> Iterator[Shown]:
         """The strings that a page shows, in the order of its content, and then those of its annotations."""
@@ -114,6 +131,10 @@ class Content:
     def font(self, dictionary: Any) -> Optional[Font]:
         """The font of a dictionary, or None."""
         return self._found.of(dictionary)
+
+    def check_time(self) -> None:
+        """TooLong where the deadline is over."""
+        self._deadline.check()
 
     def fault(self, text: str) -> None:
         """Notes what couldn't be read."""
@@ -160,8 +181,10 @@ def shown_appearances_of(page: pikepdf.Object) -> Iterator[pikepdf.Stream]:
 class Document(Content):
     """The fonts of a PDF file, and what its pages show."""
 
-    def __init__(self, pdf: pikepdf.Pdf, places: bool = False, lenient: bool = True):
-        super().__init__(None, places, lenient)
+    def __init__(
+        self, pdf: pikepdf.Pdf, places: bool = False, lenient: bool = True, deadline: Optional[Deadline] = None
+    ):
+        super().__init__(None, places, lenient, deadline)
         self._pdf = pdf
         #: The pages.
         self.pages: List[pikepdf.Page] = pages_of(pdf)

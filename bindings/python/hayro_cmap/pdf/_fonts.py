@@ -121,6 +121,8 @@ class Read(NamedTuple):
     #: The map of what it says apart from its faults.
     lenient: Optional[CMap]
     faults: List[Fault]
+    #: The decoded stream; no bytes for a predefined CMap.
+    data: bytes = b""
 
 
 NOTHING = Read(None, None, [])
@@ -453,7 +455,7 @@ def read_stream(stream: pikepdf.Stream, of: str, streams: Streams, over: Tuple =
     if len(refusals) > MOST_FAULTS:
         faults.append(Fault(of, number, None, None, (), f"more than {MOST_FAULTS:,} faults"))
     faults += below.faults
-    return Read(None if faults else cmap, past_faults, faults)
+    return Read(None if faults else cmap, past_faults, faults, data)
 
 
 def with_whole_characters(data: bytes) -> bytes:

@@ -13,6 +13,9 @@ from ._scan import Operand, Operator, actual_text, elements_of, last_name, last_
 #: How many operators that text may depend on one page may have, with those of its forms, each as often as it is drawn.
 MOST_STEPS = 5_000_000
 
+#: After how many of them the time is looked at.
+STEPS_OF_CHECK = 1 << 10
+
 #: How many graphics states are kept at a time.
 MOST_SAVED = 1 << 12
 
@@ -150,6 +153,8 @@ class Interpreter:
                 if self._steps_left < 0:
                     self._content.fault(f"a page has more than {MOST_STEPS:,} operators")
                     return
+                if self._steps_left % STEPS_OF_CHECK == 0:
+                    self._content.check_time()
                 shown = action(self, numbers, operands)
                 if shown is not None:
                     yield from shown

@@ -1,27 +1,40 @@
 """Many PDF files: one after another, over processes of this machine, or over a cluster of Dask."""
 
+import asyncio
+import contextlib
+import errno
 import functools
 import itertools
 import json
 import multiprocessing
 import os
+import signal
 from multiprocessing import connection
-from typing import Any, Dict, Iterable, Iterator, List, Optional, Sequence, Tuple
+from typing import Any, Dict, Iterable, Iterator, List, NamedTuple, Optional, Sequence, Tuple
 
-from ._commands import Result, results_of, run, unread
+from ._commands import Progress, Result, results_of, run, unread
+from ._limits import NO_MEMORY, SECONDS, no_time
+from ._paths import readable, reason_of
 
 #: How many seconds a process without work waits before it looks whether there is still one to work for.
-SECONDS = 5.0
+SECONDS_TO_LOOK = 5.0
+
+#: How many seconds of processor time a process may take beyond those of a file, before the system ends it.
+GRACE = 10
 
 #: How many files each thread of a cluster has at hand.
 AT_HAND = 8
+
+#: How many seconds a scheduler has to answer.
+TO_ANSWER = 10
 
 
 def check_files(paths: Iterable[str], **options: Any) -> Iterator[str]:
     """The lines of JSON that `python3 -m hayro_cmap.pdf check --json` prints of these files.
 
-    One path may stand alone. A file that can't be read has one line, with `unread`. It is for tools that cut a list of
-    paths into parts, as
+    One path may stand alone. A file that can't be read has one line, with `unread`. The options are `password`,
+    `lenient` and `seconds`, the processor time that a file may take. It is for tools that cut a list of paths into
+    parts, as
 
         context.parallelize(paths, 100).mapPartitions(hayro_cmap.pdf.check_files)
     """
@@ -33,26 +46,62 @@ def check_files(paths: Iterable[str], **options: Any) -> Iterator[str]:
 def json_lines(result: Result) -> Iterator[str]:
     """What is said of a file as lines of JSON."""
     for it in result.objects:
-        yield json.dumps({"file": result.path, **it}, sort_keys=True, separators=(",", ":"))
+        yield json.dumps({"file": readable(result.path), **it}, sort_keys=True, separators=(",", ":"))
 
 
-def limit_memory(most: Optional[int]) -> None:
-    """Lets this process have so many bytes of memory: what asks for more is a MemoryError."""
-    if most is not None:
-        import resource
+@contextlib.contextmanager
+def limited_memory(most: Optional[int]) -> Iterator[None]:
+    """Lets this process have so many bytes of memory in the block: what asks for more is a MemoryError."""
+    if most is None:
+        yield
+        return
+    import resource
 
-        _, hard = resource.getrlimit(resource.RLIMIT_AS)
-        resource.setrlimit(resource.RLIMIT_AS, (most if hard < 0 else min(most, hard), hard))
+    soft, hard = resource.getrlimit(resource.RLIMIT_AS)
+    resource.setrlimit(resource.RLIMIT_AS, (most if hard < 0 else min(most, hard), hard))
+    try:
+        yield
+    finally:
+        resource.setrlimit(resource.RLIMIT_AS, (soft, hard))
+
+
+class Task(NamedTuple):
+    """What processes do with files."""
+
+    command: str
+    options: Dict[str, Any]
+    #: How many bytes of memory each may have; None for no limit.
+    memory: Optional[int]
+    progress: Progress = iter
+
+    @property
+    def seconds(self) -> Optional[float]:
+        """How many seconds of processor time a file may take; None for no limit."""
+        return self.options.get("seconds", SECONDS)
+
+    def result(self, path: str) -> Result:
+        """What is said of a file. The system ends a process that takes much more time than it may."""
+        if self.seconds is not None:
+            signal.setitimer(signal.ITIMER_PROF, self.seconds + GRACE)
+        try:
+            return run(path, self.command, self.options, self.progress)
+        finally:
+            signal.setitimer(signal.ITIMER_PROF, 0)
 
 
 class Worker:
     """A process that runs a command over files, one at a time."""
 
-    def __init__(self, command: str, options: Dict[str, Any], memory: Optional[int]):
+    def __init__(self, task: Task):
+        self._task = task
         self.end, other = multiprocessing.Pipe()
-        words = (other, command, options, memory, os.getpid())
-        self.process = multiprocessing.Process(target=serve, args=words, daemon=True)
-        self.process.start()
+        self.process = multiprocessing.Process(target=serve, args=(other, task, os.getpid()), daemon=True)
+        # an interrupt is for this process, which then ends the other one
+        before = signal.pthread_sigmask(signal.SIG_BLOCK, [signal.SIGINT])
+        try:
+            self.process.start()
+        finally:
+            signal.pthread_sigmask(signal.SIG_SETMASK, before)
         # with no other end in this process, that of the worker is the only one
         other.close()
         #: The index and the path of the file that it has.
@@ -74,35 +123,44 @@ class Worker:
     def fault(self) -> str:
         """Why it ended."""
         code = self.process.exitcode or 0
+        if code == -signal.SIGPROF and self._task.seconds is not None:
+            return f"it can't be read: {no_time(self._task.seconds)}"
         return f"the process that read it ended, {f'by signal {-code}' if code < 0 else f'with status {code}'}"
+
+    def end_soon(self) -> None:
+        """Tells it to end."""
+        self.end.close()
+        self.process.terminate()
 
     def close(self) -> None:
         """Ends it."""
-        self.end.close()
-        self.process.terminate()
+        self.end_soon()
         self.process.join()
 
 
-def serve(
-    end: connection.Connection, command: str, options: Dict[str, Any], memory: Optional[int], parent: int
-) -> None:
-    """Runs a command over the files that come through a pipe, until the other process is gone."""
-    limit_memory(memory)
-    try:
+def serve(end: connection.Connection, task: Task, parent: int) -> None:
+    """Does a task with the files that come through a pipe, until the other process is gone."""
+    with limited_memory(task.memory), contextlib.suppress(EOFError, OSError):
         while True:
-            while not end.poll(SECONDS):
+            while not end.poll(SECONDS_TO_LOOK):
                 if os.getppid() != parent:
                     return
-            end.send(run(end.recv(), command, options))
-    except (EOFError, OSError):
-        return
+            give(end, task, end.recv())
+
+
+def give(end: connection.Connection, task: Task, path: str) -> None:
+    """Sends what is said of a file through a pipe."""
+    try:
+        end.send(task.result(path))
+    except MemoryError:
+        end.send(unread(path, f"it can't be read: {NO_MEMORY}"))
 
 
 class Pool:
     """Processes, each with a file or without one."""
 
-    def __init__(self, command: str, options: Dict[str, Any], memory: Optional[int]):
-        self._start = functools.partial(Worker, command, options, memory)
+    def __init__(self, task: Task):
+        self._start = functools.partial(Worker, task)
         self.busy: List[Worker] = []
         self.idle: List[Worker] = []
 
@@ -134,14 +192,14 @@ class Pool:
     def close(self) -> None:
         """Ends all processes."""
         for worker in self.busy + self.idle:
-            worker.close()
+            worker.end_soon()
+        for worker in self.busy + self.idle:
+            worker.process.join()
 
 
-def by_processes(
-    paths: Sequence[str], command: str, options: Dict[str, Any], jobs: int, memory: Optional[int] = None
-) -> Iterator[Result]:
-    """What a command says of each file, in their order, by several processes. One that ends costs its file alone."""
-    pool, left = Pool(command, options, memory), enumerate(paths)
+def by_processes(paths: Sequence[str], task: Task, jobs: int) -> Iterator[Result]:
+    """What is said of each file, in their order, by so many processes. One that ends costs its file alone."""
+    pool, left = Pool(task), enumerate(paths)
     done: Dict[int, Result] = {}
     awaited = 0
     try:
@@ -165,19 +223,42 @@ def by_dask(paths: Sequence[str], command: str, options: Dict[str, Any], address
     Each worker has the package, the library and pikepdf, and the files under the same paths. A worker that dies costs
     no file: another one takes what it had. A file over which one worker after another dies, is one that can't be read.
     """
+    client = client_of(address)
+    try:
+        with client:
+            suspects = []
+            for path, result in submitted(client, paths, command, options):
+                if result is None:
+                    suspects.append(path)
+                else:
+                    yield result
+            # some only stood beside a file that ends workers: each is tried alone
+            for path in suspects:
+                for _, result in submitted(client, [path], command, options):
+                    yield unread(path, "the workers that read it ended") if result is None else result
+    except OSError as fault:
+        raise OSError(errno.ECONNRESET, f"the scheduler went away: {reason_of(fault)}", address) from fault
+
+
+def client_of(address: str):
+    """A client of a Dask scheduler. OSError where it can't be reached."""
     from distributed import Client
 
-    with Client(address, set_as_default=False) as client:
-        suspects = []
-        for path, result in submitted(client, paths, command, options):
-            if result is None:
-                suspects.append(path)
-            else:
-                yield result
-        # some only stood beside a file that ends workers: each is tried alone
-        for path in suspects:
-            for _, result in submitted(client, [path], command, options):
-                yield unread(path, "the workers that read it ended") if result is None else result
+    try:
+        # asked first: a client that reaches none takes its time to end
+        asyncio.run(reach(address))
+        return Client(address, set_as_default=False, timeout=TO_ANSWER)
+    except Exception as fault:  # Dask raises many kinds over addresses that are none
+        raise OSError(errno.EHOSTUNREACH, f"the scheduler can't be reached: {reason_of(fault)}", address) from fault
+
+
+async def reach(address: str) -> None:
+    """Connects with a Dask scheduler, and leaves it."""
+    from distributed.comm import connect
+    from distributed.security import Security
+
+    end = await connect(address, timeout=TO_ANSWER, **Security().get_connection_args("client"))
+    await end.close()
 
 
 def submitted(client, paths: Sequence[str], command: str, options: Dict[str, Any]):

@@ -7,6 +7,8 @@ from typing import Any, List, Optional
 import pikepdf
 from pikepdf.models import PdfParsingError
 
+from ._limits import Deadline, is_memory
+
 #: How many bytes a decoded stream may have, and all of them that are read of a file.
 MOST_OF_STREAM = 1 << 26
 MOST_OF_FILE = 1 << 31
@@ -33,17 +35,28 @@ class Undecodable(ValueError):
 
 
 class Streams:
-    """Decodes the streams of a file, up to a limit for each and for all together."""
+    """Decodes the streams of a file, up to a limit for each and for all together, and to a deadline."""
 
-    def __init__(self, most_of_stream: int = MOST_OF_STREAM, most_of_file: int = MOST_OF_FILE):
+    def __init__(
+        self,
+        most_of_stream: int = MOST_OF_STREAM,
+        most_of_file: int = MOST_OF_FILE,
+        *,
+        deadline: Optional[Deadline] = None,
+    ):
         self._most, self._left = most_of_stream, most_of_file
+        self._deadline = Deadline(None) if deadline is None else deadline
 
     def decoded(self, stream: pikepdf.Stream) -> bytes:
-        """The bytes of a stream. TooLarge where they pass a limit; Undecodable where they can't be decoded."""
+        """The bytes of a stream. TooLarge where they pass a limit; Undecodable where they can't be decoded; TooLong
+        where the time of the file is over."""
+        self._deadline.check()
         most = min(self._most, self._left)
         try:
             data = decoded(stream, most)
         except (pikepdf.PdfError, pikepdf.DataDecodingError, RuntimeError) as fault:
+            if is_memory(fault):
+                raise MemoryError from fault
             raise Undecodable(f"a stream can't be decoded: {fault}") from fault
         if len(data) > most:
             raise TooLarge(f"a stream has more than {most:,} bytes")

@@ -1,13 +1,22 @@
 """A page for people: the fonts of PDF files, what is wrong with them, and a chart of the codes of each."""
 
+import contextlib
+import errno
 import html
 import json
-import os
-from pathlib import Path
-from typing import Any, Dict, Iterable, List, Tuple, Union
+from typing import Any, Dict, Iterable, Iterator, List, Tuple
 
+from .._escaped import escaped
+from ._beside import try_beside, written_beside
 from ._check import FontReport, Report, share
 from ._fonts import SOURCES_OF_FONTS
+from ._paths import is_among, opened, readable, reason_of
+
+#: How each page begins, by which it is known from other files.
+BEGINNING = """<!DOCTYPE html>
+<html lang="en">
+<meta name="generator" content="hayro_cmap.pdf check --html">
+"""
 
 #: How many codes of a font a chart has that have a text and aren't shown.
 MOST_UNSHOWN = 1 << 16
@@ -59,9 +68,42 @@ def cells_of(report: FontReport) -> List[Cell]:
     return sorted(cells.values(), key=lambda cell: (cell[1], cell[0]))
 
 
-def write_report(path: Union[str, "os.PathLike[str]"], results: Iterable[Any]) -> None:
-    """Writes the page of the results of a check."""
-    Path(path).write_text(page_of(list(results)), encoding="utf-8", errors="backslashreplace")
+def try_report(path: str, inputs: Iterable[str]) -> None:
+    """OSError where a page can't be written to a path, or what is there would be lost: one of the inputs, also by a
+    link, or anything but an older page and an empty file."""
+    with saying_where(path):
+        try_beside(path)
+    if is_among(path, inputs):
+        raise OSError(errno.EEXIST, "it is a file to check, and isn't replaced by the report", path)
+    refuse_others(path)
+
+
+def refuse_others(path: str) -> None:
+    """OSError where a file is there that is neither an older page nor empty."""
+    try:
+        with opened(path) as file:
+            found = file.read(len(BEGINNING.encode()))
+    except FileNotFoundError:
+        return
+    if found not in (b"", BEGINNING.encode()):
+        raise OSError(errno.EEXIST, "it is no report of this command, and isn't replaced by one", path)
+
+
+def write_report(path: str, results: Iterable[Any]) -> None:
+    """Writes the page of the results of a check beside its place, and puts it there. OSError as of `try_report`."""
+    page = page_of(list(results)).encode("utf-8", "backslashreplace")
+    refuse_others(path)
+    with saying_where(path), written_beside(path) as file:
+        file.write(page)
+
+
+@contextlib.contextmanager
+def saying_where(path: str) -> Iterator[None]:
+    """OSError of what is written beside a path is said of the path."""
+    try:
+        yield
+    except OSError as fault:
+        raise OSError(fault.errno, f"it can't be written: {reason_of(fault)}", path) from fault
 
 
 def page_of(results: List[Any]) -> str:
@@ -71,7 +113,7 @@ def page_of(results: List[Any]) -> str:
     charts = [chart["cells"] for result in results for chart in result.charts]
     # no text of a file ends the script that the data stands in
     data = json.dumps(charts, separators=(",", ":")).replace("<", "\\u003c")
-    return TEMPLATE.format(
+    return BEGINNING + TEMPLATE.format(
         summary=html.escape(f"{len(results)} files; {share(with_text, shown)}"),
         legend=legend,
         files="".join(map(section_of, results)),
@@ -83,15 +125,15 @@ def page_of(results: List[Any]) -> str:
 
 def section_of(result: Any) -> str:
     """The part of the page for a file."""
-    fault = "" if result.fault is None else f'<p class="bad">{html.escape(result.fault)}</p>'
+    fault = "" if result.fault is None else f'<p class="bad">{visible(result.fault)}</p>'
     words = html.escape(share(result.with_text, result.shown)) if result.charts else ""
     fonts = "".join(map(font_of, result.charts))
-    return f"<section><h2>{html.escape(result.path)}</h2>{fault}<p>{words}</p>{fonts}</section>\n"
+    return f"<section><h2>{visible(readable(result.path))}</h2>{fault}<p>{words}</p>{fonts}</section>\n"
 
 
 def font_of(chart: Dict[str, Any]) -> str:
     """The part of the page for a font."""
-    title, *lines = [html.escape(str(line)) for line in chart["lines"]]
+    title, *lines = map(visible, chart["lines"])
     # each line begins with the number of the font, which the title has
     listed = "".join(f"<li>{line.partition(': ')[2]}</li>" for line in lines)
     bad, fine = "" if chart["ok"] else ' class="bad"', "" if lines else ' class="fine"'
@@ -99,9 +141,12 @@ def font_of(chart: Dict[str, Any]) -> str:
     return f"<article{fine}><h3{bad}>{title}</h3><ul>{listed}</ul>{drawn}</article>\n"
 
 
-TEMPLATE = """<!DOCTYPE html>
-<html lang="en">
-<meta charset="utf-8">
+def visible(text: str) -> str:
+    """A text of a file in the page, where no character of it controls others."""
+    return html.escape(escaped(text))
+
+
+TEMPLATE = """<meta charset="utf-8">
 <meta name="viewport" content="width=device-width">
 <title>Fonts of PDF files</title>
 <style>
@@ -113,6 +158,12 @@ ul {{ margin: 0 0 .4em; padding-left: 1.2em; overflow-wrap: anywhere }}
 #legend {{ position: sticky; top: 0; background: #fff; padding: .5em 0; display: flex; gap: 1.2em; flex-wrap: wrap }}
 #legend i {{ display: inline-block; width: 1em; height: 1em; margin-right: .4em; vertical-align: -.1em }}
 canvas {{ display: block; cursor: crosshair }} canvas[hidden] {{ display: none }}
+@media print {{
+  body {{ margin: 0; max-width: none; print-color-adjust: exact; -webkit-print-color-adjust: exact }}
+  canvas {{ width: 100% !important; height: auto !important }}
+  article {{ break-inside: avoid-page }} h2, h3 {{ break-after: avoid-page }}
+  #legend {{ position: static }} #legend label {{ display: none }}
+}}
 #tip {{ position: fixed; pointer-events: none; background: #222; color: #fff; padding: .3em .6em; border-radius: .3em;
   max-width: 30em; white-space: pre-line; display: none }}
 </style>
@@ -164,9 +215,10 @@ function draw(canvas, cells) {{
 
 function wordsOf(cell) {{
   const [code, length, kind, cid, text, count] = cell;
-  const numbers = text === null ? "" : [...text].map(it => "U+" + hex(it.codePointAt(0), 2)).join(" ");
+  const number = it => hex(it.codePointAt(0), 2), harmful = /[\\p{{C}}\\p{{Zl}}\\p{{Zp}}]/gu;
+  const numbers = text === null ? "" : [...text].map(it => "U+" + number(it)).join(" ");
   const lines = ["<" + hex(code, length) + ">" + (cid === null ? "" : "  CID " + cid)];
-  if (text !== null) lines.push(text + "  " + numbers);
+  if (text !== null) lines.push(text.replace(harmful, it => "\\\\u{{" + number(it) + "}}") + "  " + numbers);
   lines.push(WORDS[kind]);
   if (count) lines.push("shown " + count + (count === 1 ? " time" : " times"));
   return lines.join("\\n");
@@ -182,15 +234,19 @@ function point(event, rows, height) {{
   tip.style.top = event.clientY + 18 + "px";
 }}
 
-const canvases = [...document.querySelectorAll("canvas")];
+const canvases = [...document.querySelectorAll("canvas")], left = new Set(canvases);
+function drawOnce(canvas) {{
+  if (!left.delete(canvas)) return;
+  seen.unobserve(canvas);
+  draw(canvas, charts[canvases.indexOf(canvas)]);
+}}
+
+// a chart is drawn when it comes near, and all of them before the page is printed
 const seen = new IntersectionObserver(entries => {{
-  for (const entry of entries) {{
-    if (!entry.isIntersecting) continue;
-    seen.unobserve(entry.target);
-    draw(entry.target, charts[canvases.indexOf(entry.target)]);
-  }}
+  for (const entry of entries) if (entry.isIntersecting) drawOnce(entry.target);
 }}, {{ rootMargin: "400px" }});
 canvases.forEach(canvas => seen.observe(canvas));
+window.addEventListener("beforeprint", () => canvases.forEach(drawOnce));
 </script>
 </html>
 """
