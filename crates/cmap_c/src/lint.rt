@@ -86,12 +86,12 @@ pub extern "C" fn hayro_cmap_warning_name(warning: u32, room: &mut [u8], needed:
 }
 
 /// The warnings of a file with these layers, as C has them.
-fn numbers_of_findings(
+fn numbers_of_findings<'m>(
     alloc: Global,
-    layers: &Layers,
-    text: &[u8],
+    layers: &'m Layers,
+    text: &'m [u8],
     to_unicode: bool,
-    shown: &[u32],
+    shown: &'m [u32],
 ) -> Result<Vec<FindingNumbers>, AllocError> {
     let subject = Subject {
         map: layers,
