@@ -22,8 +22,8 @@
  *   lock, or the start or the join of a thread, orders the calls.
  * - No pointer is null, not even where its length is 0; nor are those in a hayro_cmap_file, a
  *   hayro_cmap_declaration or a hayro_cmap_facts. Where one may be null, hayro_cmap_bytes,
- *   hayro_cmap_files, hayro_cmap_room, hayro_cmap_declarations and hayro_cmap_chosen give one to use in
- *   its place.
+ *   hayro_cmap_files, hayro_cmap_room, hayro_cmap_declarations, hayro_cmap_chosen and hayro_cmap_shown
+ *   give one to use in its place.
  *   Each points to as many items as its length says, aligned as their type requires; together they
  *   have no more than PTRDIFF_MAX bytes.
  * - A room, and what a pointer points to that a call only writes to (`cid`, `supplement`, `needed`,
@@ -250,6 +250,54 @@ typedef struct hayro_cmap_fault {
     size_t name_lens[HAYRO_CMAP_MOST_NAMES]; /* how many bytes each of them has; the others are 0 */
 } hayro_cmap_fault;
 
+/* What can look wrong in a file that has a map. hayro_cmap_warning_name gives the name of a warning, which
+ * is that of `cmap check --lint`. */
+typedef enum hayro_cmap_warning {
+    HAYRO_CMAP_WARNING_NOTHING_DECLARED = 0,       /* no codespace range, no declaration and no use of another file */
+    HAYRO_CMAP_WARNING_NO_CODESPACE = 1,           /* no layer has a codespace range */
+    HAYRO_CMAP_WARNING_OUTSIDE_CODESPACE = 2,      /* codes with a CID or a notdef in no codespace range */
+    HAYRO_CMAP_WARNING_OVERLAP = 3,                /* codes with two declarations that disagree */
+    HAYRO_CMAP_WARNING_INVERTED_RANGE = 4,         /* declarations with the first code above the last */
+    HAYRO_CMAP_WARNING_CROSSES_ROW = 5,            /* ranges whose ends differ in another byte than the last */
+    HAYRO_CMAP_WARNING_LAST_BYTE = 6,              /* texts of a range whose last byte counts on past 255 */
+    HAYRO_CMAP_WARNING_NO_TEXT = 7,                /* declarations of texts that give none for a code */
+    HAYRO_CMAP_WARNING_PRIVATE_USE = 8,            /* texts with characters for private use */
+    HAYRO_CMAP_WARNING_NONCHARACTER = 9,           /* texts with noncharacters */
+    HAYRO_CMAP_WARNING_REPLACEMENT_CHARACTER = 10, /* texts with U+FFFD */
+    HAYRO_CMAP_WARNING_NULL_CHARACTER = 11,        /* texts with U+0000 */
+    HAYRO_CMAP_WARNING_NO_MAPPING = 12,            /* codes of the codespace, of up to two bytes, without a text */
+    HAYRO_CMAP_WARNING_NAME_DIFFERS = 13,          /* the name in the file isn't that of the file: never found here */
+    HAYRO_CMAP_WARNING_MODE_DIFFERS = 14,          /* a name in -V, and the writing mode isn't vertical */
+    HAYRO_CMAP_WARNING_COUNT_DIFFERS = 15,         /* sections with another number before them than that of their entries */
+    HAYRO_CMAP_WARNING_LONG_SECTION = 16,          /* sections with more than 100 entries */
+    HAYRO_CMAP_WARNING_NO_ENDCMAP = 17,            /* no endcmap after begincmap */
+    HAYRO_CMAP_WARNING_CODE_LENGTH = 18,           /* codes of a length that no codespace range has */
+    HAYRO_CMAP_WARNING_ODD_DIGITS = 19,            /* hexadecimal strings with an odd number of digits */
+    HAYRO_CMAP_WARNING_ODD_TEXT = 20               /* destinations with an odd number of bytes */
+} hayro_cmap_warning;
+
+/* Where the first of what a warning concerns is. */
+typedef enum hayro_cmap_place {
+    HAYRO_CMAP_IN_FILE = 0,   /* in the file as a whole */
+    HAYRO_CMAP_AT_CODE = 1,   /* at the code `first` */
+    HAYRO_CMAP_AT_RANGE = 2,  /* at a declaration for the codes from `first` to `last` */
+    HAYRO_CMAP_AT_NAME = 3,   /* at the name that the file gives itself */
+    HAYRO_CMAP_AT_OFFSET = 4  /* at the byte at `offset` */
+} hayro_cmap_place;
+
+/* A warning about a file, with what it concerns. */
+typedef struct hayro_cmap_finding {
+    uint64_t count;       /* how many codes, declarations, sections or strings; 1 for the file */
+    size_t shown;         /* how many of the shown codes */
+    size_t offset;        /* at an offset: where the first section or string begins, in bytes; else 0 */
+    uint32_t warning;     /* a hayro_cmap_warning */
+    uint32_t place;       /* a hayro_cmap_place */
+    uint32_t first;       /* at a code or a range; else 0 */
+    uint32_t last;        /* the same; at a code it is `first` */
+    uint32_t byte_len;    /* at a code or a range: how many bytes its codes have, 1 to 4; else 0 */
+    uint32_t first_shown; /* the lowest of the shown codes; 0 where `shown` is */
+} hayro_cmap_finding;
+
 /* A pointer as one of this type, so that compilers for C++ don't warn of a cast of C. */
 #ifdef __cplusplus
 #define HAYRO_CMAP_AS(type, pointer) static_cast<type>(pointer)
@@ -276,6 +324,11 @@ hayro_cmap_declarations(const hayro_cmap_declaration *declarations) {
 
 static inline const hayro_cmap_codes *hayro_cmap_chosen(const hayro_cmap_codes *codes) {
     static const hayro_cmap_codes none = {0, 0, 0};
+    return codes ? codes : &none;
+}
+
+static inline const uint32_t *hayro_cmap_shown(const uint32_t *codes) {
+    static const uint32_t none = 0;
     return codes ? codes : &none;
 }
 
@@ -348,6 +401,25 @@ hayro_cmap_status hayro_cmap_salvage(hayro_cmap *map, const uint8_t *data, size_
  * fields that the cause doesn't have at 0. The names don't count. */
 hayro_cmap_status hayro_cmap_message(const hayro_cmap_fault *fault, uint8_t *room, size_t room_len,
                                      size_t *needed);
+
+/* What looks wrong in a file that has a map: the warnings of `cmap check --lint`, in the order of
+ * hayro_cmap_warning, each that concerns something once. docs/COMMAND.md says when each comes. `text` is
+ * the file, if it is a text: without bytes there is no warning about how a text is written.
+ * `is_to_unicode` is whether the map is meant as one to Unicode, as the one under ToUnicode of a font.
+ * `shown` are codes that are shown with the font, in ascending order, each once: a finding also says how
+ * many of these it concerns.
+ *
+ * With HAYRO_CMAP_OK the findings stand at the head of `findings`, and `needed` is how many they are. With
+ * HAYRO_CMAP_NO_ROOM `needed` is how many there are, and `findings` is as it was. An empty handle is
+ * HAYRO_CMAP_ABSENT; then, and with HAYRO_CMAP_NO_MEMORY, nothing is written. */
+hayro_cmap_status hayro_cmap_lint(hayro_cmap *map, const uint8_t *text, size_t text_len,
+                                  bool is_to_unicode, const uint32_t *shown, size_t shown_len,
+                                  hayro_cmap_finding *findings, size_t findings_len, size_t *needed);
+
+/* The name of a hayro_cmap_warning, as no-codespace, written as a text is. HAYRO_CMAP_ABSENT for a number
+ * that no warning has. */
+hayro_cmap_status hayro_cmap_warning_name(uint32_t warning, uint8_t *room, size_t room_len,
+                                          size_t *needed);
 
 /* Reads the file of this name as hayro_cmap_parse_over does, so that what the file says of itself is
  * what the map says: the first of `files` with the name, else that of the bundle. Where neither has

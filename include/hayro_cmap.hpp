@@ -48,6 +48,7 @@ using Codespace = hayro_cmap_codespace;
 using CidRange = hayro_cmap_cid_range;
 using CodeRange = hayro_cmap_code_range;
 using Codes = hayro_cmap_codes;
+using Finding = hayro_cmap_finding;
 using Status = hayro_cmap_status;
 
 // No budget.
@@ -370,6 +371,14 @@ private:
     std::vector<std::string> names_;
 };
 
+// The name of a hayro_cmap_warning, as no-codespace; empty for a number that no warning has.
+inline std::string warning_name(std::uint32_t warning) {
+    auto name = detail::written([&](auto room, auto len, auto needed) {
+        return hayro_cmap_warning_name(warning, room, len, needed);
+    });
+    return std::move(name).value_or("");
+}
+
 class Layers;
 class Result;
 struct Salvaged;
@@ -586,6 +595,17 @@ public:
     std::vector<CodeRange> codes_of_cid(Cid cid, std::uint8_t byte_len) {
         return detail::listed<CodeRange>([&](auto room, auto len, auto needed) {
             return hayro_cmap_codes_of_cid(handle(), cid, byte_len, room, len, needed);
+        });
+    }
+
+    // What looks wrong in the file: the warnings of `cmap check --lint`, each that concerns something once.
+    // `text` is the file, if it is a text: without it there is no warning about how a text is written.
+    // `shown` are codes that are shown with the font, in ascending order, each once.
+    std::vector<Finding> lint(Bytes text = {}, bool is_to_unicode = false,
+                              Span<const std::uint32_t> shown = {}) {
+        return detail::listed<Finding>([&](auto room, auto len, auto needed) {
+            return hayro_cmap_lint(handle(), text.data(), text.size(), is_to_unicode,
+                                   hayro_cmap_shown(shown.data()), shown.size(), room, len, needed);
         });
     }
 

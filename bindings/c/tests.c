@@ -459,6 +459,96 @@ static void faults_have_messages(void) {
     CHECK(needed == 7);
 }
 
+// A map of one-byte codes, whose texts are for private use, of an odd number of digits, and right.
+static const char DOUBTFUL_TEXT[] = "1 begincodespacerange <00> <FF> endcodespacerange "
+                                    "3 beginbfchar <01> <E000> <02> <20BB7> <03> <0041> endbfchar";
+
+static hayro_cmap doubtful_map(void) {
+    hayro_cmap map = HAYRO_CMAP_EMPTY;
+    CHECK(hayro_cmap_parse(&map, TEXT(DOUBTFUL_TEXT), TEXT(""), hayro_cmap_files(NULL), 0,
+                           HAYRO_CMAP_NO_BUDGET) == HAYRO_CMAP_OK);
+    return map;
+}
+
+static bool is_finding(const hayro_cmap_finding *found, uint32_t warning, uint64_t count, size_t shown,
+                       uint32_t first_shown) {
+    return found->warning == warning && found->count == count && found->shown == shown &&
+           found->first_shown == first_shown;
+}
+
+static bool is_at(const hayro_cmap_finding *found, uint32_t place, uint32_t first, uint32_t last, uint32_t byte_len,
+                  size_t offset) {
+    return found->place == place && found->first == first && found->last == last &&
+           found->byte_len == byte_len && found->offset == offset;
+}
+
+static void warnings_are_found(void) {
+    hayro_cmap map = doubtful_map();
+    hayro_cmap_finding found[5];
+    const uint32_t shown[3] = {1, 2, 4};
+    size_t needed = 0, offset = (size_t)(strstr(DOUBTFUL_TEXT, "<20BB7>") - DOUBTFUL_TEXT);
+    found[4].count = 9;
+    CHECK(hayro_cmap_lint(&map, TEXT(DOUBTFUL_TEXT), true, shown, 3, found, 5, &needed) == HAYRO_CMAP_OK);
+    CHECK(needed == 4 && found[4].count == 9);
+    CHECK(is_finding(&found[0], HAYRO_CMAP_WARNING_PRIVATE_USE, 1, 1, 1));
+    CHECK(is_at(&found[0], HAYRO_CMAP_AT_CODE, 1, 1, 1, 0));
+    CHECK(is_finding(&found[1], HAYRO_CMAP_WARNING_NO_MAPPING, 253, 1, 4));
+    CHECK(is_at(&found[1], HAYRO_CMAP_AT_CODE, 0, 0, 1, 0));
+    CHECK(is_finding(&found[2], HAYRO_CMAP_WARNING_ODD_DIGITS, 1, 1, 2));
+    CHECK(is_at(&found[2], HAYRO_CMAP_AT_OFFSET, 0, 0, 0, offset));
+    CHECK(is_finding(&found[3], HAYRO_CMAP_WARNING_ODD_TEXT, 1, 1, 2));
+    CHECK(is_at(&found[3], HAYRO_CMAP_AT_OFFSET, 0, 0, 0, offset));
+    CHECK(hayro_cmap_lint(&map, TEXT(""), false, hayro_cmap_shown(NULL), 0, found, 5, &needed) == HAYRO_CMAP_OK);
+    CHECK(needed == 0);
+    hayro_cmap_free(&map);
+}
+
+static void warnings_without_room_are_not_written(void) {
+    hayro_cmap map = doubtful_map();
+    hayro_cmap_finding found = {9, 9, 9, 9, 9, 9, 9, 9, 9};
+    size_t needed = 0;
+    CHECK(hayro_cmap_lint(&map, TEXT(DOUBTFUL_TEXT), true, hayro_cmap_shown(NULL), 0, &found, 1, &needed) ==
+          HAYRO_CMAP_NO_ROOM);
+    CHECK(needed == 4 && is_finding(&found, 9, 9, 9, 9) && is_at(&found, 9, 9, 9, 9, 9));
+    hayro_cmap_free(&map);
+    CHECK(hayro_cmap_lint(&map, TEXT(DOUBTFUL_TEXT), true, hayro_cmap_shown(NULL), 0, &found, 1, &needed) ==
+          HAYRO_CMAP_ABSENT);
+    CHECK(needed == 4 && is_finding(&found, 9, 9, 9, 9));
+}
+
+static void warnings_are_about_declarations_and_names(void) {
+    hayro_cmap map = HAYRO_CMAP_EMPTY;
+    hayro_cmap_finding found[3];
+    size_t needed = 0;
+    CHECK(hayro_cmap_parse(&map, TEXT("/CMapName /A-V def begincidrange <01F0> <0210> 5 endcidrange"), TEXT(""),
+                           hayro_cmap_files(NULL), 0, HAYRO_CMAP_NO_BUDGET) == HAYRO_CMAP_OK);
+    CHECK(hayro_cmap_lint(&map, TEXT(""), false, hayro_cmap_shown(NULL), 0, found, 3, &needed) == HAYRO_CMAP_OK);
+    CHECK(needed == 3 && is_finding(&found[0], HAYRO_CMAP_WARNING_NO_CODESPACE, 1, 0, 0));
+    CHECK(is_at(&found[0], HAYRO_CMAP_IN_FILE, 0, 0, 0, 0));
+    CHECK(is_finding(&found[1], HAYRO_CMAP_WARNING_CROSSES_ROW, 1, 0, 0));
+    CHECK(is_at(&found[1], HAYRO_CMAP_AT_RANGE, 0x1F0, 0x210, 2, 0));
+    CHECK(is_finding(&found[2], HAYRO_CMAP_WARNING_MODE_DIFFERS, 1, 0, 0));
+    CHECK(is_at(&found[2], HAYRO_CMAP_AT_NAME, 0, 0, 0, 0));
+    hayro_cmap_free(&map);
+}
+
+static void warnings_have_names(void) {
+    static const char *names[] = {
+        "nothing-declared", "no-codespace", "outside-codespace", "overlap",      "inverted-range", "crosses-row",
+        "last-byte",        "no-text",      "private-use",       "noncharacter", "replacement-character",
+        "null-character",   "no-mapping",   "name-differs",      "mode-differs", "count-differs",  "long-section",
+        "no-endcmap",       "code-length",  "odd-digits",        "odd-text"};
+    uint8_t room[32] = {0};
+    size_t needed = 0;
+    for (uint32_t warning = HAYRO_CMAP_WARNING_NOTHING_DECLARED; warning <= HAYRO_CMAP_WARNING_ODD_TEXT; warning++) {
+        CHECK(hayro_cmap_warning_name(warning, room, sizeof room, &needed) == HAYRO_CMAP_OK);
+        CHECK(needed == strlen(names[warning]) && same(room, names[warning], needed));
+    }
+    CHECK(hayro_cmap_warning_name(HAYRO_CMAP_WARNING_OVERLAP, room, 6, &needed) == HAYRO_CMAP_NO_ROOM && needed == 7);
+    CHECK(hayro_cmap_warning_name(HAYRO_CMAP_WARNING_ODD_TEXT + 1, room, 6, &needed) == HAYRO_CMAP_ABSENT);
+    CHECK(needed == 7 && same(room, "odd-text", 8));
+}
+
 static void uses_are_named(void) {
     hayro_cmap_bundle none = HAYRO_CMAP_EMPTY;
     size_t lens[2] = {0}, names = 0, needed = 0;
@@ -833,6 +923,10 @@ int main(void) {
     files_are_read_past_their_faults();
     faults_without_room_are_counted();
     faults_have_messages();
+    warnings_are_found();
+    warnings_without_room_are_not_written();
+    warnings_are_about_declarations_and_names();
+    warnings_have_names();
     uses_are_named();
     uses_with_room_for_fewer_lengths_are_not_written();
     layers_speak_of_themselves();

@@ -312,6 +312,21 @@ static void layers_declare_cids_and_texts() {
     CHECK(map->codes_of_cid(34, 1).empty() && hayro::Map().codes_of_cid(7, 1).empty());
 }
 
+static void warnings_are_found() {
+    std::string text = "1 begincodespacerange <00> <FF> endcodespacerange "
+                       "2 beginbfchar <01> <E000> <02> <20BB7> endbfchar";
+    auto map = hayro::Map::parse(text);
+    std::vector<std::uint32_t> shown = {1, 2, 4};
+    auto found = map->lint(text, true, shown);
+    CHECK(found.size() == 4);
+    CHECK(hayro::warning_name(found[0].warning) == "private-use" && found[0].first == 1 && found[0].shown == 1);
+    CHECK(found[1].warning == HAYRO_CMAP_WARNING_NO_MAPPING && found[1].count == 254 && found[1].first_shown == 4);
+    CHECK(found[2].warning == HAYRO_CMAP_WARNING_ODD_DIGITS && found[2].offset == text.find("<20BB7>"));
+    CHECK(found[3].warning == HAYRO_CMAP_WARNING_ODD_TEXT && found[3].first_shown == 2);
+    CHECK(map->lint().empty() && hayro::Map().lint().empty());
+    CHECK(hayro::warning_name(HAYRO_CMAP_WARNING_ODD_TEXT + 1).empty());
+}
+
 static void many_declarations_are_whole() {
     std::string cids, texts;
     for (int count = 0; count < 50; count++) {
@@ -550,6 +565,7 @@ int main() {
     bytes_have_their_lengths();
     layers_are_a_view();
     layers_declare_cids_and_texts();
+    warnings_are_found();
     many_declarations_are_whole();
     files_speak_of_themselves();
     bundles_have_files();

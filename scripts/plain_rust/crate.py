@@ -12,13 +12,13 @@ BY_HAND = TOP / "bindings" / "plain-rust"
 # the bindings over the C library have the same interface: types, and calls of others; tests and an example of them
 SHARED = TOP / "bindings" / "rust"
 SHARED_SOURCES = [
-    *("builder", "collection", "encode_error", "extractor", "metadata"),
+    *("builder", "collection", "encode_error", "extractor", "finding", "metadata"),
     *("opening", "options", "predefined", "reason"),
 ]
 LICENSES = ["LICENSE-APACHE", "LICENSE-MIT"]
 README = "README.md"
 # the crates on which all others of the reader and of the writer stand
-READER = ["hayro_cmap", "cmap_encode", "cmap_unicode", "cmap_flatten", "cmap_text_writer", "cmap_tidy"]
+READER = ["hayro_cmap", "cmap_encode", "cmap_unicode", "cmap_flatten", "cmap_lint", "cmap_text_writer", "cmap_tidy"]
 # the program that runs rows of data, and the crate that it is a call of
 ROWS = "cmap_vectors"
 QUERIES = "cmap_queries"

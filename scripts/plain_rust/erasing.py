@@ -13,7 +13,7 @@ REFUSED = ["Drop", "HostRuntime", "Model", "async", "await", "cycle", "dyn", "en
 ATTRIBUTES = ["cold", "default", "derive", "inline"]
 MACROS = ["matches", "unreachable", "write", "writeln"]
 # modules of std that are in core, and those that are by hand, with the names that are there
-CORE = ["cell", "fmt", "marker", "mem", "str"]
+CORE = ["cell", "fmt", "marker", "mem", "ops", "str"]
 BY_HAND = {"alloc": ["AllocError", "AllocFailed", "Global"], "collections": ["BTreeMap", "BinaryHeap"]}
 PRELUDE = ["Box", "String", "Vec"]
 # methods with arguments that are by hand: the trait, and the name there

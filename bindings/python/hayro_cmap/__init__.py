@@ -18,6 +18,7 @@ from ._effective import TextRun
 from ._extractor import Character, Extractor
 from ._faults import Cause, NotABundle, NotWritable, Reason, Refused, Segment, Unencodable
 from ._folder import folder
+from ._lint import Finding
 from ._map import CidRange, CMap, Code, CodeRange, Codespace, Layer, Metadata, Salvaged, TextRange, WritingMode
 from ._owned import library, put
 from ._predefined import predefined
@@ -35,6 +36,7 @@ __all__ = [
     "CodeRange",
     "Codespace",
     "Extractor",
+    "Finding",
     "Layer",
     "Metadata",
     "NotABundle",

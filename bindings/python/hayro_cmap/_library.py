@@ -37,6 +37,9 @@ NO_MODE = 2
 # hayro_cmap_kind
 CODESPACE_RANGE, CID_RANGE, NOTDEF_RANGE, TEXT_RANGE = range(4)
 
+# hayro_cmap_place
+IN_FILE, AT_CODE, AT_RANGE, AT_NAME, AT_OFFSET = range(5)
+
 NO_BUDGET = 2**64 - 1
 MOST_NAMES = 16
 
@@ -152,6 +155,22 @@ class Fault(Structure):
     ]
 
 
+class Found(Structure):
+    """A hayro_cmap_finding."""
+
+    _fields_ = [
+        ("count", c_uint64),
+        ("shown", c_size_t),
+        ("offset", c_size_t),
+        ("warning", c_uint32),
+        ("place", c_uint32),
+        ("first", c_uint32),
+        ("last", c_uint32),
+        ("byte_len", c_uint32),
+        ("first_shown", c_uint32),
+    ]
+
+
 HANDLE, SIZE = POINTER(Handle), POINTER(c_size_t)
 DATA, FILES = [c_char_p, c_size_t], [POINTER(File), c_size_t]
 ROOM = [c_char_p, c_size_t, SIZE]
@@ -186,6 +205,10 @@ CALLS = {
     "hayro_cmap_layer_supplement": (c_bool, [HANDLE, c_size_t, POINTER(c_int32)]),
     "hayro_cmap_layer_writing_mode": (c_int, [HANDLE, c_size_t]),
     "hayro_cmap_layers": (c_size_t, [HANDLE]),
+    "hayro_cmap_lint": (
+        c_int,
+        [HANDLE, *DATA, c_bool, POINTER(c_uint32), c_size_t, POINTER(Found), c_size_t, SIZE],
+    ),
     "hayro_cmap_make": (c_int, [POINTER(Facts), POINTER(Declaration), c_size_t, *ROOM]),
     "hayro_cmap_message": (c_int, [POINTER(Fault), *ROOM]),
     "hayro_cmap_notdef_ranges": (c_int, [HANDLE, c_size_t, c_uint8, POINTER(DeclaredCids), c_size_t, SIZE]),
@@ -197,6 +220,7 @@ CALLS = {
     "hayro_cmap_text_units": (c_int, [HANDLE, c_size_t, c_size_t, POINTER(c_uint16), c_size_t, SIZE]),
     "hayro_cmap_uses": (c_int, [*DATA, HANDLE, SIZE, c_size_t, SIZE, *ROOM]),
     "hayro_cmap_version": (c_int, ROOM),
+    "hayro_cmap_warning_name": (c_int, [c_uint32, *ROOM]),
     "hayro_cmap_write": (c_int, [HANDLE, POINTER(ChosenCodes), c_size_t, *ROOM]),
 }
 

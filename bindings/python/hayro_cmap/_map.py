@@ -23,8 +23,10 @@ from ._library import (
     CodespaceRange,
     DeclaredCids,
     DeclaredTexts,
+    Found,
     Handle,
 )
+from ._lint import Finding, finding_of, shown_codes
 from ._owned import Owned, checked, library, put
 from ._predefined import Kept, beside
 from ._reading import (
@@ -343,6 +345,18 @@ class CMap(Owned):
         as can be. Codes that a file declares and that `byte_len` bytes can't write are among them."""
         codes = self._listed(library.hayro_cmap_codes_of_cid, CodesInRow, cid_number(cid), code_length(byte_len))
         return [CodeRange(it.first, it.last) for it in codes]
+
+    def lint(self, text: Buffer = b"", to_unicode: bool = False, shown: Iterable[int] = ()) -> List[Finding]:
+        """What looks wrong in the file of the map: the warnings of `cmap check --lint`, in its order, each that concerns
+        something once. That of the name of the file is never among them.
+
+        `text` is the file, if it is a text; without it there are no warnings about how a text is written. `to_unicode`
+        is whether the map is meant as one to Unicode, as that under ToUnicode of a font. `shown` are the numbers of
+        codes that are shown with the font: a finding says how many of these it concerns.
+        """
+        text, (codes, count) = bytes_of(text), shown_codes(shown)
+        found = self._listed(library.hayro_cmap_lint, Found, text, len(text), bool(to_unicode), codes, count)
+        return [finding_of(it) for it in found]
 
     def write(self, codes: Optional[Iterable[Union[Buffer, Code]]] = None) -> bytes:
         """One CMap file, which uses no other and answers each code as the map does: its text.

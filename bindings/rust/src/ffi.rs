@@ -121,6 +121,21 @@ struct RawCodeRange {
     last: u32,
 }
 
+/// A warning with what it concerns.
+#[repr(C)]
+#[derive(Clone, Copy, Default)]
+pub(crate) struct RawFinding {
+    pub(crate) count: u64,
+    pub(crate) shown: usize,
+    pub(crate) offset: usize,
+    pub(crate) warning: u32,
+    pub(crate) place: u32,
+    pub(crate) first: u32,
+    pub(crate) last: u32,
+    pub(crate) byte_len: u32,
+    pub(crate) first_shown: u32,
+}
+
 /// Codes in a row, of a length.
 #[repr(C)]
 #[derive(Clone, Copy)]
@@ -413,6 +428,23 @@ unsafe extern "C" {
         byte_len: u8,
         ranges: *mut RawCodeRange,
         ranges_len: usize,
+        needed: *mut usize,
+    ) -> u32;
+    fn hayro_cmap_lint(
+        map: *mut RawMap,
+        text: *const u8,
+        text_len: usize,
+        is_to_unicode: bool,
+        shown: *const u32,
+        shown_len: usize,
+        findings: *mut RawFinding,
+        findings_len: usize,
+        needed: *mut usize,
+    ) -> u32;
+    fn hayro_cmap_warning_name(
+        warning: u32,
+        room: *mut u8,
+        room_len: usize,
         needed: *mut usize,
     ) -> u32;
     fn hayro_cmap_make(
@@ -912,6 +944,27 @@ impl MapHandle {
         ranges.map(|range| range.first..=range.last).collect()
     }
 
+    /// What looks wrong in the file of the map. The shown codes are in order.
+    pub(crate) fn lint(&mut self, text: &[u8], to_unicode: bool, shown: &[u32]) -> Vec<RawFinding> {
+        let found = written(8, |found: &mut [RawFinding], needed| {
+            // SAFETY: see the head of the module.
+            unsafe {
+                hayro_cmap_lint(
+                    &mut self.0,
+                    text.as_ptr(),
+                    text.len(),
+                    to_unicode,
+                    shown.as_ptr(),
+                    shown.len(),
+                    found.as_mut_ptr(),
+                    found.len(),
+                    needed,
+                )
+            }
+        });
+        found.unwrap_or_default()
+    }
+
     /// The text of one file that answers as the map, or for these codes alone.
     pub(crate) fn write(&mut self, codes: Option<&[Codes]>) -> Option<Vec<u8>> {
         let codes = codes.map(|codes| codes.iter().map(RawCodes::of).chain([RawCodes::NONE]));
@@ -1145,6 +1198,14 @@ pub(crate) fn make(file: &CMapBuilder) -> Option<Vec<u8>> {
                 needed,
             )
         }
+    })
+}
+
+/// The name of a warning.
+pub(crate) fn warning_name(warning: u32) -> Option<Vec<u8>> {
+    written(SHORT, |room, needed| {
+        // SAFETY: see the head of the module.
+        unsafe { hayro_cmap_warning_name(warning, room.as_mut_ptr(), room.len(), needed) }
     })
 }
 

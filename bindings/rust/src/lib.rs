@@ -13,6 +13,8 @@ mod extracting;
 mod extractor;
 #[allow(unsafe_code)]
 mod ffi;
+mod finding;
+mod linting;
 mod map;
 mod metadata;
 mod names;
@@ -32,6 +34,7 @@ pub use collection::{CharacterCollection, CidFamily};
 pub use encode_error::EncodeError;
 pub use encoding::Encoder;
 pub use extractor::{Character, Extractor};
+pub use finding::{Finding, Place, Warning};
 pub use map::{CMap, Cid, CidRange, Codespace, Layer, StringCode, TextRange};
 pub use metadata::{Metadata, WritingMode};
 pub use names::CMapName;

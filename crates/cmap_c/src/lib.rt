@@ -7,6 +7,7 @@ mod fault;
 mod files;
 mod identity;
 mod keep;
+mod lint;
 mod message;
 mod open;
 mod parse;

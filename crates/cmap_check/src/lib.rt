@@ -2,6 +2,7 @@
 #![tactic(auto)]
 
 pub mod command;
+mod printed;
 mod progress;
 mod tally;
 pub mod warnings;

@@ -1,12 +1,12 @@
 //! `cmap check --lint`: what looks wrong in a file that is accepted.
 
+use crate::printed::{push_finding, push_json};
 use cmap_binary::is_marked_binary;
 use cmap_files::failure::{Failure, fault};
 use cmap_files::folders::name_of;
 use cmap_files::inputs::STANDARD_INPUT;
 use cmap_lint::finding::Finding;
 use cmap_lint::lint::{Subject, findings_of, nothing_declared};
-use cmap_lint::printed::{push_finding, push_json};
 use cmap_lint::warning::Warning;
 use cmap_sources::bases::Bases;
 use cmap_sources::reading::{Form, Input};
@@ -106,10 +106,11 @@ pub(crate) fn subject_of<'m>(
 ) -> Subject<'m> {
     let is_binary = bases.bundle.is_some() && is_marked_binary(input.bytes);
     Subject {
-        map,
+        map: map.layers(),
         text: (!is_binary).then_some(input.bytes),
         file_name: name_in(input.path),
         to_unicode: options.to_unicode,
+        shown: &[],
     }
 }
 

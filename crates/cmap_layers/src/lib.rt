@@ -2,6 +2,7 @@
 //! layers of the files that it is based on come after it.
 #![tactic(auto)]
 
+pub mod code_lengths;
 pub mod code_ranges;
 mod codespaces;
 pub mod layer;

@@ -1,8 +1,8 @@
 //! Codes each of whose bytes lies between two, as those of a codespace range. ISO 32000-1, 9.7.6.2.
 
 use crate::ranges::code_count;
-use hayro_cmap::Codespace;
-use hayro_cmap::runs::Range;
+use cmap_runs::runs::Range;
+use cmap_values::declarations::Codespace;
 use std::alloc::{AllocError, Global};
 use std::ops::RangeInclusive;
 

@@ -1,25 +1,28 @@
 //! Texts with characters that a map to Unicode should not have.
 
-use crate::finding::{Finding, Place};
-use crate::ranges::{code_count, common};
+use crate::finding::{Finding, OpenFinding};
+use crate::lint::Subject;
+use crate::ranges::common;
 use crate::text_spans::{TextSpan, spans_of};
 use crate::warning::Warning;
-use cmap_queries::code_lengths::text_code_len;
-use hayro_cmap::runs::{Looks, Range};
-use hayro_cmap::{CMap, Layer};
+use cmap_layers::code_lengths::text_code_len;
+use cmap_layers::layer::Layer;
+use cmap_layers::layers::Layers;
+use cmap_runs::runs::{Looks, Range};
+use cmap_tokens::utf16::BfString;
 use std::alloc::{AllocError, Global};
 use std::str::Chars;
 
-/// The warnings about characters.
-pub(crate) const CHARACTER_WARNINGS: &[Warning] = &[
-    Warning::PrivateUse,
-    Warning::Noncharacter,
-    Warning::ReplacementCharacter,
-    Warning::NullCharacter,
-];
-
 /// Code points from a first to a last one.
 type Points = (u32, u32);
+
+/// The warnings about characters, each with the code points that it is about.
+pub(crate) const CHARACTER_WARNINGS: &[(Warning, &[Points])] = &[
+    (Warning::PrivateUse, PRIVATE_USE),
+    (Warning::Noncharacter, NONCHARACTERS),
+    (Warning::ReplacementCharacter, REPLACEMENT),
+    (Warning::NullCharacter, NULL),
+];
 
 /// The characters for private use. The Unicode Standard, 23.5.
 const PRIVATE_USE: &[Points] = &[
@@ -54,54 +57,54 @@ const REPLACEMENT: &[Points] = &[(0xFFFD, 0xFFFD)];
 
 const NULL: &[Points] = &[(0, 0)];
 
-/// The code points that a warning is about.
-fn points_of(warning: Warning) -> &'static [Points] {
-    match warning {
-        Warning::PrivateUse => PRIVATE_USE,
-        Warning::Noncharacter => NONCHARACTERS,
-        Warning::ReplacementCharacter => REPLACEMENT,
-        Warning::NullCharacter => NULL,
-        _ => &[],
-    }
-}
-
-/// The codes of the top layer whose texts have a character that a warning is about.
+/// The codes of the top layer whose texts have one of the points that a warning is about.
 pub(crate) fn characters<'m>(
     alloc: Global,
-    map: &CMap,
+    subject: &Subject<'m>,
     layer: &Layer,
     warning: Warning,
+    points: &[Points],
 ) -> Result<Finding<'m>, AllocError> {
-    let mut finding = Finding::new(warning);
+    let mut finding = OpenFinding::new(alloc, warning, subject.shown);
     let table = layer.texts();
     let mut looks = Looks::new();
     for index in 0..table.run_count() {
         let (start, end, _) = table.run(index, &mut looks);
         if let Some(declared) = table.find(start, &mut looks) {
             let spans = spans_of(alloc, declared, Range { start, end })?;
-            add_spans(&mut finding, map, &spans);
+            add_spans(&mut finding, subject.map, &spans, points);
         }
     }
-    Ok(finding)
+    finding.finish(alloc)
 }
 
-fn add_spans(finding: &mut Finding<'_>, map: &CMap, spans: &[TextSpan]) {
+fn add_spans(finding: &mut OpenFinding<'_>, map: &Layers, spans: &[TextSpan], points: &[Points]) {
     for span in spans {
-        add_span(finding, map, span);
+        match &span.text {
+            Some(BfString::Char(last)) => add_areas(finding, map, span.codes, *last, points),
+            Some(BfString::String(text)) => {
+                add_string(finding, map, span.codes, text.chars(), points)
+            }
+            None => {}
+        }
     }
 }
 
 /// Adds the codes of a span that have one of the points: all codes if a character before the last is one.
-fn add_span(finding: &mut Finding<'_>, map: &CMap, span: &TextSpan) {
-    let points = points_of(finding.warning);
-    let mut characters = span.text.chars();
+fn add_string(
+    finding: &mut OpenFinding<'_>,
+    map: &Layers,
+    codes: Range,
+    mut characters: Chars<'_>,
+    points: &[Points],
+) {
     let Some(last) = characters.next_back() else {
         return;
     };
     if has_any(characters, points) {
-        add_codes(finding, map, span.codes);
+        add_codes(finding, map, codes);
     } else {
-        add_areas(finding, map, span.codes, last);
+        add_areas(finding, map, codes, last, points);
     }
 }
 
@@ -126,8 +129,14 @@ fn is_among(character: char, points: &[Points]) -> bool {
 }
 
 /// Adds the codes whose last character is one of the points. `last` belongs to the first code.
-fn add_areas(finding: &mut Finding<'_>, map: &CMap, codes: Range, last: char) {
-    for (start, end) in points_of(finding.warning) {
+fn add_areas(
+    finding: &mut OpenFinding<'_>,
+    map: &Layers,
+    codes: Range,
+    last: char,
+    points: &[Points],
+) {
+    for (start, end) in points {
         let area = Range {
             start: *start,
             end: *end,
@@ -156,8 +165,6 @@ fn codes_with(codes: Range, first: u32, area: Range) -> Option<Range> {
     })
 }
 
-fn add_codes(finding: &mut Finding<'_>, map: &CMap, codes: Range) {
-    let byte_len = text_code_len(map.layers(), codes);
-    let code = codes.start;
-    finding.add(code_count(codes), Place::Code { byte_len, code });
+fn add_codes(finding: &mut OpenFinding<'_>, map: &Layers, codes: Range) {
+    finding.add_codes(text_code_len(map, codes), codes);
 }

@@ -2,20 +2,26 @@
 
 use crate::boxes::{CodeBox, boxes_apart, count_outside, first_outside};
 use crate::declared::CID_LISTS;
-use crate::finding::{Finding, Place};
-use crate::ranges::{code_count, push_range, union};
+use crate::finding::{Finding, OpenFinding, Place};
+use crate::lint::Subject;
+use crate::ranges::{push_range, ranges_apart};
+use crate::shown::Concerned;
 use crate::text_spans::without_text;
 use crate::warning::Warning;
-use cmap_queries::code_lengths::LENGTHS;
-use hayro_cmap::runs::{Looks, Range, Table};
-use hayro_cmap::{ByLength, CMap, CidRange, CodeLength, Codespace, Layer, TextStretch};
+use cmap_layers::code_lengths::LENGTHS;
+use cmap_layers::layer::Layer;
+use cmap_layers::layers::Layers;
+use cmap_layers::stretches::TextStretch;
+use cmap_runs::runs::{Looks, Range, Table};
+use cmap_values::code_length::CodeLength;
+use cmap_values::declarations::{BfRange, ByLength, CidRange, Codespace};
 use std::alloc::{AllocError, Global};
 
 /// The lengths of codes among which those without a text are looked for.
 const SHORT_LENGTHS: &[CodeLength] = &[CodeLength::One, CodeLength::Two];
 
 /// A warning if no layer has a codespace range.
-pub(crate) fn no_codespace<'m>(map: &CMap) -> Finding<'m> {
+pub(crate) fn no_codespace<'m>(map: &Layers) -> Finding<'m> {
     let mut finding = Finding::new(Warning::NoCodespace);
     if !has_codespace(map) {
         finding.add(1, Place::File);
@@ -24,8 +30,8 @@ pub(crate) fn no_codespace<'m>(map: &CMap) -> Finding<'m> {
 }
 
 /// Whether some layer has a codespace range.
-pub(crate) fn has_codespace(map: &CMap) -> bool {
-    for layer in map.layers().as_slice() {
+pub(crate) fn has_codespace(map: &Layers) -> bool {
+    for layer in map.as_slice() {
         if !layer.codespaces().is_empty() {
             return true;
         }
@@ -34,7 +40,7 @@ pub(crate) fn has_codespace(map: &CMap) -> bool {
 }
 
 /// Which lengths the codespace ranges of all layers have.
-pub(crate) fn codespace_lengths(map: &CMap) -> ByLength<bool> {
+pub(crate) fn codespace_lengths(map: &Layers) -> ByLength<bool> {
     ByLength {
         one: has_codespace_of(map, CodeLength::One),
         two: has_codespace_of(map, CodeLength::Two),
@@ -44,9 +50,8 @@ pub(crate) fn codespace_lengths(map: &CMap) -> ByLength<bool> {
 }
 
 /// Whether some layer has a codespace range of this length.
-fn has_codespace_of(map: &CMap, len: CodeLength) -> bool {
-    map.layers()
-        .as_slice()
+fn has_codespace_of(map: &Layers, len: CodeLength) -> bool {
+    map.as_slice()
         .iter()
         .any(|layer| has_space_of(layer.codespaces(), len))
 }
@@ -58,21 +63,21 @@ fn has_space_of(spaces: &[Codespace], len: CodeLength) -> bool {
 /// The codes that the top layer gives a CID or a notdef, and that lie in no codespace range.
 pub(crate) fn outside_codespace<'m>(
     alloc: Global,
-    map: &CMap,
+    subject: &Subject<'m>,
     layer: &Layer,
 ) -> Result<Finding<'m>, AllocError> {
-    let mut finding = Finding::new(Warning::OutsideCodespace);
+    let mut finding = OpenFinding::new(alloc, Warning::OutsideCodespace, subject.shown);
     for len in LENGTHS {
-        add_outside(alloc, &mut finding, map, layer, *len)?;
+        add_outside(alloc, &mut finding, subject.map, layer, *len)?;
     }
-    Ok(finding)
+    finding.finish(alloc)
 }
 
 /// Adds those that have a length.
 fn add_outside(
     alloc: Global,
-    finding: &mut Finding<'_>,
-    map: &CMap,
+    finding: &mut OpenFinding<'_>,
+    map: &Layers,
     layer: &Layer,
     len: CodeLength,
 ) -> Result<(), AllocError> {
@@ -85,7 +90,7 @@ fn add_outside(
 
 /// Adds the codes of ranges that lie in none of the boxes.
 fn add_outside_boxes(
-    finding: &mut Finding<'_>,
+    finding: &mut OpenFinding<'_>,
     boxes: &[CodeBox],
     ranges: &[Range],
     len: CodeLength,
@@ -93,8 +98,22 @@ fn add_outside_boxes(
     for range in ranges {
         let count = count_outside(boxes, *range);
         if count > 0 {
-            let first = place_outside(finding, boxes, *range, len);
-            finding.add(count, first);
+            let first = place_outside(&finding.found, boxes, *range, len);
+            finding.found.add(count, first);
+            add_shown_outside(&mut finding.concerned, boxes, *range);
+        }
+    }
+}
+
+/// Adds the shown codes of a range that lie in none of the boxes.
+fn add_shown_outside(concerned: &mut Concerned<'_>, boxes: &[CodeBox], range: Range) {
+    for code in concerned.shown_in(range) {
+        let codes = Range {
+            start: *code,
+            end: *code,
+        };
+        if count_outside(boxes, codes) > 0 {
+            concerned.add(codes);
         }
     }
 }
@@ -118,16 +137,16 @@ fn place_outside<'m>(
 /// The codes of a length that lie in a codespace range of some layer.
 fn boxes_of(
     alloc: Global,
-    map: &CMap,
+    map: &Layers,
     len: CodeLength,
 ) -> Result<Option<Vec<CodeBox>>, AllocError> {
     boxes_apart(alloc, &spaces_of(alloc, map, len)?)
 }
 
 /// The codespace ranges of a length, those of all layers.
-fn spaces_of(alloc: Global, map: &CMap, len: CodeLength) -> Result<Vec<Codespace>, AllocError> {
+fn spaces_of(alloc: Global, map: &Layers, len: CodeLength) -> Result<Vec<Codespace>, AllocError> {
     let mut spaces = Vec::new(alloc);
-    for layer in map.layers().as_slice() {
+    for layer in map.as_slice() {
         add_spaces(&mut spaces, layer.codespaces(), len)?;
     }
     Ok(spaces)
@@ -152,7 +171,7 @@ fn declared_codes(alloc: Global, layer: &Layer, len: CodeLength) -> Result<Vec<R
     for list in CID_LISTS {
         add_ranges(&mut ranges, list.table(layer, len))?;
     }
-    union(alloc, ranges)
+    ranges_apart(alloc, ranges)
 }
 
 fn add_ranges(ranges: &mut Vec<Range>, table: &Table<CidRange>) -> Result<(), AllocError> {
@@ -164,20 +183,23 @@ fn add_ranges(ranges: &mut Vec<Range>, table: &Table<CidRange>) -> Result<(), Al
 }
 
 /// The codes of one and of two bytes that lie in a codespace range and have no text.
-pub(crate) fn no_mapping<'m>(alloc: Global, map: &CMap) -> Result<Finding<'m>, AllocError> {
-    let mut finding = Finding::new(Warning::NoMapping);
+pub(crate) fn no_mapping<'m>(
+    alloc: Global,
+    subject: &Subject<'m>,
+) -> Result<Finding<'m>, AllocError> {
+    let mut finding = OpenFinding::new(alloc, Warning::NoMapping, subject.shown);
     for len in SHORT_LENGTHS {
-        if let Some(boxes) = boxes_of(alloc, map, *len)? {
-            add_unmapped(alloc, &mut finding, map, &boxes, *len)?;
+        if let Some(boxes) = boxes_of(alloc, subject.map, *len)? {
+            add_unmapped(alloc, &mut finding, subject.map, &boxes, *len)?;
         }
     }
-    Ok(finding)
+    finding.finish(alloc)
 }
 
 fn add_unmapped(
     alloc: Global,
-    finding: &mut Finding<'_>,
-    map: &CMap,
+    finding: &mut OpenFinding<'_>,
+    map: &Layers,
     boxes: &[CodeBox],
     len: CodeLength,
 ) -> Result<(), AllocError> {
@@ -190,8 +212,8 @@ fn add_unmapped(
 /// Adds the codes of a box, row by row.
 fn add_unmapped_of(
     alloc: Global,
-    finding: &mut Finding<'_>,
-    map: &CMap,
+    finding: &mut OpenFinding<'_>,
+    map: &Layers,
     codes: &CodeBox,
     len: CodeLength,
 ) -> Result<(), AllocError> {
@@ -204,8 +226,8 @@ fn add_unmapped_of(
 /// Adds the codes of a range, stretch by stretch.
 fn add_unmapped_in(
     alloc: Global,
-    finding: &mut Finding<'_>,
-    map: &CMap,
+    finding: &mut OpenFinding<'_>,
+    map: &Layers,
     range: Range,
     len: CodeLength,
 ) -> Result<(), AllocError> {
@@ -213,7 +235,7 @@ fn add_unmapped_in(
     let mut next = u64::from(range.start);
     while next <= end {
         let start = next as u32;
-        let stretch = map.layers().text_stretch(start);
+        let stretch = map.text_stretch(start);
         let codes = Range {
             start,
             end: stretch.last.min(range.end),
@@ -227,16 +249,28 @@ fn add_unmapped_in(
 /// Adds the codes of a stretch for which its declaration has no text.
 fn add_unmapped_stretch(
     alloc: Global,
-    finding: &mut Finding<'_>,
+    finding: &mut OpenFinding<'_>,
     stretch: TextStretch<'_>,
     codes: Range,
     len: CodeLength,
 ) -> Result<(), AllocError> {
-    let (count, code) = match stretch.declaration {
-        Some(declared) => without_text(alloc, declared, codes)?,
-        None => (code_count(codes), codes.start),
-    };
-    let byte_len = len.count();
-    finding.add(count, Place::Code { byte_len, code });
+    match stretch.declaration {
+        Some(declared) => add_without_text(alloc, finding, declared, codes, len)?,
+        None => finding.add_codes(len.count(), codes),
+    }
+    Ok(())
+}
+
+/// Adds the codes for which a declaration has no text.
+fn add_without_text(
+    alloc: Global,
+    finding: &mut OpenFinding<'_>,
+    declared: &BfRange,
+    codes: Range,
+    len: CodeLength,
+) -> Result<(), AllocError> {
+    for codes in &without_text(alloc, declared, codes)? {
+        finding.add_codes(len.count(), *codes);
+    }
     Ok(())
 }

@@ -1,7 +1,9 @@
 //! The declarations of a layer, list by list.
 
-use hayro_cmap::runs::Table;
-use hayro_cmap::{CidRange, CodeLength, Layer};
+use cmap_layers::layer::Layer;
+use cmap_runs::runs::Table;
+use cmap_values::code_length::CodeLength;
+use cmap_values::declarations::CidRange;
 
 /// The lists of a layer whose declarations give CIDs.
 #[derive(Clone, Copy)]

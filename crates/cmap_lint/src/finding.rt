@@ -1,7 +1,10 @@
 //! A finding: a warning, how much it concerns, and where first.
 
+use crate::ranges::code_count;
+use crate::shown::Concerned;
 use crate::warning::Warning;
-use hayro_cmap::runs::Range;
+use cmap_runs::runs::Range;
+use std::alloc::{AllocError, Global};
 
 /// A warning, with what it concerns.
 #[derive(Clone, Copy)]
@@ -12,6 +15,10 @@ pub struct Finding<'m> {
     pub count: u64,
     /// The first of these.
     pub first: Place<'m>,
+    /// How many of the shown codes it concerns; 0 where it is about no codes.
+    pub shown: usize,
+    /// The lowest of these.
+    pub first_shown: Option<u32>,
 }
 
 /// Where something is found.
@@ -36,6 +43,8 @@ impl<'m> Finding<'m> {
             warning,
             count: 0,
             first: Place::File,
+            shown: 0,
+            first_shown: None,
         }
     }
 
@@ -49,5 +58,43 @@ impl<'m> Finding<'m> {
             self.first = place;
         }
         self.count = self.count.saturating_add(count);
+    }
+}
+
+/// A finding about codes, to which more is added.
+#[derive(Drop)]
+pub(crate) struct OpenFinding<'m> {
+    /// The finding without its shown codes.
+    pub(crate) found: Finding<'m>,
+    /// The shown codes that it concerns.
+    pub(crate) concerned: Concerned<'m>,
+}
+
+impl<'m> OpenFinding<'m> {
+    /// A warning that concerns nothing yet. These codes are shown, in ascending order.
+    pub(crate) fn new(alloc: Global, warning: Warning, shown: &'m [u32]) -> OpenFinding<'m> {
+        OpenFinding {
+            found: Finding::new(warning),
+            concerned: Concerned::new(alloc, shown),
+        }
+    }
+
+    /// Adds codes of `byte_len` bytes in a row.
+    pub(crate) fn add_codes(&mut self, byte_len: u8, codes: Range) {
+        let code = codes.start;
+        self.found
+            .add(code_count(codes), Place::Code { byte_len, code });
+        self.concerned.add(codes);
+    }
+
+    /// The finding. It fails only if memory runs out, or ran out for a shown code.
+    pub(crate) fn finish(self, alloc: Global) -> Result<Finding<'m>, AllocError> {
+        let OpenFinding { found, concerned } = self;
+        let (shown, first_shown) = concerned.finish(alloc)?;
+        Ok(Finding {
+            shown,
+            first_shown,
+            ..found
+        })
     }
 }

@@ -2,13 +2,14 @@
 
 use crate::finding::{Finding, Place};
 use crate::warning::Warning;
-use hayro_cmap::{CMap, WritingMode};
+use cmap_layers::layers::Layers;
+use cmap_values::writing_mode::WritingMode;
 
 /// What the names of files for vertical writing end in.
 const VERTICAL_SUFFIX: &[u8] = b"-V";
 
 /// The name that the file states, if the file has another one on the disk.
-pub(crate) fn name_differs<'m>(map: &'m CMap, file_name: Option<&[u8]>) -> Finding<'m> {
+pub(crate) fn name_differs<'m>(map: &'m Layers, file_name: Option<&[u8]>) -> Finding<'m> {
     let mut finding = Finding::new(Warning::NameDiffers);
     let name = map.metadata().name.as_deref();
     if let (Some(name), Some(file_name)) = (name, file_name) {
@@ -20,7 +21,7 @@ pub(crate) fn name_differs<'m>(map: &'m CMap, file_name: Option<&[u8]>) -> Findi
 }
 
 /// The name that the file states, if it is one for vertical writing and the map isn't.
-pub(crate) fn mode_differs<'m>(map: &'m CMap) -> Finding<'m> {
+pub(crate) fn mode_differs<'m>(map: &'m Layers) -> Finding<'m> {
     let mut finding = Finding::new(Warning::ModeDiffers);
     if let Some(name) = map.metadata().name.as_deref() {
         if name.ends_with(VERTICAL_SUFFIX) && mode_of(map) != Some(WritingMode::Vertical) {
@@ -31,8 +32,8 @@ pub(crate) fn mode_differs<'m>(map: &'m CMap) -> Finding<'m> {
 }
 
 /// The writing mode of the first layer that has one.
-fn mode_of(map: &CMap) -> Option<WritingMode> {
-    for layer in map.layers().as_slice() {
+fn mode_of(map: &Layers) -> Option<WritingMode> {
+    for layer in map.as_slice() {
         if let Some(mode) = layer.metadata().writing_mode {
             return Some(mode);
         }

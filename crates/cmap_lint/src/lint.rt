@@ -7,23 +7,27 @@ use crate::identity::{mode_differs, name_differs};
 use crate::overlaps::overlaps;
 use crate::sections::Sections;
 use crate::shapes::Shapes;
+use crate::strings::Strings;
 use crate::text_spans::no_text;
 use crate::warning::Warning;
-use cmap_queries::code_lengths::{LENGTHS, has_codes};
-use hayro_cmap::{CMap, Layer};
+use cmap_layers::code_lengths::{LENGTHS, has_codes};
+use cmap_layers::layer::Layer;
+use cmap_layers::layers::Layers;
 use std::alloc::{AllocError, Global};
 
 /// A file that is accepted.
 #[derive(Clone, Copy)]
 pub struct Subject<'m> {
-    /// The map of the file.
-    pub map: &'m CMap,
+    /// The layers of its map.
+    pub map: &'m Layers,
     /// The bytes of the file, if it is a text.
     pub text: Option<&'m [u8]>,
     /// The last part of its path, if it has one.
     pub file_name: Option<&'m [u8]>,
     /// Whether it is meant as a map to Unicode.
     pub to_unicode: bool,
+    /// The codes that are shown, in ascending order, each once.
+    pub shown: &'m [u32],
 }
 
 /// The warnings of a file, in the order of `WARNINGS`.
@@ -34,24 +38,24 @@ pub fn findings_of<'m>(
     let mut findings = Findings::new(alloc);
     findings.add(nothing_declared(subject.map));
     findings.add(no_codespace(subject.map));
-    if let Some(layer) = subject.map.layers().as_slice().first() {
-        findings.add_of_layer(alloc, subject.map, layer);
+    if let Some(layer) = subject.map.as_slice().first() {
+        findings.add_of_layer(alloc, subject, layer);
         if subject.to_unicode {
-            findings.add_to_unicode(alloc, subject.map, layer);
+            findings.add_to_unicode(alloc, subject, layer);
         }
     }
     findings.add(name_differs(subject.map, subject.file_name));
     findings.add(mode_differs(subject.map));
     if let Some(text) = subject.text {
-        findings.add_of_text(alloc, subject.map, text);
+        findings.add_of_text(alloc, subject, text);
     }
     findings.finish()
 }
 
 /// A warning if a file has no codespace range, no declaration and no use of another file.
-pub fn nothing_declared<'m>(map: &CMap) -> Finding<'m> {
+pub fn nothing_declared<'m>(map: &Layers) -> Finding<'m> {
     let mut finding = Finding::new(Warning::NothingDeclared);
-    if let [layer] = map.layers().as_slice() {
+    if let [layer] = map.as_slice() {
         if layer.texts().decl_count() == 0 && !has_codes_of_any_length(map) {
             finding.add(1, Place::File);
         }
@@ -60,9 +64,9 @@ pub fn nothing_declared<'m>(map: &CMap) -> Finding<'m> {
 }
 
 /// Whether a map has a codespace range, or a declaration of CIDs or notdefs.
-fn has_codes_of_any_length(map: &CMap) -> bool {
+fn has_codes_of_any_length(map: &Layers) -> bool {
     for len in LENGTHS {
-        if has_codes(map.layers(), *len) {
+        if has_codes(map, *len) {
             return true;
         }
     }
@@ -100,44 +104,60 @@ impl<'m> Findings<'m> {
     }
 
     /// Adds what looks wrong in the declarations of the top layer.
-    fn add_of_layer(&mut self, alloc: Global, map: &'m CMap, layer: &Layer) {
-        if has_codespace(map) {
-            self.add_found(outside_codespace(alloc, map, layer));
+    fn add_of_layer(&mut self, alloc: Global, subject: &Subject<'m>, layer: &Layer) {
+        if has_codespace(subject.map) {
+            self.add_found(outside_codespace(alloc, subject, layer));
         }
-        self.add_found(overlaps(alloc, map, layer));
-        let shapes = Shapes::of(map, layer);
-        self.add(shapes.inverted);
-        self.add(shapes.crossing);
-        self.add(shapes.passing);
-        self.add_found(no_text(alloc, map, layer));
+        self.add_found(overlaps(alloc, subject, layer));
+        let Shapes {
+            inverted,
+            crossing,
+            passing,
+        } = Shapes::of(alloc, subject, layer);
+        self.add_found(inverted.finish(alloc));
+        self.add_found(crossing.finish(alloc));
+        self.add_found(passing.finish(alloc));
+        self.add_found(no_text(alloc, subject, layer));
     }
 
     /// Adds what looks wrong in a map to Unicode.
-    fn add_to_unicode(&mut self, alloc: Global, map: &'m CMap, layer: &Layer) {
-        for warning in CHARACTER_WARNINGS {
-            self.add_found(characters(alloc, map, layer, *warning));
+    fn add_to_unicode(&mut self, alloc: Global, subject: &Subject<'m>, layer: &Layer) {
+        for (warning, points) in CHARACTER_WARNINGS {
+            self.add_found(characters(alloc, subject, layer, *warning, points));
         }
-        self.add_found(no_mapping(alloc, map));
+        self.add_found(no_mapping(alloc, subject));
     }
 
     /// Adds what looks wrong in how a text is written.
-    fn add_of_text(&mut self, alloc: Global, map: &CMap, text: &[u8]) {
-        match Sections::of(alloc, map, text) {
-            Ok(sections) => self.add_of_sections(map, &sections),
+    fn add_of_text(&mut self, alloc: Global, subject: &Subject<'m>, text: &[u8]) {
+        match Sections::of(alloc, subject, text) {
+            Ok(sections) => self.add_of_sections(alloc, subject.map, sections),
             Err(AllocError) => self.is_whole = false,
         }
     }
 
     /// Adds what looks wrong in sections.
-    fn add_of_sections(&mut self, map: &CMap, sections: &Sections<'m>) {
-        self.add(sections.count_differs);
-        self.add(sections.long);
-        self.add(sections.no_endcmap);
+    fn add_of_sections(&mut self, alloc: Global, map: &Layers, sections: Sections<'m>) {
+        let Sections {
+            count_differs,
+            long,
+            no_endcmap,
+            strings,
+        } = sections;
+        self.add(count_differs);
+        self.add(long);
+        self.add(no_endcmap);
+        let Strings {
+            code_length,
+            odd_digits,
+            odd_text,
+            ..
+        } = strings;
         if has_codespace(map) {
-            self.add(sections.strings.code_length);
+            self.add_found(code_length.finish(alloc));
         }
-        self.add(sections.strings.odd_digits);
-        self.add(sections.strings.odd_text);
+        self.add_found(odd_digits.finish(alloc));
+        self.add_found(odd_text.finish(alloc));
     }
 
     fn finish(self) -> Result<Vec<Finding<'m>>, AllocError> {

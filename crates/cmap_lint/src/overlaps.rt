@@ -1,12 +1,16 @@
 //! Codes with two declarations of one list that disagree.
 
 use crate::declared::{CID_LISTS, CidList};
-use crate::finding::{Finding, Place};
-use crate::ranges::{code_count, join, push_range, sort, union};
+use crate::finding::{Finding, OpenFinding};
+use crate::lint::Subject;
+use crate::ranges::{join, push_range, ranges_apart, sort};
 use crate::warning::Warning;
-use cmap_queries::code_lengths::{LENGTHS, text_code_len};
-use hayro_cmap::runs::{Looks, Range, Table};
-use hayro_cmap::{BfRange, CMap, CidRange, CodeLength, Layer};
+use cmap_layers::code_lengths::{LENGTHS, text_code_len};
+use cmap_layers::layer::Layer;
+use cmap_layers::layers::Layers;
+use cmap_runs::runs::{Looks, Range, Table};
+use cmap_values::code_length::CodeLength;
+use cmap_values::declarations::{BfRange, CidRange};
 use std::alloc::{AllocError, Global};
 
 /// A declaration by what it gives: two of one group agree on each code that both have.
@@ -28,28 +32,27 @@ struct TextKey<'d> {
 /// The codes of the top layer with declarations that disagree.
 pub(crate) fn overlaps<'m>(
     alloc: Global,
-    map: &CMap,
+    subject: &Subject<'m>,
     layer: &Layer,
 ) -> Result<Finding<'m>, AllocError> {
-    let mut finding = Finding::new(Warning::Overlap);
+    let mut finding = OpenFinding::new(alloc, Warning::Overlap, subject.shown);
     for list in CID_LISTS {
         add_list(alloc, &mut finding, layer, *list)?;
     }
-    add_texts(alloc, &mut finding, map, layer)?;
-    Ok(finding)
+    add_texts(alloc, &mut finding, subject.map, layer)?;
+    finding.finish(alloc)
 }
 
 /// Adds the codes whose texts disagree.
 fn add_texts(
     alloc: Global,
-    finding: &mut Finding<'_>,
-    map: &CMap,
+    finding: &mut OpenFinding<'_>,
+    map: &Layers,
     layer: &Layer,
 ) -> Result<(), AllocError> {
     let grouped = grouped_texts(alloc, layer.texts())?;
     for range in &disputed(alloc, grouped)? {
-        let byte_len = text_code_len(map.layers(), *range);
-        add_codes(finding, byte_len, *range);
+        finding.add_codes(text_code_len(map, *range), *range);
     }
     Ok(())
 }
@@ -57,7 +60,7 @@ fn add_texts(
 /// Adds the codes of a list.
 fn add_list(
     alloc: Global,
-    finding: &mut Finding<'_>,
+    finding: &mut OpenFinding<'_>,
     layer: &Layer,
     list: CidList,
 ) -> Result<(), AllocError> {
@@ -70,22 +73,16 @@ fn add_list(
 /// Adds the codes of a list that have a length.
 fn add_of_length(
     alloc: Global,
-    finding: &mut Finding<'_>,
+    finding: &mut OpenFinding<'_>,
     layer: &Layer,
     list: CidList,
     len: CodeLength,
 ) -> Result<(), AllocError> {
     let grouped = grouped_cids(alloc, list, list.table(layer, len))?;
     for range in &disputed(alloc, grouped)? {
-        add_codes(finding, len.count(), *range);
+        finding.add_codes(len.count(), *range);
     }
     Ok(())
-}
-
-/// Adds the codes of a range.
-fn add_codes(finding: &mut Finding<'_>, byte_len: u8, range: Range) {
-    let code = range.start;
-    finding.add(code_count(range), Place::Code { byte_len, code });
 }
 
 /// The declarations of a list that have a code. Those of CIDs agree where they give the same CID to
@@ -176,7 +173,7 @@ fn disputed(alloc: Global, grouped: Vec<Grouped>) -> Result<Vec<Range>, AllocErr
     let ranges = ranges_of_groups(alloc, grouped)?;
     let mut disputed = Vec::new(alloc);
     push_disputed(&mut disputed, &ranges)?;
-    union(alloc, disputed)
+    ranges_apart(alloc, disputed)
 }
 
 /// Adds the codes that lie in two of these ranges, which are in the order of their first codes.

@@ -1,6 +1,6 @@
 //! Ranges of codes as sets.
 
-use hayro_cmap::runs::Range;
+use cmap_runs::runs::Range;
 use std::alloc::{AllocError, Global};
 
 /// How many codes a range has.
@@ -28,7 +28,10 @@ pub(crate) fn push_range(ranges: &mut Vec<Range>, range: Range) -> Result<(), Al
 }
 
 /// The codes of ranges, none of which is empty, as ranges that lie apart, in order.
-pub(crate) fn union(alloc: Global, mut ranges: Vec<Range>) -> Result<Vec<Range>, AllocError> {
+pub(crate) fn ranges_apart(
+    alloc: Global,
+    mut ranges: Vec<Range>,
+) -> Result<Vec<Range>, AllocError> {
     sort(&mut ranges)?;
     let mut apart = Vec::new(alloc);
     for range in &ranges {

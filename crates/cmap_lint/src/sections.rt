@@ -4,12 +4,11 @@
 ghost use Rattle.std.specs.Prelude.{◌<◌};
 
 use crate::finding::{Finding, Place};
+use crate::lint::Subject;
 use crate::strings::{Part, Strings};
 use crate::warning::Warning;
-use cmap_escape::count::Count;
 use cmap_text::{Extent, Section, is_key, opened_section};
-use hayro_cmap::CMap;
-use hayro_cmap::token::{Number, Scanner, Token};
+use cmap_tokens::token::{Number, Scanner, Token};
 use std::alloc::{AllocError, Global};
 
 /// The most entries that a section may have.
@@ -37,12 +36,16 @@ pub(crate) struct Sections<'m> {
 
 impl<'m> Sections<'m> {
     /// Those of a text that is accepted, and whose map this is.
-    pub(crate) fn of(alloc: Global, map: &CMap, text: &[u8]) -> Result<Sections<'m>, AllocError> {
+    pub(crate) fn of(
+        alloc: Global,
+        subject: &Subject<'m>,
+        text: &[u8],
+    ) -> Result<Sections<'m>, AllocError> {
         let mut sections = Sections {
             count_differs: Finding::new(Warning::CountDiffers),
             long: Finding::new(Warning::LongSection),
             no_endcmap: Finding::new(Warning::NoEndcmap),
-            strings: Strings::new(alloc, map),
+            strings: Strings::new(alloc, subject),
         };
         sections.add_text(text)?;
         Ok(sections)
@@ -92,7 +95,7 @@ impl<'m> Sections<'m> {
         section: Section,
         most: usize,
     ) -> Result<usize, AllocError> {
-        let mut parts = Count::of(0);
+        let mut parts: usize = 0;
         let mut is_in_list = false;
         for _ in 0..most {
             let Ok(Some(token)) = scanner.next_token() else {
@@ -102,18 +105,17 @@ impl<'m> Sections<'m> {
                 Some(name) if name == LIST_START => is_in_list = true,
                 Some(name) if name == LIST_END => {
                     is_in_list = false;
-                    parts.add_one();
+                    parts = parts.saturating_add(1);
                 }
                 Some(_) => break,
+                None if is_in_list => self.add_part(&token, scanner, Part::Listed)?,
                 None => {
-                    self.add_part(&token, scanner, part_of(section, parts.get()))?;
-                    if !is_in_list {
-                        parts.add_one();
-                    }
+                    self.add_part(&token, scanner, part_of(section, parts))?;
+                    parts = parts.saturating_add(1);
                 }
             }
         }
-        Ok(parts.get() / parts_of(section))
+        Ok(parts / parts_of(section))
     }
 
     /// Looks at the part of an entry that was read last, if it is a string.
@@ -178,8 +180,10 @@ fn parts_of(section: Section) -> usize
 fn part_of(section: Section, parts: usize) -> Part {
     let further = parts % parts_of(section);
     match section {
-        Section::BfRange if further == 2 => Part::Text,
         Section::BfChar if further == 1 => Part::Text,
-        _ => Part::Code,
+        Section::BfRange if further == 2 => Part::Text,
+        Section::BfChar | Section::Cids(_, Extent::Single) => Part::Code,
+        _ if further == 0 => Part::First,
+        _ => Part::Last,
     }
 }

@@ -1,32 +1,37 @@
 //! Ranges whose ends look wrong, or whose texts count on too far.
 
 use crate::declared::{CID_LISTS, CidList};
-use crate::finding::{Finding, Place};
+use crate::finding::{OpenFinding, Place};
+use crate::lint::Subject;
 use crate::warning::Warning;
-use cmap_queries::code_lengths::{LENGTHS, text_code_len};
-use hayro_cmap::runs::{Looks, Range};
-use hayro_cmap::{BfRange, CMap, CodeLength, Layer};
+use cmap_layers::code_lengths::{LENGTHS, text_code_len};
+use cmap_layers::layer::Layer;
+use cmap_layers::layers::Layers;
+use cmap_runs::runs::{Looks, Range};
+use cmap_values::code_length::CodeLength;
+use cmap_values::declarations::BfRange;
+use std::alloc::Global;
 
 /// The declarations of a layer that look wrong, by what is wrong with them.
-#[derive(Clone, Copy)]
+#[derive(Drop)]
 pub(crate) struct Shapes<'m> {
-    pub(crate) inverted: Finding<'m>,
-    pub(crate) crossing: Finding<'m>,
-    pub(crate) passing: Finding<'m>,
+    pub(crate) inverted: OpenFinding<'m>,
+    pub(crate) crossing: OpenFinding<'m>,
+    pub(crate) passing: OpenFinding<'m>,
 }
 
 impl<'m> Shapes<'m> {
     /// Those of the top layer.
-    pub(crate) fn of(map: &CMap, layer: &Layer) -> Shapes<'m> {
+    pub(crate) fn of(alloc: Global, subject: &Subject<'m>, layer: &Layer) -> Shapes<'m> {
         let mut shapes = Shapes {
-            inverted: Finding::new(Warning::InvertedRange),
-            crossing: Finding::new(Warning::CrossesRow),
-            passing: Finding::new(Warning::LastByte),
+            inverted: OpenFinding::new(alloc, Warning::InvertedRange, subject.shown),
+            crossing: OpenFinding::new(alloc, Warning::CrossesRow, subject.shown),
+            passing: OpenFinding::new(alloc, Warning::LastByte, subject.shown),
         };
         for list in CID_LISTS {
             shapes.add_list(layer, *list);
         }
-        shapes.add_texts(map, layer);
+        shapes.add_texts(subject.map, layer);
         shapes
     }
 
@@ -47,29 +52,37 @@ impl<'m> Shapes<'m> {
     }
 
     /// Looks at the declarations of texts.
-    fn add_texts(&mut self, map: &CMap, layer: &Layer) {
+    fn add_texts(&mut self, map: &Layers, layer: &Layer) {
         let table = layer.texts();
         let mut looks = Looks::new();
         for index in 0..table.decl_count() {
             let declared = table.decl(index, &mut looks);
             let range = declared.range;
-            let byte_len = text_code_len(map.layers(), range);
+            let byte_len = text_code_len(map, range);
             self.add(byte_len, range);
             if passes_last_byte(declared) {
-                self.passing.add(1, Place::Range { byte_len, range });
+                add_declaration(&mut self.passing, byte_len, range);
             }
         }
     }
 
     /// Looks at a declaration.
     fn add(&mut self, byte_len: u8, range: Range) {
-        let place = Place::Range { byte_len, range };
         if range.start > range.end {
-            self.inverted.add(1, place);
+            add_declaration(&mut self.inverted, byte_len, range);
         } else if range.start >> 8 != range.end >> 8 {
-            self.crossing.add(1, place);
+            add_declaration(&mut self.crossing, byte_len, range);
         }
     }
+}
+
+/// Adds a declaration. Of the shown codes it concerns those between its ends.
+fn add_declaration(finding: &mut OpenFinding<'_>, byte_len: u8, range: Range) {
+    finding.found.add(1, Place::Range { byte_len, range });
+    finding.concerned.add(Range {
+        start: range.start.min(range.end),
+        end: range.start.max(range.end),
+    });
 }
 
 /// Whether the last byte of a text counts on past 255 before the last code. ISO 32000-1, 9.10.3.

@@ -1,42 +1,69 @@
 //! How the strings of entries are written.
 
 use crate::codespaces::codespace_lengths;
-use crate::finding::{Finding, Place};
+use crate::finding::{OpenFinding, Place};
+use crate::lint::Subject;
 use crate::warning::Warning;
-use cmap_queries::code_lengths::LENGTHS;
-use hayro_cmap::token::StringToken;
-use hayro_cmap::{ByLength, CMap};
+use cmap_layers::code_lengths::LENGTHS;
+use cmap_runs::runs::Range;
+use cmap_tokens::token::StringToken;
+use cmap_values::code_length::read_code;
+use cmap_values::declarations::ByLength;
 use std::alloc::{AllocError, Global};
 
 /// What a string is in an entry.
 #[derive(Clone, Copy)]
 pub(crate) enum Part {
+    /// The only code.
     Code,
-    /// A destination, by itself or in a list.
+    /// The first code of a range.
+    First,
+    /// The last code of a range.
+    Last,
+    /// The destination of all codes.
     Text,
+    /// A destination in a list: that of the first code for which none came yet.
+    Listed,
 }
+
+/// What looks wrong in a string.
+#[derive(Clone, Copy)]
+struct Flaws {
+    code_length: bool,
+    odd_digits: bool,
+    odd_text: bool,
+}
+
+/// No codes.
+const NO_CODES: Range = Range { start: 1, end: 0 };
 
 /// What looks wrong in the strings of a text.
 #[derive(Drop)]
 pub(crate) struct Strings<'m> {
-    pub(crate) code_length: Finding<'m>,
-    pub(crate) odd_digits: Finding<'m>,
-    pub(crate) odd_text: Finding<'m>,
+    pub(crate) code_length: OpenFinding<'m>,
+    pub(crate) odd_digits: OpenFinding<'m>,
+    pub(crate) odd_text: OpenFinding<'m>,
     /// Which lengths the codespace ranges of the map have.
     lengths: ByLength<bool>,
     /// The bytes of the string that is looked at.
     bytes: Vec<u8>,
+    /// The codes of the entry that is looked at; in a list those for which no text came yet.
+    codes: Range,
+    /// What looks wrong in the string of the first of these.
+    first: Flaws,
 }
 
 impl<'m> Strings<'m> {
-    /// Nothing yet, of a text whose map this is.
-    pub(crate) fn new(alloc: Global, map: &CMap) -> Strings<'m> {
+    /// Nothing yet.
+    pub(crate) fn new(alloc: Global, subject: &Subject<'m>) -> Strings<'m> {
         Strings {
-            code_length: Finding::new(Warning::CodeLength),
-            odd_digits: Finding::new(Warning::OddDigits),
-            odd_text: Finding::new(Warning::OddText),
-            lengths: codespace_lengths(map),
+            code_length: OpenFinding::new(alloc, Warning::CodeLength, subject.shown),
+            odd_digits: OpenFinding::new(alloc, Warning::OddDigits, subject.shown),
+            odd_text: OpenFinding::new(alloc, Warning::OddText, subject.shown),
+            lengths: codespace_lengths(subject.map),
             bytes: Vec::new(alloc),
+            codes: NO_CODES,
+            first: Flaws::none(),
         }
     }
 
@@ -47,22 +74,109 @@ impl<'m> Strings<'m> {
         part: Part,
         offset: usize,
     ) -> Result<(), AllocError> {
-        let place = Place::Offset(offset);
-        if has_odd_digits(string.raw()) {
-            self.odd_digits.add(1, place);
-        }
         string.decode_into(&mut self.bytes)?;
-        match part {
-            Part::Code if !self.has_codespace(self.bytes.len()) => self.code_length.add(1, place),
-            Part::Text if self.bytes.len() % 2 == 1 => self.odd_text.add(1, place),
-            _ => {}
-        }
+        let flaws = self.flaws_of(string.raw(), part);
+        self.count(flaws, Place::Offset(offset));
+        self.add_shown(flaws, part);
         Ok(())
+    }
+
+    /// What looks wrong in the string that is looked at.
+    fn flaws_of(&self, raw: &[u8], part: Part) -> Flaws {
+        let is_text = matches!(part, Part::Text | Part::Listed);
+        Flaws {
+            code_length: !is_text && !self.has_codespace(self.bytes.len()),
+            odd_digits: has_odd_digits(raw),
+            odd_text: is_text && self.bytes.len() % 2 == 1,
+        }
+    }
+
+    /// Counts what looks wrong in a string.
+    fn count(&mut self, flaws: Flaws, place: Place<'m>) {
+        self.code_length
+            .found
+            .add(u64::from(flaws.code_length), place);
+        self.odd_digits
+            .found
+            .add(u64::from(flaws.odd_digits), place);
+        self.odd_text.found.add(u64::from(flaws.odd_text), place);
+    }
+
+    /// Adds the codes of a string: of a code those of its entry, once their last is known, and of a text those that
+    /// have it.
+    fn add_shown(&mut self, flaws: Flaws, part: Part) {
+        match part {
+            Part::Code => {
+                self.codes = self.code();
+                self.add_codes(flaws, self.codes);
+            }
+            Part::First => {
+                self.codes = self.code();
+                self.first = flaws;
+            }
+            Part::Last => {
+                self.codes.end = self.code().end;
+                self.add_codes(flaws.or(self.first), self.codes);
+            }
+            Part::Text => self.add_codes(flaws, self.codes),
+            Part::Listed => self.add_listed(flaws),
+        }
+    }
+
+    /// Adds the code of a text in a list, and goes on to the next one.
+    fn add_listed(&mut self, flaws: Flaws) {
+        let Range { start, end } = self.codes;
+        let end = start.min(end);
+        self.add_codes(flaws, Range { start, end });
+        self.codes.start = start.saturating_add(1);
+    }
+
+    /// Adds the codes of a string in which this looks wrong.
+    fn add_codes(&mut self, flaws: Flaws, codes: Range) {
+        if flaws.code_length {
+            self.code_length.concerned.add(codes);
+        }
+        if flaws.odd_digits {
+            self.odd_digits.concerned.add(codes);
+        }
+        if flaws.odd_text {
+            self.odd_text.concerned.add(codes);
+        }
+    }
+
+    /// The code that the string is.
+    fn code(&self) -> Range {
+        match read_code(&self.bytes) {
+            Some((_, code)) => Range {
+                start: code,
+                end: code,
+            },
+            None => NO_CODES,
+        }
     }
 
     /// Whether a codespace range has codes of `byte_len` bytes.
     fn has_codespace(&self, byte_len: usize) -> bool {
         LENGTHS.iter().any(|len| usize::from(len.count()) == byte_len && *self.lengths.get(*len))
+    }
+}
+
+impl Flaws {
+    fn none() -> Flaws {
+        Flaws {
+            code_length: false,
+            odd_digits: false,
+            odd_text: false,
+        }
+    }
+
+    /// What looks wrong in one of two strings.
+    fn or(self, other: Flaws) -> Flaws {
+        Flaws {
+            code_length: self.code_length || other.code_length,
+            odd_digits: self.odd_digits || other.odd_digits,
+            odd_text: self.odd_text || other.odd_text,
+        }
     }
 }
 

@@ -1,20 +1,22 @@
 //! The codes of a declaration that have a text, in spans of which the last character counts on.
 
-use crate::finding::{Finding, Place};
-use crate::ranges::{code_count, common};
+use crate::finding::{Finding, OpenFinding, Place};
+use crate::lint::Subject;
+use crate::ranges::{common, push_range};
 use crate::warning::Warning;
-use cmap_queries::code_lengths::text_code_len;
-use cmap_queries::texts::text_string;
-use hayro_cmap::runs::{Looks, Range};
-use hayro_cmap::{BfRange, CMap, Layer, utf16};
+use cmap_layers::code_lengths::text_code_len;
+use cmap_layers::layer::Layer;
+use cmap_runs::runs::{Looks, Range};
+use cmap_tokens::utf16::{self, BfString};
+use cmap_values::declarations::BfRange;
 use std::alloc::{AllocError, Global};
 
 /// Codes in a row with texts that differ in their last character alone, which counts on.
 #[derive(Drop)]
 pub(crate) struct TextSpan {
     pub(crate) codes: Range,
-    /// The text of the first code; empty where it has more than 256 units.
-    pub(crate) text: String,
+    /// The text of the first code; `None` where it has more than 256 units.
+    pub(crate) text: Option<BfString>,
 }
 
 /// The most units of a text that is looked at. A text is read once for each span, so the work is bounded.
@@ -48,8 +50,7 @@ pub(crate) fn spans_of(
 ) -> Result<Vec<TextSpan>, AllocError> {
     let mut spans = Vec::new(alloc);
     if declared.units.as_slice().len() > MOST_UNITS {
-        let text = String::new(alloc);
-        spans.push(TextSpan { codes, text })?;
+        spans.push(TextSpan { codes, text: None })?;
     } else {
         add_spans(alloc, &mut spans, declared, codes)?;
     }
@@ -109,45 +110,58 @@ fn add_span(
     }
     let offset = codes.start.saturating_sub(begin);
     let text = utf16::text(alloc, declared.units.as_slice(), offset)?;
-    if let Some(text) = text_string(alloc, text)? {
+    if text.is_some() {
         spans.push(TextSpan { codes, text })?;
     }
     Ok(())
 }
 
-/// The declarations of the top layer that have a code without a text.
+/// The declarations of the top layer that have a code without a text. Of the shown codes it concerns those without one.
 pub(crate) fn no_text<'m>(
     alloc: Global,
-    map: &CMap,
+    subject: &Subject<'m>,
     layer: &Layer,
 ) -> Result<Finding<'m>, AllocError> {
-    let mut finding = Finding::new(Warning::NoText);
+    let mut finding = OpenFinding::new(alloc, Warning::NoText, subject.shown);
     let table = layer.texts();
     let mut looks = Looks::new();
     for index in 0..table.decl_count() {
         let declared = table.decl(index, &mut looks);
-        let (count, code) = without_text(alloc, declared, declared.range)?;
-        if count > 0 {
-            let byte_len = text_code_len(map.layers(), declared.range);
-            finding.add(1, Place::Code { byte_len, code });
+        let ranges = without_text(alloc, declared, declared.range)?;
+        if let Some(first) = ranges.first() {
+            let byte_len = text_code_len(subject.map, declared.range);
+            let code = first.start;
+            finding.found.add(1, Place::Code { byte_len, code });
+            finding.concerned.add_all(&ranges);
         }
     }
-    Ok(finding)
+    finding.finish(alloc)
 }
 
-/// How many of these codes have no text of a declaration, and the first of them, if there is one.
+/// Those of these codes that have no text of a declaration, as ranges that lie apart, in order.
 pub(crate) fn without_text(
     alloc: Global,
     declared: &BfRange,
     codes: Range,
-) -> Result<(u64, u32), AllocError> {
-    let mut count = code_count(codes);
-    let mut code = codes.start;
+) -> Result<Vec<Range>, AllocError> {
+    let mut ranges = Vec::new(alloc);
+    let mut next = Some(codes.start);
     for span in &spans_of(alloc, declared, codes)? {
-        count = count.saturating_sub(code_count(span.codes));
-        if span.codes.start == code {
-            code = span.codes.end.saturating_add(1);
-        }
+        push_between(&mut ranges, next, span.codes.start.checked_sub(1))?;
+        next = span.codes.end.checked_add(1);
     }
-    Ok((count, code))
+    push_between(&mut ranges, next, Some(codes.end))?;
+    Ok(ranges)
+}
+
+/// Adds the codes from a first to a last one, where both exist.
+fn push_between(
+    ranges: &mut Vec<Range>,
+    first: Option<u32>,
+    last: Option<u32>,
+) -> Result<(), AllocError> {
+    match (first, last) {
+        (Some(start), Some(end)) => push_range(ranges, Range { start, end }),
+        _ => Ok(()),
+    }
 }

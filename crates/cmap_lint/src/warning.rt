@@ -1,4 +1,7 @@
-//! The warnings, and their names.
+//! The warnings, their names and their numbers.
+
+ghost use Rattle.std.specs.Prelude.{◌≡◌, IfSome};
+ghost use Rattle.cmap_lint.specs.Warnings.{number};
 
 /// What can look wrong in a file.
 #[derive(Clone, Copy)]
@@ -98,6 +101,47 @@ impl Warning {
             Warning::OddDigits => "odd-digits",
             Warning::OddText => "odd-text",
         }
+    }
+
+    /// The number by which C knows it.
+    pub fn number(self) -> u32
+        ensures { result ≡ number self }
+    {
+        match self {
+            Warning::NothingDeclared => 0,
+            Warning::NoCodespace => 1,
+            Warning::OutsideCodespace => 2,
+            Warning::Overlap => 3,
+            Warning::InvertedRange => 4,
+            Warning::CrossesRow => 5,
+            Warning::LastByte => 6,
+            Warning::NoText => 7,
+            Warning::PrivateUse => 8,
+            Warning::Noncharacter => 9,
+            Warning::ReplacementCharacter => 10,
+            Warning::NullCharacter => 11,
+            Warning::NoMapping => 12,
+            Warning::NameDiffers => 13,
+            Warning::ModeDiffers => 14,
+            Warning::CountDiffers => 15,
+            Warning::LongSection => 16,
+            Warning::NoEndcmap => 17,
+            Warning::CodeLength => 18,
+            Warning::OddDigits => 19,
+            Warning::OddText => 20,
+        }
+    }
+
+    /// The warning of a number.
+    pub fn numbered(wanted: u32) -> Option<Warning>
+        ensures { IfSome result (λ warning. number warning ≡ wanted) }
+    {
+        for warning in WARNINGS {
+            if warning.number() == wanted {
+                return Some(*warning);
+            }
+        }
+        None
     }
 
     /// The warning of a name.

@@ -4,7 +4,6 @@
 
 pub mod answers;
 pub mod arguments;
-pub mod code_lengths;
 mod embedded;
 pub mod failure;
 pub mod input;
@@ -12,3 +11,5 @@ pub mod options;
 pub mod output;
 pub mod query;
 pub mod texts;
+
+pub use hayro_cmap::code_lengths;

@@ -80,6 +80,13 @@ impl<T> Vec<T> {
         Ok(())
     }
 
+    /// Moves the items of another list to the end.
+    pub fn append(&mut self, other: &mut Vec<T>) -> Result<(), AllocError> {
+        self.reserve(other.len())?;
+        self.0.append(&mut other.0);
+        Ok(())
+    }
+
     #[cold]
     fn grow(&mut self) -> Result<(), AllocError> {
         self.reserve(1)

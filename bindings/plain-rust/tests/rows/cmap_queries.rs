@@ -2,10 +2,11 @@
 
 pub mod answers;
 pub mod arguments;
-pub mod code_lengths;
 mod embedded;
 pub mod failure;
 pub mod input;
 pub mod options;
 pub mod output;
 pub mod query;
+
+pub use hayro_cmap::reader::code_lengths;

@@ -3,18 +3,22 @@
 ghost use Rattle.std.specs.Prelude.{OnOk, string_bytes};
 ghost use Rattle.cmap_escape.specs.Escapes.{AddsLine, AddsOfLine};
 
-use crate::finding::{Finding, Place};
-use crate::warning::Warning;
 use cmap_escape::digits::{byte_digits, code_digits, push_code};
 use cmap_escape::object::Object;
 use cmap_escape::{escape, json};
+use cmap_lint::finding::{Finding, Place};
+use cmap_lint::warning::Warning;
 use cmap_queries::code_lengths::printed_len;
 use hayro_cmap::runs::Range;
 use serde_json::Value;
 use std::alloc::{AllocError, Global};
 
 /// Adds a warning about a file, as `FILE: warning: overlap: 25 codes, first <8140>`, and ends the line.
-pub fn push_finding(out: &mut String, file: &str, finding: &Finding<'_>) -> Result<(), AllocError> {
+pub(crate) fn push_finding(
+    out: &mut String,
+    file: &str,
+    finding: &Finding<'_>,
+) -> Result<(), AllocError> {
     escape::push_text(out, file)?;
     write!(out, ": warning: {}: ", finding.warning.name())?;
     push_detail(out, finding)?;
@@ -23,56 +27,71 @@ pub fn push_finding(out: &mut String, file: &str, finding: &Finding<'_>) -> Resu
 
 /// Adds what a warning concerns.
 fn push_detail(out: &mut String, finding: &Finding<'_>) -> Result<(), AllocError> {
-    match finding.first {
-        Place::File => out.push_str(sentence_of(finding.warning)),
+    match words_of(finding.warning) {
+        Words::Sentence(sentence) => out.push_str(sentence)?,
+        Words::Unit(unit) => push_count(out, finding.count, unit)?,
+    }
+    push_place(out, finding.first)
+}
+
+/// The words of a warning.
+#[derive(Clone, Copy)]
+enum Words {
+    /// What a warning about a whole file says.
+    Sentence(&'static str),
+    /// What is counted.
+    Unit(&'static str),
+}
+
+fn words_of(warning: Warning) -> Words {
+    match warning {
+        Warning::NothingDeclared => {
+            Words::Sentence(
+                "the file has no codespace range, no declaration and no use of another file",
+            )
+        }
+        Warning::NoCodespace => Words::Sentence("no layer has a codespace range"),
+        Warning::NameDiffers => Words::Sentence("the file has another name than"),
+        Warning::ModeDiffers => Words::Sentence("the writing mode isn't vertical, but the name is"),
+        Warning::NoEndcmap => Words::Sentence("after begincmap comes no endcmap"),
+        Warning::OutsideCodespace
+        | Warning::Overlap
+        | Warning::PrivateUse
+        | Warning::Noncharacter
+        | Warning::ReplacementCharacter
+        | Warning::NullCharacter
+        | Warning::NoMapping => Words::Unit("code"),
+        Warning::InvertedRange | Warning::CrossesRow | Warning::LastByte | Warning::NoText => {
+            Words::Unit("declaration")
+        }
+        Warning::CountDiffers | Warning::LongSection => Words::Unit("section"),
+        Warning::CodeLength | Warning::OddDigits | Warning::OddText => Words::Unit("string"),
+    }
+}
+
+/// Adds how many codes, declarations, sections or strings a warning concerns.
+fn push_count(out: &mut String, count: u64, unit: &str) -> Result<(), AllocError> {
+    let plural = if count == 1 { "" } else { "s" };
+    write!(out, "{count} {unit}{plural}")
+}
+
+/// Adds where the first of what a warning concerns is, or the name that it is about.
+fn push_place(out: &mut String, place: Place<'_>) -> Result<(), AllocError> {
+    match place {
+        Place::File => Ok(()),
         Place::Name(name) => {
-            write!(out, "{} /", sentence_of(finding.warning))?;
+            out.push_str(" /")?;
             escape::push_name(out, name)
         }
         Place::Code { byte_len, code } => {
-            push_count(out, finding)?;
+            out.push_str(", first ")?;
             push_code_in_brackets(out, byte_len, code)
         }
         Place::Range { byte_len, range } => {
-            push_count(out, finding)?;
+            out.push_str(", first ")?;
             push_range(out, byte_len, range)
         }
-        Place::Offset(offset) => {
-            push_count(out, finding)?;
-            write!(out, "at byte {offset}")
-        }
-    }
-}
-
-/// What a warning about a whole file says.
-fn sentence_of(warning: Warning) -> &'static str {
-    match warning {
-        Warning::NothingDeclared => {
-            "the file has no codespace range, no declaration and no use of another file"
-        }
-        Warning::NoCodespace => "no layer has a codespace range",
-        Warning::ModeDiffers => "the writing mode isn't vertical, but the name is",
-        Warning::NoEndcmap => "after begincmap comes no endcmap",
-        _ => "the file has another name than",
-    }
-}
-
-/// Adds how many codes, declarations, sections or strings a warning concerns, up to where the first of them is.
-fn push_count(out: &mut String, finding: &Finding<'_>) -> Result<(), AllocError> {
-    let unit = unit_of(finding.warning);
-    let plural = if finding.count == 1 { "" } else { "s" };
-    write!(out, "{} {unit}{plural}, first ", finding.count)
-}
-
-/// What is counted.
-fn unit_of(warning: Warning) -> &'static str {
-    match warning {
-        Warning::InvertedRange | Warning::CrossesRow | Warning::LastByte | Warning::NoText => {
-            "declaration"
-        }
-        Warning::CountDiffers | Warning::LongSection => "section",
-        Warning::CodeLength | Warning::OddDigits | Warning::OddText => "string",
-        _ => "code",
+        Place::Offset(offset) => write!(out, ", first at byte {offset}"),
     }
 }
 
@@ -89,7 +108,7 @@ fn push_range(out: &mut String, byte_len: u8, range: Range) -> Result<(), AllocE
 }
 
 /// Adds the object of a warning about a file, and ends the line.
-pub fn push_json(
+pub(crate) fn push_json(
     alloc: Global,
     out: &mut String,
     file: &str,

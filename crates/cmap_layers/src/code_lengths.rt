@@ -1,7 +1,9 @@
 //! The lengths that codes have, and the one that codes of a text are printed with.
 
-use hayro_cmap::runs::Range;
-use hayro_cmap::{CodeLength, Layer, Layers};
+use crate::layer::Layer;
+use crate::layers::Layers;
+use cmap_values::code_length::CodeLength;
+use cmap_values::range::Range;
 
 /// The lengths that codes have.
 pub const LENGTHS: &[CodeLength] = &[

@@ -1,0 +1,74 @@
+//! What looks wrong in files.
+
+use crate::fallible::alloc::Global;
+use crate::finding::{Finding, Place, Warning, in_order};
+use crate::reader::cmap_lint::finding::{Finding as Found, Place as FoundPlace};
+use crate::reader::cmap_lint::lint::{Subject, findings_of};
+use crate::reader::cmap_lint::warning::Warning as Known;
+use crate::{CMap, made};
+use alloc::string::String;
+use alloc::vec::Vec;
+
+impl CMap {
+    /// What looks wrong in the file: the warnings of `cmap check --lint`, in its order, each that concerns
+    /// something once. That of the name of the file is never among them.
+    ///
+    /// `text` is the file, if it is a text; without bytes there are no warnings about how a text is written.
+    /// `to_unicode` is whether the map is meant as one to Unicode, as that under ToUnicode of a font. `shown`
+    /// are codes that are shown with the font: a finding says how many of these it concerns.
+    ///
+    /// ```
+    /// use hayro_cmap::{CMap, Place, Warning};
+    ///
+    /// let file = b"1 begincodespacerange <00> <FF> endcodespacerange 1 beginbfchar <02> <20BB7> endbfchar";
+    /// let map = CMap::parse(file, |_| None).unwrap();
+    /// let found = map.lint(file, false, &[2]);
+    /// assert_eq!(found[0].warning, Warning::OddDigits);
+    /// assert_eq!(found[0].warning.name(), "odd-digits");
+    /// assert_eq!(found[0].first, Place::Offset(69));
+    /// assert_eq!((found[0].shown, found[0].first_shown), (1, Some(2)));
+    /// ```
+    pub fn lint(&self, text: &[u8], to_unicode: bool, shown: &[u32]) -> Vec<Finding> {
+        let shown = in_order(shown);
+        let subject = Subject {
+            map: self.reader_layers(),
+            text: (!text.is_empty()).then_some(text),
+            file_name: None,
+            to_unicode,
+            shown: &shown,
+        };
+        made(findings_of(Global, &subject)).iter().filter_map(Finding::of).collect()
+    }
+}
+
+impl Finding {
+    /// `None` for a warning that isn't known here.
+    fn of(found: &Found<'_>) -> Option<Finding> {
+        Some(Finding {
+            warning: Warning::numbered(found.warning.number())?,
+            count: found.count,
+            first: place_of(found.first),
+            shown: found.shown,
+            first_shown: found.first_shown,
+        })
+    }
+}
+
+fn place_of(place: FoundPlace<'_>) -> Place {
+    match place {
+        FoundPlace::File => Place::File,
+        FoundPlace::Code { byte_len, code } => Place::Code { byte_len, code },
+        FoundPlace::Range { byte_len, range } => {
+            Place::Range { byte_len, first: range.start, last: range.end }
+        }
+        FoundPlace::Name(_) => Place::Name,
+        FoundPlace::Offset(offset) => Place::Offset(offset),
+    }
+}
+
+impl Warning {
+    /// The name by which `cmap check --lint` reports it, as `odd-digits`.
+    pub fn name(self) -> String {
+        String::from(Known::numbered(self as u32).map_or("", Known::name))
+    }
+}
