@@ -405,15 +405,17 @@ hayro_cmap_status hayro_cmap_message(const hayro_cmap_fault *fault, uint8_t *roo
 /* What looks wrong in a file that has a map: the warnings of `cmap check --lint`, in the order of
  * hayro_cmap_warning, each that concerns something once. docs/COMMAND.md says when each comes. `text` is
  * the file, if it is a text: without bytes there is no warning about how a text is written.
- * `is_to_unicode` is whether the map is meant as one to Unicode, as the one under ToUnicode of a font.
- * `shown` are codes that are shown with the font, in ascending order, each once: a finding also says how
- * many of these it concerns.
+ * `to_unicode` is whether the map is meant as one to Unicode, as the one under ToUnicode of a font.
+ *
+ * `shown` are codes that are shown with the font, by their numbers alone, in ascending order, each once. A
+ * finding says how many of them it concerns: of a declaration those between its ends, but with no text
+ * those that it gives none, of a string in an entry those of the entry, and of a text in a list its own.
  *
  * With HAYRO_CMAP_OK the findings stand at the head of `findings`, and `needed` is how many they are. With
  * HAYRO_CMAP_NO_ROOM `needed` is how many there are, and `findings` is as it was. An empty handle is
  * HAYRO_CMAP_ABSENT; then, and with HAYRO_CMAP_NO_MEMORY, nothing is written. */
 hayro_cmap_status hayro_cmap_lint(hayro_cmap *map, const uint8_t *text, size_t text_len,
-                                  bool is_to_unicode, const uint32_t *shown, size_t shown_len,
+                                  bool to_unicode, const uint32_t *shown, size_t shown_len,
                                   hayro_cmap_finding *findings, size_t findings_len, size_t *needed);
 
 /* The name of a hayro_cmap_warning, as no-codespace, written as a text is. HAYRO_CMAP_ABSENT for a number

@@ -601,10 +601,10 @@ public:
     // What looks wrong in the file: the warnings of `cmap check --lint`, each that concerns something once.
     // `text` is the file, if it is a text: without it there is no warning about how a text is written.
     // `shown` are codes that are shown with the font, in ascending order, each once.
-    std::vector<Finding> lint(Bytes text = {}, bool is_to_unicode = false,
+    std::vector<Finding> lint(Bytes text = {}, bool to_unicode = false,
                               Span<const std::uint32_t> shown = {}) {
         return detail::listed<Finding>([&](auto room, auto len, auto needed) {
-            return hayro_cmap_lint(handle(), text.data(), text.size(), is_to_unicode,
+            return hayro_cmap_lint(handle(), text.data(), text.size(), to_unicode,
                                    hayro_cmap_shown(shown.data()), shown.size(), room, len, needed);
         });
     }

@@ -25,6 +25,17 @@ VALUES = {
     "usize": "size_t",
     "bool": "bool",
 }
+class Prefixed:
+    """The names of an enum of the crates, each with a prefix."""
+
+    def __init__(self, prefix):
+        self.prefix = prefix
+
+    def get(self, name, _default):
+        """The name with the prefix."""
+        return self.prefix + name
+
+
 NAMED = {
     "MapHandle": "hayro_cmap",
     "BundleHandle": "hayro_cmap_bundle",
@@ -39,6 +50,7 @@ NAMED = {
     "DeclaredTexts": "hayro_cmap_text_range",
     "CodeRange": "hayro_cmap_code_range",
     "FaultNumbers": "hayro_cmap_fault",
+    "FindingNumbers": "hayro_cmap_finding",
     "Facts<'_>": "hayro_cmap_facts",
     "Declaration<'_>": "hayro_cmap_declaration",
     "ChosenCodes": "hayro_cmap_codes",
@@ -60,6 +72,7 @@ STRUCTS = [
     ("hayro_cmap_text_range", "cmap_handles/src/ranges.rt", "DeclaredTexts"),
     ("hayro_cmap_code_range", "cmap_handles/src/ranges.rt", "CodeRange"),
     ("hayro_cmap_fault", "cmap_c/src/fault.rt", "FaultNumbers"),
+    ("hayro_cmap_finding", "cmap_c/src/lint.rt", "FindingNumbers"),
     ("hayro_cmap_facts", "cmap_c_writer/src/facts.rt", "Facts"),
     ("hayro_cmap_declaration", "cmap_c_writer/src/declaration.rt", "Declaration"),
     ("hayro_cmap_codes", "cmap_c_writer/src/chosen.rt", "ChosenCodes"),
@@ -70,11 +83,12 @@ HANDLES = [
     ("hayro_cmap_bundle", "cmap_handles/src/bundle.rt", "cmap_handles/src/slot.rt", "Bundle"),
     ("hayro_cmap_encoder", "cmap_c_encoder/src/handle.rt", "cmap_c_encoder/src/slot.rt", "Encoder"),
 ]
+PLACES = {name: f"AT_{name}" for name in ["CODE", "RANGE", "NAME", "OFFSET"]}
 NUMBERED = r"(?P<number>\d+)(?:, [\w()]+\))? => Some\({}::(?P<name>\w+)"
 # enums of the header: what the crates have no variant for, how and where they write a variant and its number, and what
 # the header calls otherwise, since another enum has the name
 STATUSES, MODES, FAULTS = "cmap_handles/src/status.rt", "cmap_c_maps/src/metadata.rt", "cmap_c/src/fault.rt"
-KINDS = "cmap_c_writer/src/declaration.rt"
+KINDS, LINT, LINTED = "cmap_c_writer/src/declaration.rt", "cmap_lint/src/warning.rt", "cmap_c/src/lint.rt"
 ENUMS = [
     ("hayro_cmap_status", {}, r"Status::(?P<name>\w+) => (?P<number>\d+),", STATUSES, {"DONE": "OK"}),
     ("hayro_cmap_mode", {"NO_MODE": "2"}, r"WritingMode::(?P<name>\w+)\) => (?P<number>\d+),", MODES, {}),
@@ -82,6 +96,8 @@ ENUMS = [
     ("hayro_cmap_cause", {}, NUMBERED.format("Cause"), FAULTS, {"OVER_BUDGET": "PAST_BUDGET"}),
     ("hayro_cmap_reason", {"NO_REASON": "0"}, NUMBERED.format("Reason"), FAULTS, {}),
     ("hayro_cmap_segment", {"NO_SEGMENT": "0"}, NUMBERED.format("Segment"), FAULTS, {"WRITING_MODE": "MODE"}),
+    ("hayro_cmap_warning", {}, r"Warning::(?P<name>\w+) => (?P<number>\d+),", LINT, Prefixed("WARNING_")),
+    ("hayro_cmap_place", {}, r"Place::(?P<name>\w+).* => (?P<number>\d+),", LINTED, {"FILE": "IN_FILE", **PLACES}),
 ]
 EXPORT = re.compile(
     r"#\[unsafe\(no_mangle\)\]\s(?:#\[.*\]\s)?pub extern \"C\" fn (\w+)(?:<'a>)?"
@@ -197,7 +213,7 @@ def test_handles_are_those_of_the_crates(checks, _setting):
 
 
 def test_numbers_are_those_of_the_crates(checks, _setting):
-    """Statuses, modes, kinds, causes, reasons and segments."""
+    """Statuses, modes, kinds, causes, reasons, segments, warnings and places."""
     for enum, *of_crate in ENUMS:
         checks.same(f"the numbers of {enum}", numbers_of_header(enum), numbers_of_crates(*of_crate))
 

@@ -2,9 +2,8 @@
 
 use crate::fallible::alloc::Global;
 use crate::finding::{Finding, Place, Warning, in_order};
-use crate::reader::cmap_lint::finding::{Finding as Found, Place as FoundPlace};
-use crate::reader::cmap_lint::lint::{Subject, findings_of};
-use crate::reader::cmap_lint::warning::Warning as Known;
+use crate::reader::lint::{Subject, findings_of};
+use crate::reader::{finding, warning};
 use crate::{CMap, made};
 use alloc::string::String;
 use alloc::vec::Vec;
@@ -43,7 +42,7 @@ impl CMap {
 
 impl Finding {
     /// `None` for a warning that isn't known here.
-    fn of(found: &Found<'_>) -> Option<Finding> {
+    fn of(found: &finding::Finding<'_>) -> Option<Finding> {
         Some(Finding {
             warning: Warning::numbered(found.warning.number())?,
             count: found.count,
@@ -54,21 +53,22 @@ impl Finding {
     }
 }
 
-fn place_of(place: FoundPlace<'_>) -> Place {
+fn place_of(place: finding::Place<'_>) -> Place {
     match place {
-        FoundPlace::File => Place::File,
-        FoundPlace::Code { byte_len, code } => Place::Code { byte_len, code },
-        FoundPlace::Range { byte_len, range } => {
+        finding::Place::File => Place::File,
+        finding::Place::Code { byte_len, code } => Place::Code { byte_len, code },
+        finding::Place::Range { byte_len, range } => {
             Place::Range { byte_len, first: range.start, last: range.end }
         }
-        FoundPlace::Name(_) => Place::Name,
-        FoundPlace::Offset(offset) => Place::Offset(offset),
+        finding::Place::Name(_) => Place::Name,
+        finding::Place::Offset(offset) => Place::Offset(offset),
     }
 }
 
 impl Warning {
     /// The name by which `cmap check --lint` reports it, as `odd-digits`.
     pub fn name(self) -> String {
-        String::from(Known::numbered(self as u32).map_or("", Known::name))
+        let known = warning::Warning::numbered(self as u32);
+        String::from(known.map_or("", warning::Warning::name))
     }
 }

@@ -4,6 +4,7 @@ use hayro_cmap::CMapName;
 use hayro_cmap::fallible::alloc::{AllocError, Global};
 use hayro_cmap::fallible::collections::{BTreeMap, BinaryHeap};
 use hayro_cmap::fallible::{Box, String, Vec};
+use hayro_cmap::reader::lint::{Subject, findings_of};
 use hayro_cmap::reader::{
     Bundle, CMap, CodeLength, Encoder, Extractor, Fault, NamedFiles, Source, Unencodable,
 };
@@ -136,6 +137,22 @@ fn encodings_report_it() {
     assert!(refuse_each(lossy, |AllocError| true) > 2);
     let refused = encoder.encode(Global, "ABx").err();
     assert!(matches!(refused, Some(Fault::Refused(Unencodable { offset: 2 }))));
+}
+
+#[test]
+fn warnings_report_it() {
+    let map = CMap::parse_from(Global, None, TOP, None, &files()).expect("it is in the grammar");
+    let subject = Subject {
+        map: map.layers(),
+        text: Some(TOP),
+        file_name: None,
+        to_unicode: true,
+        shown: &[0x41, 0x42, 0x50],
+    };
+    let count = findings_of(Global, &subject).expect("there is memory").len();
+    assert!(count > 0);
+    let lint = || findings_of(Global, &subject).map(|found| assert_eq!(found.len(), count));
+    assert!(refuse_each(lint, |AllocError| true) > 10);
 }
 
 #[test]

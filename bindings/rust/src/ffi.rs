@@ -434,7 +434,7 @@ unsafe extern "C" {
         map: *mut RawMap,
         text: *const u8,
         text_len: usize,
-        is_to_unicode: bool,
+        to_unicode: bool,
         shown: *const u32,
         shown_len: usize,
         findings: *mut RawFinding,

@@ -17,10 +17,10 @@ fn fields(found: &[Finding]) -> Vec<(Warning, u64, Place, usize, Option<u32>)> {
 #[test]
 fn warnings_say_where_and_which_shown_codes() {
     let offset = DOUBTFUL.windows(7).position(|bytes| bytes == b"<20BB7>").unwrap();
-    let (first, code) = (Place::Code { byte_len: 1, code: 1 }, Place::Code { byte_len: 1, code: 0 });
+    let at = |code| Place::Code { byte_len: 1, code };
     let expected = [
-        (Warning::PrivateUse, 1, first, 1, Some(1)),
-        (Warning::NoMapping, 253, code, 1, Some(4)),
+        (Warning::PrivateUse, 1, at(1), 1, Some(1)),
+        (Warning::NoMapping, 253, at(0), 1, Some(4)),
         (Warning::OddDigits, 1, Place::Offset(offset), 1, Some(2)),
         (Warning::OddText, 1, Place::Offset(offset), 1, Some(2)),
     ];

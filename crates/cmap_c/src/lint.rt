@@ -110,44 +110,45 @@ fn numbers_of_findings<'m>(
 impl FindingNumbers {
     /// Those of a finding.
     fn of(finding: &Finding<'_>) -> FindingNumbers {
-        let numbers = FindingNumbers {
+        let (first, last, byte_len) = codes_at(finding.first);
+        FindingNumbers {
             count: finding.count,
             shown: finding.shown,
-            offset: 0,
+            offset: offset_at(finding.first),
             warning: finding.warning.number(),
-            place: 0,
-            first: 0,
-            last: 0,
-            byte_len: 0,
+            place: number_of(finding.first),
+            first,
+            last,
+            byte_len: u32::from(byte_len),
             first_shown: finding.first_shown.unwrap_or(0),
-        };
-        numbers.at(finding.first)
-    }
-
-    /// The same at this place.
-    fn at(self, place: Place<'_>) -> FindingNumbers {
-        match place {
-            Place::File => self,
-            Place::Code { byte_len, code } => FindingNumbers {
-                place: 1,
-                first: code,
-                last: code,
-                byte_len: u32::from(byte_len),
-                ..self
-            },
-            Place::Range { byte_len, range } => FindingNumbers {
-                place: 2,
-                first: range.start,
-                last: range.end,
-                byte_len: u32::from(byte_len),
-                ..self
-            },
-            Place::Name(_) => FindingNumbers { place: 3, ..self },
-            Place::Offset(offset) => FindingNumbers {
-                place: 4,
-                offset,
-                ..self
-            },
         }
+    }
+}
+
+/// The number of a place in the header.
+fn number_of(place: Place<'_>) -> u32 {
+    match place {
+        Place::File => 0,
+        Place::Code { .. } => 1,
+        Place::Range { .. } => 2,
+        Place::Name(_) => 3,
+        Place::Offset(_) => 4,
+    }
+}
+
+/// The first and the last code of a place, and how many bytes they have; zeros where it has none.
+fn codes_at(place: Place<'_>) -> (u32, u32, u8) {
+    match place {
+        Place::Code { byte_len, code } => (code, code, byte_len),
+        Place::Range { byte_len, range } => (range.start, range.end, byte_len),
+        Place::File | Place::Name(_) | Place::Offset(_) => (0, 0, 0),
+    }
+}
+
+/// The offset of a place, or 0.
+fn offset_at(place: Place<'_>) -> usize {
+    match place {
+        Place::Offset(offset) => offset,
+        Place::File | Place::Code { .. } | Place::Range { .. } | Place::Name(_) => 0,
     }
 }
