@@ -36,7 +36,7 @@ class Counts(unittest.TestCase):
             [(bytes(it.character.code), it.times) for it in font.codes], [(b"A", 3), (b"B", 1), (b"\1", 1)]
         )
         self.assertEqual((digits(font.no_text), font.no_cid, font.outside_codespace), (["01"], [], []))
-        self.assertEqual(list(font.sources), [it.value for it in pdf.Source if it is not pdf.Source.ACTUAL_TEXT])
+        self.assertEqual(list(font.sources), [it.value for it in pdf.Source])
         self.assertEqual(counts(font), {"ToUnicode": 4, "none": 1})
 
     @needs_glyph_list
@@ -52,6 +52,7 @@ class Counts(unittest.TestCase):
         self.assertEqual(
             list(font.lines())[1:],
             [
+                f"font {font.font.number}: warning: font {font.font.number}: few-texts: 3 shown codes, first <8140>",
                 f"font {font.font.number}: without a text: 3 codes, 3 different: <8140> <8141> <8181>",
                 f"font {font.font.number}: without a CID: 2 codes, 2 different: <8141> <8181>",
                 f"font {font.font.number}: in no codespace range: 1 codes, 1 different: <8181>",
@@ -73,7 +74,9 @@ class Counts(unittest.TestCase):
         [font] = report.fonts
         self.assertEqual((repr(font), repr(font.font)), (f"<FontReport of {font.font}>", f"<{font.font}>"))
         self.assertEqual((report.refused, font.font.to_unicode.strict), (1, None))
-        self.assertEqual(font.with_text_past_faults, font.with_text + 1)
+        self.assertEqual(font.with_text_past_faults, font.with_text)
+        [strict] = pdf.check(file.pdf, lenient=False).fonts
+        self.assertEqual(strict.with_text_past_faults, strict.with_text + 1)
         self.assertIn("the text of a code was expected", list(font.lines())[1])
         self.assertTrue(report.summary().endswith("; 1 of 1 fonts refused"))
 
@@ -119,22 +122,65 @@ def kinds_of(text):
     return kinds
 
 
-class Warnings(unittest.TestCase):
-    def warnings(self, to_unicode):
-        [font] = pdf.check(showing(b"A", to_unicode).pdf).fonts
-        return {(it.of, it.name, it.codes, it.first) for it in font.warnings}
+def of_characters(cmap):
+    """The warnings about the characters of texts: the names, how many codes, and the first one."""
+    names = ("null-character", "replacement-character", "noncharacter", "private-use")
+    return sorted(it[:3] for it in cmap.lint(to_unicode=True) if it.warning in names)
 
-    def test_of_texts(self):
+
+class Warnings(unittest.TestCase):
+    def report(self, to_unicode, string=b"A"):
+        [font] = pdf.check(showing(string, to_unicode).pdf).fonts
+        return font
+
+    def test_of_shown_codes(self):
+        """The first number is that of all codes, the second that of those that are shown."""
         texts = b"4 beginbfchar <10> <0000> <11> <0041E000> <12> <FFFD> <13> <FFFE> endbfchar"
         texts += b" 1 beginbfrange <20> <22> <F8FF> endbfrange"
-        expected = {
-            ("null-character", 1, 0x10),
-            ("private-use", 2, 0x11),
-            ("replacement-character", 1, 0x12),
-            ("noncharacter", 1, 0x13),
-        }
         ranges = b"1 begincodespacerange <00> <FF> endcodespacerange "
-        self.assertEqual(self.warnings(ranges + texts), {("ToUnicode", *it) for it in expected})
+        font = self.report(ranges + texts, b"\x10\x11\x20\x20\x12A")
+        self.assertEqual(
+            {(it.of, it.name, it.codes, it.first, it.shown, it.first_shown) for it in font.warnings},
+            {
+                ("ToUnicode", "null-character", 1, 0x10, 1, 0x10),
+                ("ToUnicode", "private-use", 2, 0x11, 2, 0x11),
+                ("ToUnicode", "replacement-character", 1, 0x12, 1, 0x12),
+                ("ToUnicode", "last-byte", 1, 0x20, 1, 0x20),
+            },
+        )
+        self.assertEqual([(it.name, it.codes, it.shown) for it in font.other_warnings], [("noncharacter", 1, 0)])
+        lines = [line.partition(": ")[2] for line in font.lines()]
+        [number] = {it.number for it in font.warnings}
+        self.assertIn(f"warning: ToUnicode {number}: private-use: 2 shown codes, first <11>", lines)
+        self.assertIn("1 other warnings, about no text that is shown: noncharacter", lines)
+
+    def test_of_codes_that_are_not_shown(self):
+        """They are no reason to refuse a file, unless they are named."""
+        report = pdf.check(showing(b"A", GOOD.replace(b"<0041>", b"<0041> <10> <0000>")).pdf)
+        self.assertEqual([it.name for it in report.fonts[0].other_warnings], ["count-differs", "null-character"][::-1])
+        self.assertEqual((report.has_warnings, report.has_denied(["all"])), (False, False))
+        self.assertTrue(report.has_denied(["null-character"]))
+
+    def test_of_marked_content(self):
+        """Codes that have a text of marked content are in no doubt."""
+        content = b"/F 9 Tf /Span <</ActualText (f)>> BDC <01> Tj EMC (A) Tj"
+        file = File()
+        file.show(content, F=file.simple(GOOD.replace(b"<42>", b"<01>").replace(b"<006600660069>", b"<0000>")))
+        report = pdf.check(file.pdf)
+        self.assertEqual((report.has_warnings, report.summary()), (False, "100.0 % of 2 shown codes have a text"))
+        self.assertEqual(counts(report.fonts[0]), {"ToUnicode": 1, "ActualText": 1})
+        file.show(content + b"<01> Tj")
+        self.assertTrue(pdf.check(file.pdf).has_warnings)
+
+    def test_of_odd_digits(self):
+        font = self.report(GOOD.replace(b"<0041>", b"<1F600>"))
+        self.assertEqual([(it.name, it.shown, it.first_shown) for it in font.warnings[:1]], [("odd-digits", 1, 0x41)])
+
+    def test_of_fonts_with_few_texts(self):
+        """One of ten codes is enough."""
+        for string, is_found in [(b"\1" * 10, True), (b"A" + b"\1" * 10, True), (b"A" + b"\1" * 9, False), (b"", False)]:
+            found = [(it.of, it.name) for it in self.report(GOOD, string).warnings]
+            self.assertEqual(found, [("font", "few-texts")] if is_found else [], string)
 
     def test_of_random_texts(self):
         """They are those of one code after another."""
@@ -156,28 +202,23 @@ class Warnings(unittest.TestCase):
                     for name in kinds_of(cmap.text(code) or ""):
                         found[name].append(code)
                 expected = [(name, len(codes), codes[0]) for name, codes in sorted(found.items())]
-                self.assertEqual(list(_check.text_warnings(cmap)), expected, declared)
+                self.assertEqual(of_characters(cmap), expected, declared)
 
     def test_of_many_codes(self):
         """No step is taken for each code, nor for each character that texts of one declaration share."""
         texts = with_many_codes(rows=2000, text=b"E000")
         with limited(1_000_000):
             [font] = pdf.check(showing(b"A", texts).pdf).fonts
-        found = {it.name: (it.codes, it.first) for it in font.warnings}
+        found = {it.name: (it.codes, it.first) for it in font.warnings + font.other_warnings}
         self.assertEqual(found["private-use"], (2000 * 0x1900, 0))
         self.assertEqual(found["noncharacter"], (2000 * 34, 0x1DD0))
         self.assertEqual(found["replacement-character"], (2000, 0x1FFD))
-        long = b"beginbfrange <0000> <0FA0> <%b0041> endbfrange " % (b"E000" * 20_000)
-        others = b" ".join(b"<%04X> <0042>" % code for code in range(0, 4000, 2))
-        with CMap.parse(long + b"beginbfchar %b endbfchar" % others) as cmap, limited(500_000):
-            self.assertEqual(list(_check.text_warnings(cmap)), [("private-use", 4001 - 2000, 1)])
 
     def test_of_the_whole(self):
-        self.assertEqual(self.warnings(b"no CMap"), {("ToUnicode", "nothing-declared", 1, None)})
-        self.assertEqual(
-            self.warnings(b"1 beginbfchar <41> <0041> endbfchar"), {("ToUnicode", "no-codespace", 1, None)}
-        )
-        self.assertEqual(self.warnings(GOOD), set())
+        for to_unicode, name in [(b"no CMap", "nothing-declared"), (b"1 beginbfchar <41> <0041> endbfchar", "no-codespace")]:
+            font = self.report(to_unicode)
+            self.assertIn(("ToUnicode", name, None), [(it.of, it.name, it.first) for it in font.other_warnings])
+        self.assertEqual((self.report(GOOD).warnings, self.report(GOOD).other_warnings), ([], []))
 
     def test_denied(self):
         report = pdf.check(showing(b"A\1", b"1 beginbfchar <41> <0041> endbfchar").pdf)

@@ -62,9 +62,10 @@ class Report(Folder):
         self.assertEqual((page.counts["section"], page.counts["canvas"]), (2, 1))
         [cells] = json.loads(page.data)
         # the code, its length, what it has, its CID, its text, and how often it is shown
-        self.assertEqual(
-            cells, [[1, 1, 3, None, None, 1], [0x41, 1, 0, None, "</script>", 2], [0x42, 1, 4, None, "ffi", 0]]
-        )
+        of_none, of_map = map(_report.KINDS.index, ("none", "ToUnicode"))
+        expected = [[1, 1, of_none, None, None, 1], [0x41, 1, of_map, None, "</script>", 2]]
+        self.assertEqual(cells, [*expected, [0x42, 1, _report.UNSHOWN, None, "ffi", 0]])
+        self.assertEqual(len(_report.LEGEND), _report.UNSHOWN + 1)
 
     def test_many_codes(self):
         """The chart has some of them, and no step is taken for each."""
@@ -110,8 +111,9 @@ class Report(Folder):
         subprocess.run(words, check=True, capture_output=True, timeout=120)
         words = ["pdftoppm", "-r", "144", self.path("printed.pdf")]
         drawn = subprocess.run(words, check=True, capture_output=True).stdout
-        # that of texts by glyph names, which the legend has too
-        self.assertEqual(bands(drawn, colour=_report.LEGEND[2][1]), count + 1)
+        # the legend has the colour too
+        colour = _report.LEGEND[_report.KINDS.index("glyph name")][1]
+        self.assertEqual(bands(drawn, colour), count + 1)
 
 
 class Replaced(Folder):

@@ -24,10 +24,10 @@ from ._limits import MEMORY, SECONDS
 from ._many import Task, by_dask, by_processes, json_lines, limited_memory
 from ._paths import STANDARD_INPUT, listed, readable, reason_of
 from ._report import try_report, write_report
-from ._warning_names import FEW_TEXTS, LEFT_OUT, WARNINGS
+from ._warning_names import FEW_TEXTS, WARNINGS
 
 #: What --deny takes.
-DENIABLE = [it for it in dict.fromkeys([*WARNINGS, FEW_TEXTS, *OF_SHOWN_CODES]) if it not in LEFT_OUT] + ["all"]
+DENIABLE = [*dict.fromkeys([*WARNINGS, FEW_TEXTS, *OF_SHOWN_CODES]), "all"]
 
 #: How wide a progress bar is.
 WIDTH = 40

@@ -7,10 +7,10 @@ import pikepdf
 
 from .. import Finding
 from ._content import Document
-from ._fonts import SOURCES_OF_FONTS, Character, Font, Read
+from ._fonts import Character, Font, Read, Source
 from ._limits import Deadline
 from ._objects import object_number
-from ._warning_names import FEW_TEXTS, LEFT_OUT
+from ._warning_names import FEW_TEXTS, LEFT_OUT, OF_FORM
 
 #: What is found of shown codes, beside the warnings of CMaps.
 OF_SHOWN_CODES = ("no-text", "no-cid", "outside-codespace")
@@ -63,8 +63,8 @@ class FontReport:
         self.with_text_past_faults = sum(it.times for it in lenient if it.character.text is not None)
         found = warnings_of(font, codes)
         #: The warnings that concern shown codes, and the others.
-        self.warnings = [it for it in found if it.shown] + self._few_texts()
-        self.other_warnings = [it for it in found if not it.shown]
+        self.warnings = [it for it in found if it.shown and it.name not in OF_FORM] + self._few_texts()
+        self.other_warnings = [it for it in found if not it.shown or it.name in OF_FORM]
 
     def _few_texts(self) -> List[CMapWarning]:
         """The warning that hardly a shown code has a text."""
@@ -79,7 +79,7 @@ class FontReport:
     @property
     def sources(self) -> Dict[str, int]:
         """How many shown codes have a text of each source."""
-        counts = Counter({source.value: 0 for source in SOURCES_OF_FONTS})
+        counts = Counter({source.value: 0 for source in Source})
         for it in self.codes:
             counts[it.character.source.value] += it.times
         return dict(counts)
@@ -97,7 +97,7 @@ class FontReport:
             yield f"{number}: warning: {it.of} {it.number}: {it.name}: {codes}"
         if self.other_warnings:
             names = ", ".join(dict.fromkeys(it.name for it in self.other_warnings))
-            yield f"{number}: {len(self.other_warnings)} other warnings, of no shown code: {names}"
+            yield f"{number}: {len(self.other_warnings)} other warnings, about no text that is shown: {names}"
         kinds = [("without a text", self.no_text), ("without a CID", self.no_cid)]
         for what, codes in [*kinds, ("in no codespace range", self.outside_codespace)]:
             if codes:
@@ -189,29 +189,38 @@ class Report(NamedTuple):
 
 
 class Strings:
-    """The strings that are shown with a font, counted."""
+    """The strings that are shown with a font, counted: others, and those in marked content with a text of its own."""
 
     def __init__(self, font: Font):
         self._font = font
         self._is_composite = font.is_composite
         # of a simple font, whose codes are single bytes, these; of a composite one whole strings
         self._counts: Counter = collections.Counter()
+        self._replaced: Counter = collections.Counter()
 
-    def add(self, string: bytes) -> None:
+    def add(self, string: bytes, is_replaced: bool) -> None:
         """Counts a string that is shown once more."""
+        counts = self._replaced if is_replaced else self._counts
         if self._is_composite:
-            self._counts[string] += 1
+            counts[string] += 1
         else:
-            self._counts.update(string)
+            counts.update(string)
 
     def codes(self, lenient: bool) -> List[ShownCode]:
-        """The codes, those first that are shown most often."""
-        strings = [it if self._is_composite else bytes([it]) for it in self._counts]
-        counts: Counter[Character] = collections.Counter()
-        for row, count in zip(self._font.characters_of(strings, lenient), self._counts.values()):
-            for character in row:
-                counts[character] += count
+        """The codes, those first that are shown most often. In marked content with a text of its own none lacks one."""
+        counts = self._counted(self._counts, lenient)
+        for it, times in self._counted(self._replaced, lenient).items():
+            counts[it._replace(text=it.text or "", source=Source.ACTUAL_TEXT)] += times
         return [ShownCode(*it) for it in counts.most_common()]
+
+    def _counted(self, strings: Counter, lenient: bool) -> Counter[Character]:
+        """The codes of strings, counted."""
+        counts: Counter[Character] = collections.Counter()
+        of_strings = [it if self._is_composite else bytes([it]) for it in strings]
+        for row, times in zip(self._font.characters_of(of_strings, lenient), strings.values()):
+            for character in row:
+                counts[character] += times
+        return counts
 
 
 def check(
@@ -228,13 +237,13 @@ def check(
     document, without_font = Document(pdf, lenient=lenient, deadline=deadline), 0
     strings: Dict[Font, Strings] = {}
     for page in progress(document.pages):
-        for font, string, _ in document.shown(page):
-            if font is None:
-                without_font += len(string)
+        for it in document.pieces(page):
+            if it.font is None:
+                without_font += len(it.string)
                 continue
-            if font not in strings:
-                strings[font] = Strings(font)
-            strings[font].add(string)
+            if it.font not in strings:
+                strings[it.font] = Strings(it.font)
+            strings[it.font].add(it.string, it.span is not None)
     reports = [report_of(font, strings.get(font) or Strings(font), lenient) for font in document.fonts]
     return Report(reports, len(document.pages), without_font, document.faults)
 
@@ -247,7 +256,7 @@ def report_of(font: Font, strings: Strings, lenient: bool) -> FontReport:
 
 def warnings_of(font: Font, codes: List[ShownCode]) -> List[CMapWarning]:
     """What looks wrong in the CMaps of a font that are accepted, of which these codes are shown."""
-    shown = {it.character.code.code for it in codes}
+    shown = {it.character.code.code for it in codes if it.character.source is not Source.ACTUAL_TEXT}
     found = []
     for of, read in [("Encoding", font.encoding), ("ToUnicode", font.to_unicode)]:
         stream = font.dictionary.get(f"/{of}")

@@ -74,7 +74,7 @@ class Content:
         first one has this text, and the others have an empty one.
         """
         before: Optional[Span] = None
-        for piece in self._pieces(page, annotations, None):
+        for piece in self.pieces(page, annotations):
             for character in self._characters_of(piece):
                 if piece.span is not None:
                     text = "" if piece.span is before else piece.span.text
@@ -105,18 +105,18 @@ class Content:
     def _lines_and_none(self, page: pikepdf.Page) -> Iterator[Optional[str]]:
         """The lines of a page, each when the string after it comes, and None where a string goes on with a line."""
         lines = Lines()
-        for piece in self._pieces(page, True, self._measure):
+        for piece in self.pieces(page, True, self._measure):
             yield lines.add(piece)
         yield lines.end()
 
     def shown(self, page: pikepdf.Page, annotations: bool = True) -> Iterator[Shown]:
         """The strings that a page shows, in the order of its content, and then those of its annotations."""
         before: Optional[Piece] = None
-        for piece in self._pieces(page, annotations, self._measure if self._has_places else None):
+        for piece in self.pieces(page, annotations, self._measure if self._has_places else None):
             yield Shown(piece.font, piece.string, NOTHING if before is None else gap(before, piece).separator)
             before = piece
 
-    def _pieces(self, page: pikepdf.Page, annotations: bool, measure: Any) -> Iterator[Piece]:
+    def pieces(self, page: pikepdf.Page, annotations: bool = True, measure: Any = None) -> Iterator[Piece]:
         """The strings of a page, measured by the fonts where that is asked for."""
         yield from Interpreter(self, measure).pieces(self._of_page(page), resources_of(page.obj))
         for form in shown_appearances_of(page.obj) if annotations else ():

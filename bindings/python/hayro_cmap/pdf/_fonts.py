@@ -75,10 +75,6 @@ class Source(enum.Enum):
         return self is Source.GLYPH_NUMBER
 
 
-#: The sources of texts that fonts have: all but that of marked content.
-SOURCES_OF_FONTS = [source for source in Source if source is not Source.ACTUAL_TEXT]
-
-
 class Character(NamedTuple):
     """A code that is shown."""
 

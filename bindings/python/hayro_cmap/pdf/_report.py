@@ -9,7 +9,7 @@ from typing import Any, Dict, Iterable, Iterator, List, Tuple
 from .._escaped import escaped
 from ._beside import try_beside, written_beside
 from ._check import FontReport, Report, share
-from ._fonts import SOURCES_OF_FONTS
+from ._fonts import Source
 from ._paths import is_among, opened, readable, reason_of
 
 #: How each page begins, by which it is known from other files.
@@ -22,7 +22,7 @@ BEGINNING = """<!DOCTYPE html>
 MOST_UNSHOWN = 1 << 16
 
 #: What a code has, as the page numbers it.
-KINDS = [source.value for source in SOURCES_OF_FONTS]
+KINDS = [source.value for source in Source]
 UNSHOWN = len(KINDS)
 
 #: What the page says of each, and its colour: colours that people tell apart who don't tell red from green.
@@ -33,6 +33,7 @@ LEGEND = [
     ("text by the glyph name", "#e69f00"),
     ("text by the font program", "#cc79a7"),
     ("a guess by the number of the glyph", "#f0e442"),
+    ("text by ActualText alone", "#999999"),
     ("shown without a text", "#d5301a"),
     ("has a text, isn't shown", "#b9cfe4"),
 ]
@@ -50,7 +51,9 @@ def cells_of(report: FontReport) -> List[Cell]:
     """The cells of the chart of a font: the codes that are shown, and those that its ToUnicode CMap has a text for."""
     cells: Dict[Tuple[int, int], Cell] = {}
     for (_, shown, text, source), times in report.codes:
-        cells[shown[:2]] = (shown.code, shown.byte_len, KINDS.index(source.value), shown.cid, text, times)
+        # a code that lacks a text where it is shown otherwise is one that lacks it
+        if source is not Source.ACTUAL_TEXT or shown[:2] not in cells:
+            cells[shown[:2]] = (shown.code, shown.byte_len, KINDS.index(source.value), shown.cid, text, times)
     to_unicode = report.font.to_unicode.lenient
     encoding = report.font.encoding.lenient
     ranges = None if encoding is None else [it for layer in encoding.layers for it in layer.codespaces]

@@ -31,3 +31,6 @@ FEW_TEXTS = "few-texts"
 #: Warnings of `cmap check --lint` that aren't for CMaps in PDF files: these have no names of files, and a subset of a
 #: font has few of the codes of its codespace ranges.
 LEFT_OUT = ("name-differs", "no-mapping")
+
+#: Warnings about how a range is written, which all readers take in the same way: no text is in doubt.
+OF_FORM = ("crosses-row",)
