@@ -51,14 +51,16 @@ def json_lines(result: Result) -> Iterator[str]:
 
 @contextlib.contextmanager
 def limited_memory(most: Optional[int]) -> Iterator[None]:
-    """Lets this process have so many bytes of memory in the block: what asks for more is a MemoryError."""
+    """Lets this process have so many bytes of memory in the block, or less where it may have less already: what asks
+    for more is a MemoryError."""
     if most is None:
         yield
         return
     import resource
 
     soft, hard = resource.getrlimit(resource.RLIMIT_AS)
-    resource.setrlimit(resource.RLIMIT_AS, (most if hard < 0 else min(most, hard), hard))
+    # a limit below 0 is none
+    resource.setrlimit(resource.RLIMIT_AS, (min(it for it in (most, soft, hard) if it >= 0), hard))
     try:
         yield
     finally:
