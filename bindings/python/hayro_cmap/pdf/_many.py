@@ -97,7 +97,7 @@ class Worker:
     def __init__(self, task: Task):
         self._task = task
         self.end, other = multiprocessing.Pipe()
-        self.process = multiprocessing.Process(target=serve, args=(other, task, os.getpid()), daemon=True)
+        self.process = multiprocessing.Process(target=serve, args=(other, self.end, task, os.getpid()), daemon=True)
         # an interrupt is for this process, which then ends the other one
         before = signal.pthread_sigmask(signal.SIG_BLOCK, [signal.SIGINT])
         try:
@@ -140,8 +140,10 @@ class Worker:
         self.process.join()
 
 
-def serve(end: connection.Connection, task: Task, parent: int) -> None:
-    """Does a task with the files that come through a pipe, until the other process is gone."""
+def serve(end: connection.Connection, other: connection.Connection, task: Task, parent: int) -> None:
+    """Does a task with the files that come through a pipe, until the process at its other end is gone."""
+    # else this one would wait for itself to read what it sends
+    other.close()
     with limited_memory(task.memory), contextlib.suppress(EOFError, OSError):
         while True:
             while not end.poll(SECONDS_TO_LOOK):
