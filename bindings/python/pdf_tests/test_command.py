@@ -180,6 +180,9 @@ class Command(Folder):
         self.assertEqual((status, self.path("out.pdf").exists()), (2, False))
         self.assertIn("it is signed, and its signature would no longer hold", fault)
         self.assertEqual(self.command("repair", "--signed", "signed.pdf", "out.pdf")[0], 0)
+        # with nothing to repair it is copied, and its signature holds
+        self.assertEqual(self.command("repair", "out.pdf", "again.pdf")[0], 0)
+        self.assertEqual(self.path("again.pdf").read_bytes(), self.path("out.pdf").read_bytes())
 
     def test_repair_of_more_codes_than_are_written(self):
         many = with_many_codes(rows=34, text=b"0000") + b" beginbfchar <41> /x endbfchar"

@@ -5,6 +5,7 @@ import os
 import resource
 import signal
 import subprocess
+import time
 import unittest
 from unittest import mock
 
@@ -139,7 +140,12 @@ class Memory(Folder):
         self.assertEqual(self.command("repair", "bad.pdf", "out.pdf")[0], 0)
         self.assertEqual(resource.getrlimit(resource.RLIMIT_AS), before)
         with _many.limited_memory(1 << 40):
-            self.assertEqual(resource.getrlimit(resource.RLIMIT_AS)[0], 1 << 40)
+            less = resource.getrlimit(resource.RLIMIT_AS)
+            self.assertTrue(0 < less[0] <= 1 << 40)
+            # one that is there already stays
+            with _many.limited_memory(1 << 50):
+                self.assertEqual(resource.getrlimit(resource.RLIMIT_AS), less)
+        self.assertEqual(resource.getrlimit(resource.RLIMIT_AS), before)
 
     def test_a_result_that_cannot_be_sent(self):
         [end, other] = _many.multiprocessing.Pipe()
@@ -158,6 +164,15 @@ class Memory(Folder):
         self.assertEqual((sent[0].status, end.recv().fault), (0, TOO_MUCH))
 
 
+def is_there(group):
+    """Whether a group has processes."""
+    try:
+        os.killpg(group, 0)
+    except ProcessLookupError:
+        return False
+    return True
+
+
 class Interrupted(Folder):
     def interrupted(self, *words):
         """The command, which is interrupted with all its processes after the first line of its output."""
@@ -169,7 +184,7 @@ class Interrupted(Folder):
             os.killpg(ran.pid, signal.SIGINT)
             # these end where no process has the other ends
             left = ran.stdout.read(), ran.stderr.read()
-        self.assertRaises(ProcessLookupError, os.killpg, ran.pid, 0)
+        self.assertFalse(is_there(ran.pid))
         return ran.returncode, left[1]
 
     def test_an_interrupt(self):
@@ -177,6 +192,20 @@ class Interrupted(Folder):
         self.path("list").write_text("good.pdf\n" * 20_000)
         for words in [["check"], ["check", "--jobs", "3"], ["text", "--jobs", "2"], ["fonts"]]:
             self.assertEqual(self.interrupted(*words, "--files-from", "list"), (130, b""))
+
+    def test_a_program_that_is_killed(self):
+        """Its processes end, those too that wait for it to read what they send."""
+        long = showing(b"A" * 300_000, GOOD).saved(self.path("long.pdf"))
+        words = [*PROGRAM, "text", "--jobs", "3", *[long] * 12]
+        with subprocess.Popen(words, stdout=subprocess.PIPE, start_new_session=True) as ran:
+            # the program waits for this one to read more than a line has
+            ran.stdout.read(1)
+            time.sleep(1)
+            ran.kill()
+        ended = time.monotonic() + 2 * _many.SECONDS_TO_LOOK
+        while time.monotonic() < ended and is_there(ran.pid):
+            time.sleep(0.1)
+        self.assertFalse(is_there(ran.pid))
 
     def test_an_early_interrupt(self):
         """The program ends while its modules are imported."""

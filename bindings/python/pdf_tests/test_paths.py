@@ -32,7 +32,8 @@ class Lists(Folder):
         self.assertEqual(self.listed("--jobs", "2", "--files-from", "list")[1], names)
 
     def test_the_standard_input(self):
-        self.assertEqual(self.listed("--files-from", "-", given=b"good.pdf\nbad.pdf\n")[:2], (0, ["good.pdf", "bad.pdf"]))
+        found = self.listed("--files-from", "-", given=b"good.pdf\nbad.pdf\n")
+        self.assertEqual(found[:2], (0, ["good.pdf", "bad.pdf"]))
         self.assertEqual(self.listed("--files-from", "-", given=b"")[:2], (0, []))
         closed = ["sh", "-c", 'exec "$@" <&-', "sh", *PROGRAM, "fonts", "--files-from", "-"]
         ran = subprocess.run(closed, cwd=self.folder, capture_output=True, text=True)
@@ -73,7 +74,8 @@ class Odd(Folder):
         Path(os.fsdecode(place)).write_bytes(self.path("bad.pdf").read_bytes())
         for words in [("fonts",), ("check", "--jobs", "2"), ("check",), ("check", "--html", "r.html")]:
             ran = self.program(*words, NAME, text=True)
-            self.assertEqual((ran.returncode, ran.stdout.startswith(f"{PRINTED}: font ")), (int(words[0] == "check"), True))
+            self.assertEqual(ran.returncode, 1 if words[0] == "check" else 0)
+            self.assertTrue(ran.stdout.startswith(f"{PRINTED}: font "), ran.stdout)
         self.assertIn(f"{PRINTED}</h2>".encode(), self.path("r.html").read_bytes())
         self.assertEqual(self.program("text", NAME, text=True).stdout, "A\ufffdC\n")
         for line in self.program("check", "--json", NAME, "--files-from", "-", input=NAME).stdout.splitlines():

@@ -192,6 +192,8 @@ class Saved(unittest.TestCase):
         self.assertRaises(pdf.Signed, pdf.repair, file.pdf)
         self.assertEqual(stream_of(file).read_bytes(), BAD)
         self.assertEqual(len(pdf.repair(file.pdf, signed=True)), 1)
+        # nothing is left to write, so the signature holds
+        self.assertEqual(pdf.repair(file.pdf), [])
 
     def test_a_folder_that_is_missing(self):
         file = showing(b"A", BAD)

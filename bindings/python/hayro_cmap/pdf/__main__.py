@@ -69,7 +69,7 @@ def arguments(words) -> argparse.Namespace:
     )
     parser.add_argument("--version", action="version", version=f"hayro_cmap {__version__}")
     commands = parser.add_subparsers(dest="command", metavar="COMMAND", required=True)
-    every, many, read = of_every_command(), of_many_files(), of_reading()
+    every, many, read = shared_options(), file_options(), reading_options()
     check = commands.add_parser("check", parents=[every, many, read], help="faults of CMaps, and codes without a text")
     named = f"status 1 where this is found: {', '.join(DENIABLE[:-1])}, or all"
     check.add_argument("--deny", metavar="NAME", action="append", default=[], choices=DENIABLE, help=named)
@@ -89,7 +89,7 @@ def arguments(words) -> argparse.Namespace:
     return asked
 
 
-def of_every_command() -> argparse.ArgumentParser:
+def shared_options() -> argparse.ArgumentParser:
     """The options that all commands have."""
     options = argparse.ArgumentParser(add_help=False)
     options.add_argument("--json", action="store_true", help="one JSON object per line")
@@ -99,7 +99,7 @@ def of_every_command() -> argparse.ArgumentParser:
     return options
 
 
-def of_many_files() -> argparse.ArgumentParser:
+def file_options() -> argparse.ArgumentParser:
     """The arguments of commands that read many files."""
     options = argparse.ArgumentParser(add_help=False)
     options.add_argument("files", metavar="FILE", nargs="*", help="a PDF file")
@@ -110,7 +110,7 @@ def of_many_files() -> argparse.ArgumentParser:
     return options
 
 
-def of_reading() -> argparse.ArgumentParser:
+def reading_options() -> argparse.ArgumentParser:
     """The options of commands that find texts."""
     options = argparse.ArgumentParser(add_help=False)
     strict = options.add_mutually_exclusive_group()

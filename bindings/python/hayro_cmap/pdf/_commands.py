@@ -61,7 +61,7 @@ class Job(NamedTuple):
         """Whether CMaps are read past their faults."""
         return self.options.get("lenient", True)
 
-    def check(self) -> Report:
+    def report(self) -> Report:
         """What is known of the file, with its fonts by the numbers of their objects."""
         report = check(self.pdf, self.progress, self.lenient, self.deadline)
         return report._replace(fonts=sorted(report.fonts, key=lambda it: it.font.number))
@@ -100,7 +100,7 @@ def run_fonts(job: Job) -> Result:
 
 
 def run_check(job: Job) -> Result:
-    report = job.check()
+    report = job.report()
     status = 1 if report.refused or report.has_denied(job.options.get("deny", ())) else 0
     return Result(
         job.path,
@@ -126,7 +126,7 @@ def run_text(job: Job) -> Result:
 
 
 def run_repair(job: Job) -> Result:
-    before = {report.font.number: report for report in job.check().fonts}
+    before = {report.font.number: report for report in job.report().fonts}
     try:
         done = repair(job.pdf, signed=job.options.get("signed", False))
     except Signed:

@@ -1,5 +1,6 @@
 """What the reading of one file may take: time, and memory."""
 
+import math
 import time
 from typing import Iterable, Iterator, Optional, TypeVar
 
@@ -27,12 +28,18 @@ class Deadline:
 
     def __init__(self, seconds: Optional[float] = SECONDS):
         self._seconds = seconds
-        self._end = None if seconds is None else time.thread_time() + seconds
+        self._end = math.inf if seconds is None else time.thread_time() + seconds
+        # processor time passes no faster than time, so it isn't over before this
+        self._soonest = time.monotonic() + (self._end - time.thread_time())
 
     def check(self) -> None:
-        """TooLong where the time is over."""
-        if self._end is not None and time.thread_time() >= self._end:
+        """TooLong where the time is over. It takes little: a loop may call it at each step."""
+        if time.monotonic() < self._soonest:
+            return
+        left = self._end - time.thread_time()
+        if left <= 0:
             raise TooLong(no_time(self._seconds))
+        self._soonest = time.monotonic() + left
 
     def over(self, items: Iterable[Item]) -> Iterator[Item]:
         """The same, with a check before each."""

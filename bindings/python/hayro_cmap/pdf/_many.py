@@ -51,14 +51,16 @@ def json_lines(result: Result) -> Iterator[str]:
 
 @contextlib.contextmanager
 def limited_memory(most: Optional[int]) -> Iterator[None]:
-    """Lets this process have so many bytes of memory in the block: what asks for more is a MemoryError."""
+    """Lets this process have so many bytes of memory in the block, or less where it may have less already: what asks
+    for more is a MemoryError."""
     if most is None:
         yield
         return
     import resource
 
     soft, hard = resource.getrlimit(resource.RLIMIT_AS)
-    resource.setrlimit(resource.RLIMIT_AS, (most if hard < 0 else min(most, hard), hard))
+    # a limit below 0 is none
+    resource.setrlimit(resource.RLIMIT_AS, (min(it for it in (most, soft, hard) if it >= 0), hard))
     try:
         yield
     finally:
@@ -95,7 +97,7 @@ class Worker:
     def __init__(self, task: Task):
         self._task = task
         self.end, other = multiprocessing.Pipe()
-        self.process = multiprocessing.Process(target=serve, args=(other, task, os.getpid()), daemon=True)
+        self.process = multiprocessing.Process(target=serve, args=(other, self.end, task, os.getpid()), daemon=True)
         # an interrupt is for this process, which then ends the other one
         before = signal.pthread_sigmask(signal.SIG_BLOCK, [signal.SIGINT])
         try:
@@ -138,8 +140,10 @@ class Worker:
         self.process.join()
 
 
-def serve(end: connection.Connection, task: Task, parent: int) -> None:
-    """Does a task with the files that come through a pipe, until the other process is gone."""
+def serve(end: connection.Connection, other: connection.Connection, task: Task, parent: int) -> None:
+    """Does a task with the files that come through a pipe, until the process at its other end is gone."""
+    # else this one would wait for itself to read what it sends
+    other.close()
     with limited_memory(task.memory), contextlib.suppress(EOFError, OSError):
         while True:
             while not end.poll(SECONDS_TO_LOOK):

@@ -59,15 +59,16 @@ def repair(pdf: pikepdf.Pdf, signed: bool = False) -> List[Repaired]:
     """Writes each ToUnicode CMap that is refused anew, with what it says apart from its faults.
 
     It stands in the object that it stood in, and no other object is touched; `save` then writes the file. Signed where
-    the file is signed, unless `signed` allows that; TooLarge where a CMap has texts for more than 2,097,152 codes.
+    there is one and the file is signed, unless `signed` allows that; TooLarge where a CMap has texts for more than
+    2,097,152 codes.
     """
-    if is_signed(pdf) and not signed:
-        raise Signed("the file is signed, and its signature would no longer hold")
     streams: Dict[Tuple[int, int], List[Font]] = {}
     for font in fonts(pdf):
         stream = stream_at(font.dictionary, "/ToUnicode")
         if stream is not None and font.to_unicode.faults:
             streams.setdefault(stream.objgen, []).append(font)
+    if streams and is_signed(pdf) and not signed:
+        raise Signed("the file is signed, and its signature would no longer hold")
     for sharing in streams.values():
         limit_codes(sharing[0].to_unicode.lenient)
     return [repaired(sharing) for sharing in streams.values()]
