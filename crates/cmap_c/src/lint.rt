@@ -1,6 +1,6 @@
 //! What looks wrong in a file that has a map, for C.
 
-ghost use Rattle.std.specs.Prelude.{◌≡◌, ◌⊎◌, ℕ, List, MatchOption};
+ghost use Rattle.std.specs.Prelude.{◌≡◌, ◌≢◌, ◌⊎◌, ℕ, List, MatchOption};
 ghost use Rattle.cmap_handles.specs.Rooms.{IsPut};
 ghost use Rattle.cmap_handles.specs.Statuses.{number};
 ghost use Rattle.cmap_handles.specs.declared.status.Status.TheVariants.{Absent, Done, NoMemory, NoRoom};
@@ -76,6 +76,7 @@ pub extern "C" fn hayro_cmap_warning_name(warning: u32, room: &mut [u8], needed:
     ensures name { ((result ≡ number Done) ⊎ (result ≡ number NoRoom))
         → (named : Warning) × (warnings.number named ≡ warning) × (name : List ℕ)
         × IsPut name room.old room.new needed.new result }
+    ensures absent { result ≡ number Absent → (named : Warning) → warnings.number named ≢ warning }
     ensures unwritten { result ≡ number Absent → (room.new ≡ room.old) × (needed.new ≡ needed.old) }
     ensures ends { ((result ≡ number Done) ⊎ (result ≡ number NoRoom)) ⊎ (result ≡ number Absent) }
 {

@@ -30,7 +30,7 @@ pub struct Subject<'m> {
     pub shown: &'m [u32],
 }
 
-/// The warnings of a file, in the order of `WARNINGS`.
+/// The warnings of a file, in the order of their numbers.
 pub fn findings_of<'m>(
     alloc: Global,
     subject: &Subject<'m>,

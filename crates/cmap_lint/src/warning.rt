@@ -1,7 +1,8 @@
 //! The warnings, their names and their numbers.
 
-ghost use Rattle.std.specs.Prelude.{◌≡◌, IfSome};
+ghost use Rattle.std.specs.Prelude.{◌≡◌, ◌≢◌, MatchOption};
 ghost use Rattle.cmap_lint.specs.Warnings.{number};
+ghost use Rattle.cmap_lint.specs.declared.warning.Warning.{Warning};
 
 /// What can look wrong in a file.
 #[derive(Clone, Copy)]
@@ -50,31 +51,6 @@ pub enum Warning {
     OddText,
 }
 
-/// All warnings, in the order in which they are reported.
-pub const WARNINGS: &[Warning] = &[
-    Warning::NothingDeclared,
-    Warning::NoCodespace,
-    Warning::OutsideCodespace,
-    Warning::Overlap,
-    Warning::InvertedRange,
-    Warning::CrossesRow,
-    Warning::LastByte,
-    Warning::NoText,
-    Warning::PrivateUse,
-    Warning::Noncharacter,
-    Warning::ReplacementCharacter,
-    Warning::NullCharacter,
-    Warning::NoMapping,
-    Warning::NameDiffers,
-    Warning::ModeDiffers,
-    Warning::CountDiffers,
-    Warning::LongSection,
-    Warning::NoEndcmap,
-    Warning::CodeLength,
-    Warning::OddDigits,
-    Warning::OddText,
-];
-
 impl Warning {
     /// The name by which it is reported.
     pub fn name(self) -> &'static str {
@@ -103,7 +79,7 @@ impl Warning {
         }
     }
 
-    /// The number by which C knows it.
+    /// The number by which C knows it: its rank in the order in which warnings are reported.
     pub fn number(self) -> u32
         ensures { result ≡ number self }
     {
@@ -134,21 +110,41 @@ impl Warning {
 
     /// The warning of a number.
     pub fn numbered(wanted: u32) -> Option<Warning>
-        ensures { IfSome result (λ warning. number warning ≡ wanted) }
+        ensures { MatchOption result ((warning : Warning) → number warning ≢ wanted)
+            (λ warning. number warning ≡ wanted) }
     {
-        for warning in WARNINGS {
-            if warning.number() == wanted {
-                return Some(*warning);
-            }
+        match wanted {
+            0 => Some(Warning::NothingDeclared),
+            1 => Some(Warning::NoCodespace),
+            2 => Some(Warning::OutsideCodespace),
+            3 => Some(Warning::Overlap),
+            4 => Some(Warning::InvertedRange),
+            5 => Some(Warning::CrossesRow),
+            6 => Some(Warning::LastByte),
+            7 => Some(Warning::NoText),
+            8 => Some(Warning::PrivateUse),
+            9 => Some(Warning::Noncharacter),
+            10 => Some(Warning::ReplacementCharacter),
+            11 => Some(Warning::NullCharacter),
+            12 => Some(Warning::NoMapping),
+            13 => Some(Warning::NameDiffers),
+            14 => Some(Warning::ModeDiffers),
+            15 => Some(Warning::CountDiffers),
+            16 => Some(Warning::LongSection),
+            17 => Some(Warning::NoEndcmap),
+            18 => Some(Warning::CodeLength),
+            19 => Some(Warning::OddDigits),
+            20 => Some(Warning::OddText),
+            _ => None,
         }
-        None
     }
 
     /// The warning of a name.
     pub fn of(name: &str) -> Option<Warning> {
-        for warning in WARNINGS {
+        for number in 0..u32::MAX {
+            let warning = Warning::numbered(number)?;
             if warning.name() == name {
-                return Some(*warning);
+                return Some(warning);
             }
         }
         None
