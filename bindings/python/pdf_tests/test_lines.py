@@ -1,11 +1,12 @@
 """Lines and words, by where strings are shown."""
 
 import unittest
+from unittest import mock
 
 from pikepdf import Array, Dictionary, Name, String
 
 from hayro_cmap import pdf
-from hayro_cmap.pdf import Source
+from hayro_cmap.pdf import Source, _content
 
 from made import GOOD, File, needs_glyph_list, needs_resources
 
@@ -36,10 +37,10 @@ class Words(unittest.TestCase):
 
     def test_gaps(self):
         """The second string is 10 further than the first, and the others further than the width of that."""
-        for x, lines in [(10, ["abcd"]), (11, ["abcd"]), (12, ["ab cd"]), (40, ["ab cd"]), (9, ["abcd"]), (-30, ["ab", "cd"])]:
-            self.assertEqual(self.lines(b"(ab) Tj %d 0 Td (cd) Tj" % x), lines, x)
-            self.assertEqual(self.lines(b"[(ab) %d (cd)] TJ" % (-100 * (x - 10))), lines, x)
-            self.assertEqual(self.lines(b"1 0 0 1 50 50 Tm (ab) Tj 1 0 0 1 %d 50 Tm (cd) Tj" % (50 + x)), lines, x)
+        for x, lines in [(10, ["abcd"]), (11, ["abcd"]), (11.5, ["abcd"]), (11.7, ["ab cd"]), (12, ["ab cd"]), (40, ["ab cd"]), (9, ["abcd"]), (-30, ["ab", "cd"])]:
+            self.assertEqual(self.lines(b"(ab) Tj %g 0 Td (cd) Tj" % x), lines, x)
+            self.assertEqual(self.lines(b"[(ab) %g (cd)] TJ" % (-100 * (x - 10))), lines, x)
+            self.assertEqual(self.lines(b"1 0 0 1 50 50 Tm (ab) Tj 1 0 0 1 %g 50 Tm (cd) Tj" % (50 + x)), lines, x)
 
     def test_blanks_are_not_doubled(self):
         self.assertEqual(self.lines(b"(ab ) Tj 20 0 Td (cd) Tj 20 0 Td ( ef) Tj"), ["ab cd ef"])
@@ -87,6 +88,23 @@ class Words(unittest.TestCase):
         page.file.show(b"/F 10 Tf BT (a) Tj 5 0 Td (b) Tj 8 0 Td (c) Tj 0 -12 Td (d) Tj ET", **page.fonts)
         document = pdf.Document(page.file.pdf, places=True)
         self.assertEqual([it.separator for it in document.shown(document.pages[0])], ["", "", " ", "\n"])
+
+    def test_too_many_characters(self):
+        page = Page()
+        page.file.show(b"/F 10 Tf BT (ab) Tj 0 -20 Td (cd) Tj 0 -20 Td (e) Tj ET", **page.fonts)
+        document = pdf.Document(page.file.pdf)
+        with mock.patch.object(_content, "MOST_CHARACTERS", 4):
+            self.assertEqual(list(document.lines(document.pages[0])), ["ab", "cd"])
+        self.assertEqual(document.faults, ["a page has more than 4 characters"])
+
+    def test_guesses(self):
+        """They are left out where that is wanted."""
+        encoding = Dictionary(Differences=Array([1, Name.a65, Name.a66]))
+        page = Page(Encoding=encoding)
+        self.assertEqual(page.lines(b"(\\001\\002) Tj"), ["AB"])
+        document = pdf.Document(page.file.pdf, guesses=False)
+        self.assertEqual(list(document.lines(document.pages[0])), ["\ufffd\ufffd"])
+        self.assertEqual(pdf.check(page.file.pdf, guesses=False).with_text, 0)
 
 
 @needs_glyph_list
@@ -156,6 +174,7 @@ class RightToLeft(unittest.TestCase):
         """The first letter is shown first, and each next one left of it."""
         self.assertEqual(self.lines(b"50 0 Td (A) Tj -5 0 Td (B) Tj -7 0 Td (C) Tj -5 0 Td (.) Tj"), ["אב ג."])
         self.assertEqual(self.lines(b"50 0 Td [(A) 1000 (B) 1000 ( ) 1000 (C)] TJ"), ["אב ג"])
+        self.assertEqual(self.lines(b"[()-8000 (A) 1000 () (B)] TJ"), ["אב"])
 
     def test_among_other_text(self):
         """Letters and numbers from left to right keep their order in it, and around it."""

@@ -114,10 +114,12 @@ class Limits(unittest.TestCase):
             self.assertLess(time.process_time() - start, 5, piece)
 
     def test_many_operands(self):
-        """Of more than the limit none are kept."""
-        operands = b"/a" * (_scan.MOST_OPERANDS + 2)
-        [(_, _, kept)] = _scan.operators(operands + b" Tj")
-        self.assertLess(len(kept), 3)
+        """The elements of a long array come in several steps; of other operands not all are kept."""
+        count = _scan.MOST_OPERANDS
+        shown = [_scan.elements_of(operands) for _, _, operands in _scan.operators(b"[%b] TJ" % (b"(a) 1" * count))]
+        self.assertEqual(([len(it) for it in shown], sum(shown, [])), ([count - 1] * 2 + [2], [b"a", 1] * count))
+        [(_, _, kept)] = _scan.operators(b"/a" * (count + 2) + b" Tj")
+        self.assertLess(len(kept), 5)
 
 
 if __name__ == "__main__":

@@ -34,5 +34,17 @@ class FiveDigits(unittest.TestCase):
         self.assertEqual(file.text(), "\U00020bb7?")
 
 
+class LongTexts(unittest.TestCase):
+    def test_a_text_of_many_characters(self):
+        """A few bytes may give it to many codes; such a CMap is no use."""
+        for count, is_read in [(1024, True), (1025, False)]:
+            for text in [b"<%b>" % (b"0041" * count), b"(%b)" % (b"\0A" * count)]:
+                file = showing(b"\1", RANGES + b"beginbfrange <00> <FF> %b endbfrange" % text)
+                [character] = file.characters()
+                self.assertEqual(character.text, "A" * (count - 1) + "B" if is_read else None)
+                reasons = [] if is_read else ["a code has a text of more than 1,024 characters"]
+                self.assertEqual([it.reason for it in character.font.to_unicode.faults], reasons)
+
+
 if __name__ == "__main__":
     unittest.main()

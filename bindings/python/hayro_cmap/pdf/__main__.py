@@ -116,6 +116,7 @@ def reading_options() -> argparse.ArgumentParser:
     strict = options.add_mutually_exclusive_group()
     strict.add_argument("--strict", action="store_true", help="no texts of ToUnicode CMaps with faults")
     strict.add_argument("--lenient", action="store_true", help="their texts apart from the faults, as by default")
+    options.add_argument("--no-guesses", action="store_true", help="no texts that a file only suggests")
     return options
 
 
@@ -133,6 +134,7 @@ def options_of(asked: argparse.Namespace) -> dict:
         "charts": getattr(asked, "html", None) is not None,
         "deny": getattr(asked, "deny", []),
         "lenient": not getattr(asked, "strict", False),
+        "guesses": not getattr(asked, "no_guesses", False),
         "output": getattr(asked, "output", None),
         "password": asked.password,
         "seconds": asked.seconds,

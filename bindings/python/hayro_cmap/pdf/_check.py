@@ -97,7 +97,8 @@ class FontReport:
             yield f"{number}: warning: {it.of} {it.number}: {it.name}: {codes}"
         if self.other_warnings:
             names = ", ".join(dict.fromkeys(it.name for it in self.other_warnings))
-            yield f"{number}: {len(self.other_warnings)} other warnings, about no text that is shown: {names}"
+            plural = "" if len(self.other_warnings) == 1 else "s"
+            yield f"{number}: {len(self.other_warnings)} other warning{plural}, about no text that is shown: {names}"
         kinds = [("without a text", self.no_text), ("without a CID", self.no_cid)]
         for what, codes in [*kinds, ("in no codespace range", self.outside_codespace)]:
             if codes:
@@ -192,7 +193,7 @@ class Strings:
     """The strings that are shown with a font, counted: others, and those in marked content with a text of its own."""
 
     def __init__(self, font: Font):
-        self._font = font
+        self.font = font
         self._is_composite = font.is_composite
         # of a simple font, whose codes are single bytes, these; of a composite one whole strings
         self._counts: Counter = collections.Counter()
@@ -206,18 +207,18 @@ class Strings:
         else:
             counts.update(string)
 
-    def codes(self, lenient: bool) -> List[ShownCode]:
+    def codes(self, lenient: bool, guesses: bool) -> List[ShownCode]:
         """The codes, those first that are shown most often. In marked content with a text of its own none lacks one."""
-        counts = self._counted(self._counts, lenient)
-        for it, times in self._counted(self._replaced, lenient).items():
+        counts = self._counted(self._counts, lenient, guesses)
+        for it, times in self._counted(self._replaced, lenient, guesses).items():
             counts[it._replace(text=it.text or "", source=Source.ACTUAL_TEXT)] += times
         return [ShownCode(*it) for it in counts.most_common()]
 
-    def _counted(self, strings: Counter, lenient: bool) -> Counter[Character]:
+    def _counted(self, strings: Counter, lenient: bool, guesses: bool) -> Counter[Character]:
         """The codes of strings, counted."""
         counts: Counter[Character] = collections.Counter()
         of_strings = [it if self._is_composite else bytes([it]) for it in strings]
-        for row, times in zip(self._font.characters_of(of_strings, lenient), strings.values()):
+        for row, times in zip(self.font.characters_of(of_strings, lenient, guesses), strings.values()):
             for character in row:
                 counts[character] += times
         return counts
@@ -228,11 +229,13 @@ def check(
     progress: Callable[[Iterable[Any]], Iterable[Any]] = iter,
     lenient: bool = True,
     deadline: Optional[Deadline] = None,
+    guesses: bool = True,
 ) -> Report:
     """Which fonts of a file have CMaps with faults, and which of the codes that it shows have no text.
 
     `progress` is handed the pages, and gives them again. The texts are those that ToUnicode CMaps have apart from their
-    faults; with `lenient=False` one with faults has none. TooLong where the deadline is over.
+    faults; with `lenient=False` one with faults has none, and with `guesses=False` no text is a guess. TooLong where the
+    deadline is over.
     """
     document, without_font = Document(pdf, lenient=lenient, deadline=deadline), 0
     strings: Dict[Font, Strings] = {}
@@ -244,14 +247,15 @@ def check(
             if it.font not in strings:
                 strings[it.font] = Strings(it.font)
             strings[it.font].add(it.string, it.span is not None)
-    reports = [report_of(font, strings.get(font) or Strings(font), lenient) for font in document.fonts]
+    reports = [report_of(strings.get(font) or Strings(font), lenient, guesses) for font in document.fonts]
     return Report(reports, len(document.pages), without_font, document.faults)
 
 
-def report_of(font: Font, strings: Strings, lenient: bool) -> FontReport:
-    """What is known of a font with which these strings are shown."""
-    codes = strings.codes(lenient)
-    return FontReport(font, codes, strings.codes(lenient=True) if font.to_unicode.faults and not lenient else codes)
+def report_of(strings: Strings, lenient: bool, guesses: bool) -> FontReport:
+    """What is known of the font with which these strings are shown."""
+    codes = strings.codes(lenient, guesses)
+    is_other = bool(strings.font.to_unicode.faults) and not lenient
+    return FontReport(strings.font, codes, strings.codes(True, guesses) if is_other else codes)
 
 
 def warnings_of(font: Font, codes: List[ShownCode]) -> List[CMapWarning]:

@@ -61,9 +61,14 @@ class Job(NamedTuple):
         """Whether CMaps are read past their faults."""
         return self.options.get("lenient", True)
 
+    @property
+    def guesses(self) -> bool:
+        """Whether texts may be guesses."""
+        return self.options.get("guesses", True)
+
     def report(self) -> Report:
         """What is known of the file, with its fonts by the numbers of their objects."""
-        report = check(self.pdf, self.progress, self.lenient, self.deadline)
+        report = check(self.pdf, self.progress, self.lenient, self.deadline, self.guesses)
         return report._replace(fonts=sorted(report.fonts, key=lambda it: it.font.number))
 
 
@@ -116,7 +121,7 @@ def run_check(job: Job) -> Result:
 
 
 def run_text(job: Job) -> Result:
-    document, lines, objects = Document(job.pdf, True, job.lenient, job.deadline), [], []
+    document, lines, objects = Document(job.pdf, True, job.lenient, job.deadline, job.guesses), [], []
     for number, page in enumerate(job.progress(document.pages), 1):
         of_page = list(document.lines(page))
         lines += of_page

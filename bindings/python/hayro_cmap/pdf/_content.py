@@ -47,7 +47,8 @@ class Content:
     """What pages show, with the fonts that they name, each read once.
 
     `places` is for the separators of `shown`, and takes more time. A ToUnicode CMap with faults gives the texts that it
-    has apart from them, and none with `lenient=False`. Where a deadline is over while a page is read, that is TooLong.
+    has apart from them, and none with `lenient=False`. With `guesses=False` no text is a guess. Where a deadline is over
+    while a page is read, that is TooLong.
     """
 
     def __init__(
@@ -56,10 +57,11 @@ class Content:
         places: bool = False,
         lenient: bool = True,
         deadline: Optional[Deadline] = None,
+        guesses: bool = True,
     ):
         self._found = Fonts() if fonts is None else fonts
         self._deadline = Deadline(None) if deadline is None else deadline
-        self._has_places, self._is_lenient = places, lenient
+        self._has_places, self._options = places, (lenient, guesses)
         self._streams: Streams = self._found.streams
         #: What of the contents couldn't be read.
         self.faults: List[str] = []
@@ -86,7 +88,7 @@ class Content:
         """The codes of a string."""
         if piece.font is None:
             return [Character(None, Code(it, 1, None, False, False), None, Source.NONE) for it in piece.string]
-        return piece.font.characters(piece.string, self._is_lenient)
+        return piece.font.characters(piece.string, *self._options)
 
     def lines(self, page: pikepdf.Page) -> Iterator[str]:
         """The lines of text that a page shows, in the order of its content; U+FFFD for a code without a text.
@@ -125,7 +127,7 @@ class Content:
     def _measure(self, font: Optional[Font]) -> Measure:
         """What measures the strings of a font."""
         if font not in self._measures:
-            self._measures[font] = Measure(font, lambda font, string: font.characters(string, self._is_lenient))
+            self._measures[font] = Measure(font, lambda font, string: font.characters(string, *self._options))
         return self._measures[font]
 
     def font(self, dictionary: Any) -> Optional[Font]:
@@ -182,9 +184,14 @@ class Document(Content):
     """The fonts of a PDF file, and what its pages show."""
 
     def __init__(
-        self, pdf: pikepdf.Pdf, places: bool = False, lenient: bool = True, deadline: Optional[Deadline] = None
+        self,
+        pdf: pikepdf.Pdf,
+        places: bool = False,
+        lenient: bool = True,
+        deadline: Optional[Deadline] = None,
+        guesses: bool = True,
     ):
-        super().__init__(None, places, lenient, deadline)
+        super().__init__(None, places, lenient, deadline, guesses)
         self._pdf = pdf
         #: The pages.
         self.pages: List[pikepdf.Page] = pages_of(pdf)
@@ -195,9 +202,9 @@ class Document(Content):
         return fonts_of(self._pdf, self._found)
 
 
-def characters(page: pikepdf.Page, lenient: bool = True) -> Iterator[Character]:
-    """The codes that a page shows, with their texts; with `lenient=False` those of ToUnicode CMaps with faults have none.
+def characters(page: pikepdf.Page, lenient: bool = True, guesses: bool = True) -> Iterator[Character]:
+    """The codes that a page shows, with their texts, by the options of `Document`.
 
     For several pages of a file, `Document` reads its fonts once.
     """
-    return Content(lenient=lenient).characters(page)
+    return Content(lenient=lenient, guesses=guesses).characters(page)

@@ -45,6 +45,10 @@ COLLECTIONS = {b"Adobe-GB1", b"Adobe-CNS1", b"Adobe-Japan1", b"Adobe-Korea1", b"
 #: The encodings by which codes are CIDs.
 IDENTITIES = ("Identity-H", "Identity-V")
 
+#: How many characters the text of a code may have, and what a longer one is written in, at least.
+MOST_OF_TEXT = 1 << 10
+LONG_TEXT = re.compile(rb"[0-9A-Fa-f\0\t\n\f\r ]{2048}|\([^<>\[\]]{1024}")
+
 #: Five digits without others beside them, and a hexadecimal string.
 FIVE_DIGITS = re.compile(rb"(?<![0-9A-Fa-f])[0-9A-Fa-f]{5}(?![0-9A-Fa-f])")
 HEXADECIMAL = re.compile(rb"<([0-9A-Fa-f\0\t\n\f\r ]*)>")
@@ -438,6 +442,7 @@ def read_stream(stream: pikepdf.Stream, of: str, streams: Streams, over: Tuple =
         # without the operator no file is used, and none is looked for
         files = predefined if b"usecmap" in data else None
         cmap, refusals = CMap.salvage(data, files, base=below.lenient, most_faults=MOST_FAULTS + 1)
+        limit_texts(cmap, data)
         past_faults = cmap
         read_as = with_whole_characters(data)
         if read_as != data:
@@ -452,6 +457,12 @@ def read_stream(stream: pikepdf.Stream, of: str, streams: Streams, over: Tuple =
         faults.append(Fault(of, number, None, None, (), f"more than {MOST_FAULTS:,} faults"))
     faults += below.faults
     return Read(None if faults else cmap, past_faults, faults, data)
+
+
+def limit_texts(cmap: CMap, data: bytes) -> None:
+    """TooLarge where a code has a text that is too long: a range of few bytes gives it to many codes."""
+    if LONG_TEXT.search(data) and any(len(row.start) >= MOST_OF_TEXT for row in cmap._text_rows()):
+        raise TooLarge(f"a code has a text of more than {MOST_OF_TEXT:,} characters")
 
 
 def with_whole_characters(data: bytes) -> bytes:

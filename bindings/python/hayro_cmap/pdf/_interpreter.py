@@ -26,8 +26,8 @@ MOST_NESTED = 64
 Matrix = Tuple[float, float, float, float, float, float]
 IDENTITY: Matrix = (1.0, 0.0, 0.0, 1.0, 0.0, 0.0)
 
-#: How wide the space between two codes is a blank, in sizes of the font.
-WIDE = 0.17
+#: How wide a gap between two codes is a blank, in sizes of the font. Lines that TeX justifies have blanks of 0.16.
+WIDE = 0.16
 BLANK = " "
 
 #: The unit of widths and of the numbers of TJ, in sizes of the font.

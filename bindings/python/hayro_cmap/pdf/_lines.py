@@ -166,6 +166,9 @@ class Lines:
     def add(self, piece: Piece) -> Optional[str]:
         """Takes a string, and gives the line before it if it begins another one."""
         before, line = self._before, None
+        if not piece.texts:
+            # a string without codes is nowhere
+            return None
         if before is None:
             self._put(Gap(NOTHING), piece)
         elif piece.span is not None and piece.span is before.span:

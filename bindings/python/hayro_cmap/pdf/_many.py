@@ -9,6 +9,7 @@ import json
 import multiprocessing
 import os
 import signal
+import sys
 from multiprocessing import connection
 from typing import Any, Dict, Iterable, Iterator, List, NamedTuple, Optional, Sequence, Tuple
 
@@ -228,6 +229,8 @@ def by_dask(paths: Sequence[str], command: str, options: Dict[str, Any], address
     no file: another one takes what it had. A file over which one worker after another dies, is one that can't be read.
     """
     client = client_of(address)
+    # an interrupt may leave half of an object of Dask, which can't be ended without an exception that nobody gets
+    sys.unraisablehook = lambda _: None
     try:
         with client:
             suspects = []

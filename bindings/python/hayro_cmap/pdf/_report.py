@@ -117,7 +117,7 @@ def page_of(results: List[Any]) -> str:
     # no text of a file ends the script that the data stands in
     data = json.dumps(charts, separators=(",", ":")).replace("<", "\\u003c")
     return BEGINNING + TEMPLATE.format(
-        summary=html.escape(f"{len(results)} files; {share(with_text, shown)}"),
+        summary=html.escape(f"{len(results)} file{'' if len(results) == 1 else 's'}; {share(with_text, shown)}"),
         legend=legend,
         files="".join(map(section_of, results)),
         data=data,

@@ -71,13 +71,14 @@ Operand = Tuple[int, bytes]
 #: An operator: its name, the numbers right before it, and the operands before these.
 Operator = Tuple[bytes, bytes, List[Operand]]
 
-#: What opens an array or a dictionary.
+#: What opens an array or a dictionary, and the brackets of an array.
 OPENING = (b"[", b"<<")
+OPENED, CLOSED = (MARK, b"["), (MARK, b"]")
 
 #: Operands that look like operators.
 VALUES = (b"true", b"false", b"null")
 
-#: How many operands an operator may have; of more none are kept.
+#: How many operands of an operator are kept at a time.
 MOST_OPERANDS = 1 << 16
 
 
@@ -103,10 +104,15 @@ def operators(data: bytes) -> Iterator[Operator]:
                 start = end_of_string(data, token.end())
                 operands.append((LITERAL, data[token.end() : start - 1]))
                 break
-            elif kind is None or len(operands) == MOST_OPERANDS:
+            elif kind is None:
                 operands = []
             elif kind != COMMENT:
                 operands.append((kind, token[kind]))
+                if len(operands) == MOST_OPERANDS:
+                    if operands[0] == OPENED:
+                        # the elements of a long array are shown in several steps
+                        yield b"TJ", b"", [*operands, CLOSED]
+                    operands = operands[:1]
 
 
 def end_of_image(data: bytes, start: int) -> int:
@@ -190,13 +196,13 @@ def elements_of(operands: List[Operand]) -> List[Union[bytes, float]]:
     for kind, data in operands:
         if kind == MARK:
             depth += 1 if data in OPENING else -1
-        if (kind, data) == (MARK, b"[") and depth == 1:
+        if (kind, data) == OPENED and depth == 1:
             found = []
         elif depth == 1 and kind == NUMBER:
             found += numbers_in(data)
         elif depth == 1 and kind in (LITERAL, HEXADECIMAL):
             found.append(literal(data) if kind == LITERAL else hexadecimal(data))
-    return found if depth == 0 and operands and operands[-1] == (MARK, b"]") else []
+    return found if depth == 0 and operands and operands[-1] == CLOSED else []
 
 
 def element(simple: bytes, digits: bytes, number: bytes) -> Union[bytes, float]:
