@@ -253,7 +253,7 @@ typedef struct hayro_cmap_fault {
 /* What can look wrong in a file that has a map. hayro_cmap_warning_name gives the name of a warning, which
  * is that of `cmap check --lint`. */
 typedef enum hayro_cmap_warning {
-    HAYRO_CMAP_WARNING_NOTHING_DECLARED = 0,       /* no codespace range, no declaration and no use of another file */
+    HAYRO_CMAP_WARNING_NOTHING_DECLARED = 0,       /* no codespace range, no declaration, no other file */
     HAYRO_CMAP_WARNING_NO_CODESPACE = 1,           /* no layer has a codespace range */
     HAYRO_CMAP_WARNING_OUTSIDE_CODESPACE = 2,      /* codes with a CID or a notdef in no codespace range */
     HAYRO_CMAP_WARNING_OVERLAP = 3,                /* codes with two declarations that disagree */
@@ -265,10 +265,10 @@ typedef enum hayro_cmap_warning {
     HAYRO_CMAP_WARNING_NONCHARACTER = 9,           /* texts with noncharacters */
     HAYRO_CMAP_WARNING_REPLACEMENT_CHARACTER = 10, /* texts with U+FFFD */
     HAYRO_CMAP_WARNING_NULL_CHARACTER = 11,        /* texts with U+0000 */
-    HAYRO_CMAP_WARNING_NO_MAPPING = 12,            /* codes of the codespace, of up to two bytes, without a text */
-    HAYRO_CMAP_WARNING_NAME_DIFFERS = 13,          /* the name in the file isn't that of the file: never found here */
+    HAYRO_CMAP_WARNING_NO_MAPPING = 12,            /* codes of one or two bytes without a text */
+    HAYRO_CMAP_WARNING_NAME_DIFFERS = 13,          /* another name than that of the file; never found here */
     HAYRO_CMAP_WARNING_MODE_DIFFERS = 14,          /* a name in -V, and the writing mode isn't vertical */
-    HAYRO_CMAP_WARNING_COUNT_DIFFERS = 15,         /* sections with another number before them than that of their entries */
+    HAYRO_CMAP_WARNING_COUNT_DIFFERS = 15,         /* sections with a wrong number of entries before them */
     HAYRO_CMAP_WARNING_LONG_SECTION = 16,          /* sections with more than 100 entries */
     HAYRO_CMAP_WARNING_NO_ENDCMAP = 17,            /* no endcmap after begincmap */
     HAYRO_CMAP_WARNING_CODE_LENGTH = 18,           /* codes of a length that no codespace range has */
@@ -278,11 +278,11 @@ typedef enum hayro_cmap_warning {
 
 /* Where the first of what a warning concerns is. */
 typedef enum hayro_cmap_place {
-    HAYRO_CMAP_IN_FILE = 0,   /* in the file as a whole */
-    HAYRO_CMAP_AT_CODE = 1,   /* at the code `first` */
-    HAYRO_CMAP_AT_RANGE = 2,  /* at a declaration for the codes from `first` to `last` */
-    HAYRO_CMAP_AT_NAME = 3,   /* at the name that the file gives itself */
-    HAYRO_CMAP_AT_OFFSET = 4  /* at the byte at `offset` */
+    HAYRO_CMAP_IN_FILE = 0,  /* in the file as a whole */
+    HAYRO_CMAP_AT_CODE = 1,  /* at the code `first` */
+    HAYRO_CMAP_AT_RANGE = 2, /* at a declaration for the codes from `first` to `last` */
+    HAYRO_CMAP_AT_NAME = 3,  /* at the name that the file gives itself */
+    HAYRO_CMAP_AT_OFFSET = 4 /* at the byte at `offset` */
 } hayro_cmap_place;
 
 /* A warning about a file, with what it concerns. */
@@ -407,9 +407,10 @@ hayro_cmap_status hayro_cmap_message(const hayro_cmap_fault *fault, uint8_t *roo
  * the file, if it is a text: without bytes there is no warning about how a text is written.
  * `to_unicode` is whether the map is meant as one to Unicode, as the one under ToUnicode of a font.
  *
- * `shown` are codes that are shown with the font, by their numbers alone, in ascending order, each once. A
- * finding says how many of them it concerns: of a declaration those between its ends, but with no text
- * those that it gives none, of a string in an entry those of the entry, and of a text in a list its own.
+ * `shown` are the numbers of codes that are shown with the font, in ascending order, each once. A finding
+ * says how many of them it concerns. A declaration concerns the codes between its ends; with
+ * HAYRO_CMAP_WARNING_NO_TEXT only those to which it gives none. A string concerns the codes of its entry,
+ * and a text in a list only its own.
  *
  * With HAYRO_CMAP_OK the findings stand at the head of `findings`, and `needed` is how many they are. With
  * HAYRO_CMAP_NO_ROOM `needed` is how many there are, and `findings` is as it was. An empty handle is

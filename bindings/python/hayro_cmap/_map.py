@@ -352,7 +352,8 @@ class CMap(Owned):
 
         `text` is the file, if it is a text; without it there are no warnings about how a text is written. `to_unicode`
         is whether the map is meant as one to Unicode, as that under ToUnicode of a font. `shown` are the numbers of
-        codes that are shown with the font: a finding says how many of these it concerns.
+        codes that are shown with the font: a finding says how many of these it concerns. A declaration concerns the
+        codes between its ends (`no-text` those without a text), a string those of its entry.
         """
         text, (codes, count) = bytes_of(text), shown_codes(shown)
         found = self._listed(library.hayro_cmap_lint, Found, text, len(text), bool(to_unicode), codes, count)

@@ -10,7 +10,9 @@ impl CMap {
     ///
     /// `text` is the file, if it is a text; without bytes there are no warnings about how a text is written.
     /// `to_unicode` is whether the map is meant as one to Unicode, as that under ToUnicode of a font. `shown`
-    /// are codes that are shown with the font: a finding says how many of these it concerns.
+    /// are codes that are shown with the font: a finding says how many of these it concerns. A declaration
+    /// concerns the codes between its ends ([`Warning::NoText`] those without a text), a string those of its
+    /// entry.
     ///
     /// ```
     /// use hayro_cmap::{CMap, Place, Warning};
