@@ -2,7 +2,6 @@
 
 use crate::binary::binary_of;
 use crate::changes::{one_file, repaired, tidied};
-use crate::filled::without_empty_texts;
 use crate::obstacle::push_obstacle;
 use cmap_escape::escape::push_text;
 use cmap_files::beside::write_output;
@@ -12,7 +11,7 @@ use cmap_files::status::ACCEPTED;
 use cmap_sources::alone::file_of;
 use cmap_sources::bases::Bases;
 use cmap_sources::maps::{bytes_needed, map_needed};
-use cmap_sources::reading::{Faults, Input, Manner};
+use cmap_sources::reading::{Input, Manner};
 use cmap_text_writer::{Obstacle, TextLengths, write_text_by};
 use cmap_values::fault::Fault;
 use cmap_values::file::File;
@@ -70,11 +69,7 @@ pub fn rewrite(
         path: options.file,
         bytes: bytes.as_slice(),
     };
-    let read = file_of(rt, input, options.manner.faults, bases)?;
-    let file = match options.manner.faults {
-        Faults::All if !options.is_binary => without_empty_texts(rt.alloc(), read)?,
-        _ => read,
-    };
+    let file = file_of(rt, input, options.manner.faults, bases)?;
     let file = match options.change {
         Change::Nothing => file,
         Change::Tidy => tidied(rt.alloc(), file)?,
