@@ -84,6 +84,8 @@ def joined(rows: Iterable[Tuple[int, int, int]]) -> List[Tuple[int, int, int]]:
 def rows_of(declaration) -> List[TextRow]:
     """The codes of a declaration that have texts."""
     units = declaration.text.encode("utf-16-be", "surrogatepass")
+    if not units:
+        return []
     unit = int.from_bytes(units[-2:], "big")
     start, ranges, character = last_units(units[:-2])
     # a unit and this is the code whose text ends with the unit

@@ -195,6 +195,12 @@ class EffectiveTexts(unittest.TestCase):
         runs = [(0x10, 0x11, "A", 1), (0x12, 0x12, "fi", 1), (0x13, 0x1E, "D", 1), (0x1F, 0x1F, "x", 1)]
         self.assertEqual(self.texts_of(data), [TextRun(*run) for run in runs])
 
+    def test_a_declaration_without_units_hides_others(self):
+        data = b"1 beginbfrange <10> <13> <0061> endbfrange 1 beginbfchar <11> <> endbfchar"
+        with CMap.salvage(data).cmap as cmap:
+            self.assertEqual(cmap.texts(), [TextRun(0x10, 0x10, "a", 1), TextRun(0x12, 0x13, "c", 1)])
+            self.assertIsNone(cmap.text(0x11))
+
     def test_layers(self):
         base = b"1 beginbfrange <10> <13> <0061> endbfrange"
         runs = self.texts_of(b"/A usecmap 1 beginbfchar <11> <0042> endbfchar", files={"A": base})

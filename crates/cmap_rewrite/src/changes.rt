@@ -1,6 +1,7 @@
 //! What is written in the place of what a file says: one file for all layers of a map, or for some of its codes, and
 //! the fewest declarations.
 
+use crate::filled::without_empty_texts;
 use crate::order::put_single_codes_first;
 use crate::within::cut_texts;
 use cmap_escape::digits::push_code;
@@ -150,9 +151,10 @@ fn ordered<'d>(mut file: File<'d>) -> Result<File<'d>, AllocError> {
     Ok(file)
 }
 
-/// The file in the fewest declarations that all readers take: no range of texts lies in a codespace range in part. One
-/// whose ranges have too many rows of codes stays as it is.
+/// The file in the fewest declarations that all readers take: each text has units, and no range of texts lies in a
+/// codespace range in part. One whose ranges have too many rows of codes isn't made tidy.
 pub(crate) fn repaired<'d>(alloc: Global, file: File<'d>) -> Result<File<'d>, AllocError> {
+    let file = without_empty_texts(alloc, file)?;
     if is_large(&file) {
         return Ok(file);
     }

@@ -4,6 +4,7 @@
 mod binary;
 mod changes;
 pub mod command;
+mod filled;
 pub mod make;
 mod obstacle;
 mod order;

@@ -72,8 +72,13 @@ fn add_parts(
     Ok(())
 }
 
-/// The texts of codes from `first` to `last`, all of which have one.
-fn part_of(alloc: Global, text: &BfRange, first: u32, last: u32) -> Result<BfRange, AllocError> {
+/// The texts of codes from `first`, which has one, to `last`.
+pub(crate) fn part_of(
+    alloc: Global,
+    text: &BfRange,
+    first: u32,
+    last: u32,
+) -> Result<BfRange, AllocError> {
     let mut units = Vec::from_slice(alloc, text.units.as_slice())?;
     let further = u16::try_from(first.wrapping_sub(text.range.start)).unwrap_or(0);
     if let Some(unit) = units.last_mut() {

@@ -1,7 +1,7 @@
 -- Each declaration that is kept stands in the text.
 use Rattle.std.proofs.Common.{◌≡◌, ◌∙◌, ℕ, ◌+◌, ◌-◌, ◌≤◌, Bool, true, false, List, [], ◌∷◌, ◌++◌, length, take, ap, refl, subst, sym, arith, append_assoc, append-nil, inl, inr}
-use Rattle.std.specs.Prelude.{◌==◌, ◌&&◌, ◌⊎◌, nat_le, codes, Option, Some, None, Result, Ok, Err, if◌then◌else◌}
-use Rattle.std.proofs.lemmas.Bool.{eqb-true, leb-true}
+use Rattle.std.specs.Prelude.{◌==◌, ◌&&◌, ◌<◌, ◌⊎◌, nat_le, nat_lt, codes, Option, Some, None, option_and_then, option_map, Result, Ok, Err, if◌then◌else◌}
+use Rattle.std.proofs.lemmas.Bool.{eqb-true, leb-true, ltb-true}
 use Rattle.std.proofs.lemmas.List.{take_at}
 use Rattle.cmap_tokens.specs.Pieces.{Piece, Wrong, pieces_left}
 use Rattle.cmap_tokens.specs.Tokens.{Token}
@@ -14,12 +14,12 @@ use Rattle.cmap_values.specs.declared.fault.Stop.{Stop}
 use Rattle.cmap_values.specs.declared.fault.Reason.{Reason}
 use Rattle.cmap_values.specs.declared.fault.Reason.TheVariants.{BracketExpected, TextExpected, UnequalLengths}
 use Rattle.cmap_text.specs.TextFiles.{CidKind, IsCid, IsCode, IsDestination, IsEntry, Section, bf_char, bf_range, cids, codespace_range, declares_cid, range, single, use_word}
-use Rattle.cmap_text.specs.TextReading.{Code, adding, cid_in, code_in, codespace, destination_in, filed, is_executable, key_in, opened_by, text_of, with_other}
-use Rattle.cmap_text.specs.Salvage.{Class, Entry, Filled, Parts, Rest, Salvaged, State, Texts, after_entry, after_malformed, after_part, alone, at_fault, begin_item, class_of, close_bracket, end_list, entry_fault, fault_of, fill, fill_cid, fill_end, fill_high, fill_texts, if_cid, if_code, if_text, finished, having_lists, in_brackets, in_entry, in_line, in_list, is_closer, item, known, lacks_bracket, list_after, list_begun, losing, new_entry, no_parts, no_text, none, nothing_salvaged, one, open_bracket, own_fault, part, pass_in_entry, pass_in_line, pass_in_list, past_texts, rest_of, rest_of_list, salvaged, saying, second_filled, take_after_texts, take_all, take_in_entry, take_in_list, take_item, take_part, take_piece, take_text, take_use, take_value, taken, text_in, third_filled, two, value, with_fault, with_piece}
+use Rattle.cmap_text.specs.TextReading.{Code, adding, cid_in, code_in, codespace, destination_in, filed, is_executable, key_in, opened_by, text_of, value_in, with_other}
+use Rattle.cmap_text.specs.Salvage.{Class, Entry, Filled, Mended, Parts, Rest, Salvaged, State, Texts, adding_empty, after_entry, after_malformed, after_part, alone, at_fault, begin_item, class_of, close_bracket, code_of_piece, empty_text_in, empty_text_of, end_list, entry_fault, fault_of, fill, fill_cid, fill_end, fill_high, fill_texts, if_cid, if_code, if_text, finished, having_lists, in_brackets, in_entry, in_line, in_list, is_closer, is_nominal, item, known, lacks_bracket, list_after, list_begun, losing, mend, mend_high, mend_text, new_entry, no_parts, no_text, none, nothing_salvaged, one, open_bracket, own_fault, part, pass_in_entry, pass_in_line, pass_in_list, passed_over, past_texts, rest_of, rest_of_list, salvaged, saying, second_filled, second_mended, short_list, take_after_texts, take_all, take_in_entry, take_in_list, take_item, take_part, take_piece, take_text, take_use, take_value, taken, text_in, third_filled, third_mended, two, value, widened, with_fault, with_piece}
 use Rattle.cmap_text.specs.Salvage as salvage
-use Rattle.cmap_text.specs.Standing.{AreDeclared, AreParts, AreTexts, Stands, StandsAs, a_list, an_entry, between, entered, lone_piece, next_part, next_text, no_part, nothing, other_part, passed}
+use Rattle.cmap_text.specs.Standing.{AreDeclared, AreParts, AreTexts, IsEmptyString, Stands, StandsAs, a_list, a_longer_end, an_empty_text, an_entry, between, empty_texts, entered, lone_piece, next_part, next_text, no_part, nothing, other_part, passed}
 use Rattle.cmap_text.specs.Standing as standing
-use Rattle.cmap_text.proofs.TokensRead.{cid_found, code_found, destination_found, is_executable-found, tested, written}
+use Rattle.cmap_text.proofs.TokensRead.{cid_found, code_found, destination_found, empty_found, is_executable-found, some_bound, tested, written}
 use Rattle.cmap_text.proofs.FaultsAdded.{by_bool, by_class}
 
 -- what is said in some pieces
@@ -113,6 +113,14 @@ by_bool_is : (P : State × Salvaged → Type 0) {a b : State × Salvaged} (c : B
 by_bool_is P true a b = a refl
 by_bool_is P false a b = b
 
+-- what is read of a piece is read of a token
+token_read : {A : Type 0} (piece : Piece) (read : Token → Option A) (x : A) → elim piece.token [ Ok t ↦ read t | Err w ↦ None ] ≡ Some x → (t : Token) × (piece.token ≡ Ok t) × (read t ≡ Some x)
+token_read piece read x is = by piece.token refl is
+  where
+    by : (r : Result Token Wrong) → piece.token ≡ r → elim r [ Ok t ↦ read t | Err w ↦ None ] ≡ Some x → (t : Token) × (piece.token ≡ Ok t) × (read t ≡ Some x)
+    by (Ok t) token is = (t, token, is)
+    by (Err w) token is = absurd (cc)
+
 -- ---- what the texts of a list add
 abbrev of_texts : List BfEntry → Lists
 of_texts bfs = record { cids = no_lists.cids; notdefs = no_lists.notdefs; bfs = bfs; spaces = [] }
@@ -121,6 +129,9 @@ texts_only : {start n : ℕ} {others : List Piece} {texts : List Declaration} �
 texts_only standing.no_text = refl
 texts_only (between texts piece which) = texts_only texts
 texts_only (other_part texts piece is not) = texts_only texts
+texts_only {start} (standing.empty_text {n = n} {declared = earlier} texts piece t token empty) =
+    let more = text_of (start + n) (start + n) [] in
+    lists_of-append earlier more ∙ ap (λ l. append_lists l (lists_of more)) (texts_only texts) ∙ ap of_texts (sym (ap (λ l. l.bfs) (lists_of-append earlier more)))
 texts_only {start} (next_text {n = n} {declared = earlier} texts piece units is) =
     let more = text_of (start + n) (start + n) units in
     lists_of-append earlier more ∙ ap (λ l. append_lists l (lists_of more)) (texts_only texts) ∙ ap of_texts (sym (ap (λ l. l.bfs) (lists_of-append earlier more)))
@@ -206,12 +217,6 @@ module _ (seen next : List Piece) (piece : Piece) (next_is : next ≡ seen ++ pi
     codes_are = inside.codes_are;
   }
 
-  fault_keeps : (old : Salvaged) (entry : Entry) (fault : Stop) → InEntry entry.parts seen old.said.lists → Keeps next (entry_fault old entry piece fault)
-  fault_keeps old entry fault inside =
-      let said = passed_on (entry_said inside) in
-      let passes = entry_passed (with_fault old fault) (rest_of entry) said in
-      by_class_is (Keeps next) (class_of piece) (λ _. passes) (λ is. kept (lone_entry entry.parts old.said.lists inside is)) (λ _. passes) (λ _. passes) (λ _. passes)
-
   -- ---- a place that is filled
   record Fills (filled : Filled) : Type 0 where
     pub gives : (p : State × Lists) → filled ≡ Ok p → At p.0 next p.1
@@ -244,10 +249,13 @@ module _ (seen next : List Piece) (piece : Piece) (next_is : next ≡ seen ++ pi
         by (Some units) is = rw (is, if_text) (each units (destination_found t units is))
         by None is = rw (is, if_text) fails
 
-    whole : (parts : Parts) (inside : InEntry parts seen lists) (section : Section) (declared : List Declaration) → IsEntry section (inside.tokens ++ t ∷ []) declared [] → Said next (adding lists declared)
-    whole parts inside section declared is =
+    standing_so : (parts : Parts) (inside : InEntry parts seen lists) (declared : List Declaration) → StandsAs (inside.pieces ++ piece ∷ []) declared → Said next (adding lists declared)
+    standing_so parts inside declared stands =
         let same = next_is ∙ ap (λ ps. ps ++ piece ∷ []) inside.seen_is ∙ append_assoc inside.before inside.pieces (piece ∷ []) in
-        subst (λ ps. Said ps (adding lists declared)) (sym same) (enter inside.said (an_entry (next_part inside.parts_are piece t token) section is))
+        subst (λ ps. Said ps (adding lists declared)) (sym same) (enter inside.said stands)
+
+    whole : (parts : Parts) (inside : InEntry parts seen lists) (section : Section) (declared : List Declaration) → IsEntry section (inside.tokens ++ t ∷ []) declared [] → Said next (adding lists declared)
+    whole parts inside section declared is = standing_so parts inside declared (an_entry (next_part inside.parts_are piece t token) section is)
 
     one_more : (parts new : Parts) (inside : InEntry parts seen lists) → CodesAre new (inside.tokens ++ t ∷ []) → InEntry new next lists
     one_more parts new inside codes = record {
@@ -362,6 +370,96 @@ module _ (seen next : List Piece) (piece : Piece) (next_is : next ≡ seen ++ pi
         by (one start) is has = rw (is, fill) (second_fills entry.section entry start has)
         by (two start end) is has = rw (is, fill) (third_fills entry.section entry start end has)
 
+    -- ---- a part at fault that fills its place
+    empty_stands : (entry : Entry) (start : Code) → InEntry (one start) seen lists → IsEmptyString t → At (in_entry (new_entry entry.section)) next (adding lists (text_of start.number start.number []))
+    empty_stands entry start inside empty =
+        let (a, first, tokens_are, a_code, start_is) = inside.codes_are in
+        let parts = subst (AreParts (inside.pieces ++ piece ∷ [])) (ap (λ ts. ts ++ t ∷ []) tokens_are) (next_part inside.parts_are piece t token) in
+        let stands = subst (λ n. StandsAs (inside.pieces ++ piece ∷ []) (text_of n n [])) (sym (ap (λ c. c.number) start_is)) (an_empty_text parts a_code empty) in
+        fresh (standing_so (one start) inside (text_of start.number start.number []) stands)
+
+    empties_stand : (entry : Entry) (start end : Code) → InEntry (two start end) seen lists → IsEmptyString t → At (in_entry (new_entry entry.section)) next (adding lists (text_of start.number end.number []))
+    empties_stand entry start end inside empty =
+        let (a, b, first, last, tokens_are, a_code, b_code, start_is, end_is) = inside.codes_are in
+        let parts = subst (AreParts (inside.pieces ++ piece ∷ [])) (ap (λ ts. ts ++ t ∷ []) tokens_are) (next_part inside.parts_are piece t token) in
+        let declares = ap (λ c. text_of c.number end.number []) start_is ∙ ap (λ c. text_of (big_endian first) c.number []) end_is in
+        let stands = subst (StandsAs (inside.pieces ++ piece ∷ [])) (sym declares) (empty_texts parts a_code b_code empty) in
+        fresh (standing_so (two start end) inside (text_of start.number end.number []) stands)
+
+    longer_stands : (entry : Entry) (low high : Code) (declared : List Declaration) → InEntry (one low) seen lists → code_in t ≡ Some high → widened low high ≡ Some declared → At (in_entry (new_entry entry.section)) next (adding lists declared)
+    longer_stands entry low high declared inside code is =
+        let (bytes, is_code, same) = code_found t high code in
+        let (a, first, tokens_are, a_code, low_is) = inside.codes_are in
+        let (less, gives) = tested (nat_lt low.len high.len) _ declared is in
+        let longer : length first < length bytes = omega (arith, ltb-true low.len high.len less, ap (λ c. c.len) low_is, ap (λ c. c.len) same) in
+        let parts = subst (AreParts (inside.pieces ++ piece ∷ [])) (ap (λ ts. ts ++ t ∷ []) tokens_are) (next_part inside.parts_are piece t token) in
+        let declares = sym gives ∙ ap (λ c. Declaration.codespace (record { len = high.len; low = c.number; high = high.number }) ∷ []) low_is ∙ ap (λ c. Declaration.codespace (record { len = c.len; low = big_endian first; high = c.number }) ∷ []) same in
+        let stands = subst (StandsAs (inside.pieces ++ piece ∷ [])) (sym declares) (a_longer_end parts a_code is_code longer) in
+        fresh (standing_so (one low) inside declared stands)
+
+  record Mends (mended : Mended) : Type 0 where
+    pub gives : (p : State × Lists) → mended ≡ Some p → At p.0 next p.1
+
+  mends : {state : State} {new : Lists} → At state next new → Mends (Some (state, new))
+  mends {state} {new} holds = record { gives = λ p is. let same : ◌≡◌ {A = State × Lists} (state, new) p = cc in subst (λ q. At q.0 next q.1) same holds }
+
+  mends_none : Mends None
+  mends_none = record { gives = λ p is. absurd (cc) }
+
+  module _ (lists : Lists) where
+    -- an empty string stands here
+    text_mends : (entry : Entry) (start end : Code) → ((t : Token) → piece.token ≡ Ok t → IsEmptyString t → At (in_entry (new_entry entry.section)) next (adding lists (text_of start.number end.number []))) → Mends (mend_text lists entry start end piece)
+    text_mends entry start end stands = by (empty_text_in piece) refl
+      where
+        by : (found : Option (List ℕ)) → empty_text_in piece ≡ found → Mends (option_map (λ units. (in_entry (new_entry entry.section), adding lists (text_of start.number end.number units))) found)
+        by (Some units) is =
+            let (t, token, reads) = token_read piece (λ t. option_and_then empty_text_of (value_in t)) units is in
+            let (empty, without) = empty_found t units reads in
+            subst (λ us. Mends (Some (in_entry (new_entry entry.section), adding lists (text_of start.number end.number us)))) (sym without) (mends (stands t token empty))
+        by None is = mends_none
+
+    high_mends : (entry : Entry) (low : Code) → InEntry (one low) seen lists → Mends (mend_high lists entry low piece)
+    high_mends entry low inside = by (option_and_then (widened low) (code_of_piece piece)) refl
+      where
+        by : (found : Option (List Declaration)) → option_and_then (widened low) (code_of_piece piece) ≡ found → Mends (option_map (λ declared. (in_entry (new_entry entry.section), adding lists declared)) found)
+        by (Some declared) is =
+            let (high, code, widens) = some_bound (widened low) (code_of_piece piece) declared is in
+            let (t, token, reads) = token_read piece code_in high code in
+            mends (longer_stands lists t token entry low high declared inside reads widens)
+        by None is = mends_none
+
+    second_mends : (section : Section) (entry : Entry) (start : Code) → InEntry (one start) seen lists → Mends (second_mended section lists entry start piece)
+    second_mends codespace_range entry start inside = high_mends entry start inside
+    second_mends (cids kind extent) entry start inside = mends_none
+    second_mends bf_range entry start inside = mends_none
+    second_mends bf_char entry start inside = text_mends entry start start (λ t token empty. empty_stands lists t token entry start inside empty)
+
+    third_mends : (section : Section) (entry : Entry) (start end : Code) → InEntry (two start end) seen lists → Mends (third_mended section lists entry start end piece)
+    third_mends codespace_range entry start end inside = mends_none
+    third_mends (cids kind extent) entry start end inside = mends_none
+    third_mends bf_range entry start end inside = text_mends entry start end (λ t token empty. empties_stand lists t token entry start end inside empty)
+    third_mends bf_char entry start end inside = mends_none
+
+    all_mend : (entry : Entry) → InEntry entry.parts seen lists → Mends (mend lists entry piece)
+    all_mend entry inside = by entry.parts refl inside
+      where
+        by : (parts : Parts) → entry.parts ≡ parts → InEntry parts seen lists → Mends (mend lists entry piece)
+        by none is has = rw (is, mend) mends_none
+        by (one start) is has = rw (is, mend) (second_mends entry.section entry start has)
+        by (two start end) is has = rw (is, mend) (third_mends entry.section entry start end has)
+
+  passed_keeps : (old : Salvaged) (entry : Entry) → InEntry entry.parts seen old.said.lists → Keeps next (passed_over old entry piece)
+  passed_keeps old entry inside =
+      let passes = entry_passed old (rest_of entry) (passed_on (entry_said inside)) in
+      by_class_is (Keeps next) (class_of piece) (λ _. passes) (λ is. kept (lone_entry entry.parts old.said.lists inside is)) (λ _. passes) (λ _. passes) (λ _. passes)
+
+  mended_keeps : (old : Salvaged) (entry : Entry) (mended : Mended) → InEntry entry.parts seen old.said.lists → Mends mended → Keeps next (elim mended [ Some p ↦ (p.0, having_lists old p.1) | None ↦ passed_over old entry piece ])
+  mended_keeps old entry (Some p) inside mends_it = kept (mends_it.gives p refl)
+  mended_keeps old entry None inside mends_it = passed_keeps old entry inside
+
+  fault_keeps : (old : Salvaged) (entry : Entry) (fault : Stop) → InEntry entry.parts seen old.said.lists → Keeps next (entry_fault old entry piece fault)
+  fault_keeps old entry fault inside = mended_keeps (with_fault old fault) entry (mend old.said.lists entry piece) inside (all_mend old.said.lists entry inside)
+
   taken_keeps : (old : Salvaged) (entry : Entry) (t : Token) (filled : Filled) → InEntry entry.parts seen old.said.lists → Fills filled → Keeps next (taken old entry piece t filled)
   taken_keeps old entry t (Ok p) inside filled_so = kept (filled_so.gives p refl)
   taken_keeps old entry t (Err reason) inside filled_so = fault_keeps old entry _ inside
@@ -445,11 +543,31 @@ module _ (seen next : List Piece) (piece : Piece) (next_is : next ≡ seen ++ pi
       let before = pass_all inside.said (inside.opening ++ (inside.others ++ piece ∷ [])) in
       subst (λ l. Said next l) (sym (lost_lists old inside)) (subst (λ ps. Said ps inside.earlier) (sym (next_in_list inside)) before)
 
+  short_keeps : (old : Salvaged) (list : Texts) → InList list seen old.said.lists → Said next (short_list old list).said.lists
+  short_keeps old list inside = by_bool {B = Salvaged} (λ s. Said next s.said.lists) (passed_on (list_said inside)) (lost old list inside) (is_nominal list)
+
+  -- a part that is no text, or the empty one
+  part_fills : (old : Salvaged) (list : Texts) → InList list seen old.said.lists → nat_le list.next list.last ≡ true → text_in piece ≡ None → class_of piece ≡ part → Keeps next (list_after list piece (list.next + 1), adding_empty old list.next piece)
+  part_fills old list inside left not is_part = by (empty_text_in piece) refl
+    where
+      without : Keeps next (list_after list piece (list.next + 1), old)
+      without = kept {s = (list_after list piece (list.next + 1), old)} (fills_place list old.said.lists inside left inside.texts old.said.lists (other_part inside.texts_are piece is_part not) inside.lists_are)
+
+      by : (found : Option (List ℕ)) → empty_text_in piece ≡ found → Keeps next (list_after list piece (list.next + 1), elim found [ Some units ↦ having_lists old (adding old.said.lists (text_of list.next list.next units)) | None ↦ old ])
+      by (Some units) is =
+          let (t, token, reads) = token_read piece (λ t. option_and_then empty_text_of (value_in t)) units is in
+          let (empty, no_units) = empty_found t units reads in
+          let more = text_of (big_endian inside.first + inside.n) (big_endian inside.first + inside.n) [] in
+          let new = adding old.said.lists (text_of list.next list.next units) in
+          let new_is : new ≡ adding old.said.lists more = ap (λ k. adding old.said.lists (text_of k k units)) inside.next_is ∙ ap (λ us. adding old.said.lists (text_of (big_endian inside.first + inside.n) (big_endian inside.first + inside.n) us)) no_units in
+          kept {s = (list_after list piece (list.next + 1), having_lists old new)} (fills_place list old.said.lists inside left (inside.texts ++ more) new (standing.empty_text inside.texts_are piece t token empty) (added_more inside.earlier old.said.lists new inside.texts more inside.lists_are new_is))
+      by None is = without
+
   no_text_keeps : (old : Salvaged) (list : Texts) → InList list seen old.said.lists → nat_le list.next list.last ≡ true → text_in piece ≡ None → Keeps next (salvage.no_text old list piece)
   no_text_keeps old list inside left not =
       by_class_is (Keeps next) (class_of piece) (λ is. item_keeps (losing old list) (lost old list inside)) (λ is. kept (stays list old.said.lists inside (inl is))) (λ is. kept (stays list old.said.lists inside (inr is)))
-      (λ is. kept (entry_at (rest_of_list list) (losing old list).said.lists (lost old list inside)))
-      (λ is. kept (fills_place list old.said.lists inside left inside.texts old.said.lists (other_part inside.texts_are piece is not) inside.lists_are))
+      (λ is. kept (entry_at (rest_of_list list) (short_list old list).said.lists (short_keeps old list inside)))
+      (λ is. part_fills old list inside left not is)
 
   text_keeps : (old : Salvaged) (list : Texts) → InList list seen old.said.lists → nat_le list.next list.last ≡ true → Keeps next (take_text old list piece)
   text_keeps old list inside left = by_option_is (Keeps next) (text_in piece) some (no_text_keeps (with_fault old (fault_of TextExpected piece)) list inside left)

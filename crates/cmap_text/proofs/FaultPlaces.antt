@@ -11,7 +11,7 @@ use Rattle.cmap_values.specs.declared.fault.Reason.TheVariants.{BracketExpected,
 use Rattle.cmap_values.specs.declared.fault.Stop.{Stop}
 use Rattle.cmap_text.specs.TextFiles.{Section, bf_range, use_word}
 use Rattle.cmap_text.specs.TextReading.{is_executable, key_in, opened_by, with_other}
-use Rattle.cmap_text.specs.Salvage.{Entry, Filled, Rest, Salvaged, State, Texts, at_fault, begin_item, class_of, end_list, entry_fault, fault_of, fill, finished, in_brackets, in_entry, in_line, in_list, is_closer, item, lacks_bracket, losing, new_entry, no_parts, no_text, nothing_salvaged, own_fault, pass_in_entry, pass_in_line, pass_in_list, past_texts, rest_of, salvaged, saying, take_after_texts, take_all, take_in_entry, take_in_list, take_item, take_part, take_piece, take_text, take_use, take_value, taken, text_in, value, with_fault, with_piece}
+use Rattle.cmap_text.specs.Salvage.{Entry, Filled, Rest, Salvaged, State, Texts, at_fault, begin_item, class_of, empty_text_in, end_list, entry_fault, fault_of, fill, finished, in_brackets, in_entry, in_line, in_list, is_closer, is_nominal, item, lacks_bracket, losing, mend, new_entry, no_parts, no_text, nothing_salvaged, own_fault, pass_in_entry, pass_in_line, pass_in_list, past_texts, rest_of, salvaged, saying, take_after_texts, take_all, take_in_entry, take_in_list, take_item, take_part, take_piece, take_text, take_use, take_value, taken, text_in, value, with_fault, with_piece}
 use Rattle.cmap_text.proofs.FaultsAdded.{by_bool, by_class, by_option}
 
 module _ (P : List Stop → Type 0) (at : ℕ) (add : (fs : List Stop) (fault : Stop) → fault.offset ≡ at → P fs → P (fs ++ fault ∷ [])) where
@@ -66,7 +66,7 @@ module _ (P : List Stop → Type 0) (at : ℕ) (add : (fs : List Stop) (fault : 
   fault_keeps old entry piece fault here there holds =
       let with_it = add old.faults fault there holds in
       let passed = entry_passed (with_fault old fault) (rest_of entry) piece here with_it in
-      by_class Keeps passed (kept with_it) passed passed passed (class_of piece)
+      by_option Keeps (λ p. kept with_it) (by_class Keeps passed (kept with_it) passed passed passed (class_of piece)) (mend old.said.lists entry piece)
 
   taken_keeps : (old : Salvaged) (entry : Entry) (piece : Piece) (t : Token) (filled : Filled) → place piece ≡ at → piece.end ≡ at → P old.faults → Keeps (taken old entry piece t filled)
   taken_keeps old entry piece t (Ok p) here ends holds = kept holds
@@ -86,7 +86,9 @@ module _ (P : List Stop → Type 0) (at : ℕ) (add : (fs : List Stop) (fault : 
   line_passed old section piece here holds = by_bool Keeps (entry_keeps old (new_entry section) piece here holds) (by_class Keeps (item_keeps old piece here holds) (kept holds) (kept holds) (kept holds) (kept holds) (class_of piece)) piece.begins_line
 
   no_text_keeps : (old : Salvaged) (list : Texts) (piece : Piece) → place piece ≡ at → P old.faults → Keeps (no_text old list piece)
-  no_text_keeps old list piece here holds = by_class Keeps (item_keeps (losing old list) piece here holds) (kept holds) (kept holds) (kept holds) (kept holds) (class_of piece)
+  no_text_keeps old list piece here holds =
+      let Holds : Salvaged → Type 0 = λ s. P s.faults in
+      by_class Keeps (item_keeps (losing old list) piece here holds) (kept holds) (kept holds) (kept (by_bool Holds holds holds (is_nominal list))) (kept (by_option Holds (λ units. holds) holds (empty_text_in piece))) (class_of piece)
 
   text_keeps : (old : Salvaged) (list : Texts) (piece : Piece) → place piece ≡ at → P old.faults → Keeps (take_text old list piece)
   text_keeps old list piece here holds = by_option Keeps (λ units. kept holds) (no_text_keeps (with_fault old (fault_of TextExpected piece)) list piece here (add old.faults _ (of_piece TextExpected piece here) holds)) (text_in piece)

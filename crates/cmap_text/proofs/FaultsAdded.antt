@@ -7,7 +7,7 @@ use Rattle.cmap_values.specs.declared.fault.Reason.TheVariants.{BracketExpected}
 use Rattle.cmap_values.specs.declared.fault.Stop.{Stop}
 use Rattle.cmap_text.specs.TextFiles.{Section, bf_range, use_word}
 use Rattle.cmap_text.specs.TextReading.{is_executable, key_in, opened_by, with_other}
-use Rattle.cmap_text.specs.Salvage.{Class, Entry, Rest, Salvaged, State, Texts, Filled, alone, at_fault, begin_item, class_of, close_bracket, end_list, entry_fault, fault_of, fill, finished, in_brackets, in_entry, in_line, in_list, is_closer, item, known, lacks_bracket, losing, new_entry, no_parts, no_text, open_bracket, own_fault, part, pass_in_entry, pass_in_line, pass_in_list, past_texts, rest_of, saying, take_after_texts, take_all, take_in_entry, take_in_list, take_item, take_part, take_piece, take_text, take_use, take_value, taken, text_in, value, with_fault, with_piece}
+use Rattle.cmap_text.specs.Salvage.{Class, Entry, Rest, Salvaged, State, Texts, Filled, alone, at_fault, begin_item, class_of, close_bracket, empty_text_in, end_list, entry_fault, fault_of, fill, finished, in_brackets, in_entry, in_line, in_list, is_closer, is_nominal, item, known, lacks_bracket, losing, mend, new_entry, no_parts, no_text, open_bracket, own_fault, part, pass_in_entry, pass_in_line, pass_in_list, passed_over, past_texts, rest_of, saying, take_after_texts, take_all, take_in_entry, take_in_list, take_item, take_part, take_piece, take_text, take_use, take_value, taken, text_in, value, with_fault, with_piece}
 
 -- ---- some more faults
 pub record Adds (old new : Salvaged) : Type 0 where
@@ -44,7 +44,7 @@ by_class P a b c d e open_bracket = c
 by_class P a b c d e close_bracket = d
 by_class P a b c d e part = e
 
-pub by_option : {A : Type 0} (P : State × Salvaged → Type 0) {f : A → State × Salvaged} {x : State × Salvaged} → ((a : A) → P (f a)) → P x → (o : Option A) → P (elim o [ Some a ↦ f a | None ↦ x ])
+pub by_option : {A B : Type 0} (P : B → Type 0) {f : A → B} {x : B} → ((a : A) → P (f a)) → P x → (o : Option A) → P (elim o [ Some a ↦ f a | None ↦ x ])
 by_option P some none (Some a) = some a
 by_option P some none None = none
 
@@ -52,7 +52,7 @@ by_result : {A E : Type 0} (P : State × Salvaged → Type 0) {f : A → State �
 by_result P ok err (Ok a) = ok a
 by_result P ok err (Err e) = err e
 
-pub by_bool : (P : State × Salvaged → Type 0) {a b : State × Salvaged} → P a → P b → (c : Bool) → P (if c then a else b)
+pub by_bool : {B : Type 0} (P : B → Type 0) {a b : B} → P a → P b → (c : Bool) → P (if c then a else b)
 by_bool P a b true = a
 by_bool P a b false = b
 
@@ -86,12 +86,14 @@ entry_passed old rest piece = by_class (AddsTo old) (item_adds old piece) (none 
 list_passed : (old : Salvaged) (rest : Rest) (piece : Piece) → AddsTo old (pass_in_list old rest piece)
 list_passed old rest piece = by_class (AddsTo old) (item_adds old piece) (none refl) (none refl) (none refl) (none refl) (class_of piece)
 
+passed_adds : (old : Salvaged) (entry : Entry) (piece : Piece) → AddsTo old (passed_over old entry piece)
+passed_adds old entry piece =
+    let passed = entry_passed old (rest_of entry) piece in
+    by_class (AddsTo old) passed (none refl) passed passed passed (class_of piece)
+
 -- first this fault
 pub fault_first : (old : Salvaged) (entry : Entry) (piece : Piece) (fault : Stop) → AddsTo (with_fault old fault) (entry_fault old entry piece fault)
-fault_first old entry piece fault =
-    let P = AddsTo (with_fault old fault) in
-    let passed = entry_passed (with_fault old fault) (rest_of entry) piece in
-    by_class P passed (none refl) passed passed passed (class_of piece)
+fault_first old entry piece fault = by_option (AddsTo (with_fault old fault)) (λ p. none refl) (passed_adds (with_fault old fault) entry piece) (mend old.said.lists entry piece)
 
 taken_adds : (old : Salvaged) (entry : Entry) (piece : Piece) (t : Token) (filled : Filled) → AddsTo old (taken old entry piece t filled)
 taken_adds old entry piece t (Ok p) = none refl
@@ -107,7 +109,7 @@ line_passed : (old : Salvaged) (section : Section) (piece : Piece) → AddsTo ol
 line_passed old section piece = by_bool (AddsTo old) (entry_adds old (new_entry section) piece) (by_class (AddsTo old) (item_adds old piece) (none refl) (none refl) (none refl) (none refl) (class_of piece)) piece.begins_line
 
 pub no_text_adds : (old : Salvaged) (list : Texts) (piece : Piece) → AddsTo old (no_text old list piece)
-no_text_adds old list piece = by_class (AddsTo old) (after (adds_none refl) (item_adds (losing old list) piece)) (none refl) (none refl) (none refl) (none refl) (class_of piece)
+no_text_adds old list piece = by_class (AddsTo old) (after (adds_none refl) (item_adds (losing old list) piece)) (none refl) (none refl) (to (by_bool (Adds old) (adds_none refl) (adds_none refl) (is_nominal list))) (to (by_option (Adds old) (λ units. adds_none refl) (adds_none refl) (empty_text_in piece))) (class_of piece)
 
 text_adds : (old : Salvaged) (list : Texts) (piece : Piece) → AddsTo old (take_text old list piece)
 text_adds old list piece = by_option (AddsTo old) (λ units. none refl) (after (adds_fault old _) (no_text_adds _ list piece)) (text_in piece)

@@ -1,6 +1,6 @@
 -- What is declared before a piece is a front of what is declared at the end.
 use Rattle.std.proofs.Common.{◌≡◌, ◌∙◌, ℕ, zero, suc, ◌+◌, ◌-◌, ◌≤◌, Bool, true, false, List, [], ◌∷◌, ◌++◌, length, take, ap, refl, subst, sym, arith, append_assoc, append-nil, length-append}
-use Rattle.std.specs.Prelude.{◌&&◌, nat_le, codes, Option, Some, None, Result, Ok, Err}
+use Rattle.std.specs.Prelude.{◌&&◌, nat_le, codes, Option, Some, None, option_and_then, option_map, Result, Ok, Err}
 use Rattle.cmap_tokens.specs.Pieces.{Piece, Wrong}
 use Rattle.cmap_tokens.specs.Tokens.{Token}
 use Rattle.cmap_values.proofs.ListsMade.{append_lists-assoc, append_lists-none}
@@ -11,7 +11,7 @@ use Rattle.cmap_values.specs.declared.fault.Stop.{Stop}
 use Rattle.cmap_values.specs.declared.fault.Reason.TheVariants.{BracketExpected, TextExpected, UnequalLengths}
 use Rattle.cmap_text.specs.TextFiles.{Section, bf_char, bf_range, cids, codespace_range, declares_cid, range, single, use_word}
 use Rattle.cmap_text.specs.TextReading.{Code, adding, cid_in, code_in, codespace, destination_in, filed, is_executable, key_in, opened_by, text_of, with_other}
-use Rattle.cmap_text.specs.Salvage.{BeginWithLists, Class, Entry, Filled, Parts, Rest, Salvaged, State, Texts, after_entry, after_malformed, after_part, alone, at_fault, begin_item, class_of, close_bracket, end_list, entry_fault, fault_of, fill, fill_texts, finished, having_lists, if_cid, if_code, if_text, in_brackets, in_entry, in_line, in_list, is_closer, item, known, lacks_bracket, list_after, losing, new_entry, no_parts, no_text, none, one, open_bracket, own_fault, part, pass_in_entry, pass_in_line, pass_in_list, past_texts, rest_of, saying, take_after_texts, take_all, take_in_entry, take_in_list, take_item, take_part, take_piece, take_text, take_use, take_value, taken, text_in, two, value, with_fault, with_piece}
+use Rattle.cmap_text.specs.Salvage.{BeginWithLists, Class, Entry, Filled, Mended, Parts, Rest, Salvaged, State, Texts, after_entry, after_malformed, after_part, alone, at_fault, begin_item, class_of, close_bracket, empty_text_in, end_list, entry_fault, fault_of, fill, fill_texts, finished, having_lists, if_cid, if_code, if_text, in_brackets, in_entry, in_line, in_list, is_closer, is_nominal, item, known, lacks_bracket, list_after, losing, mend, new_entry, no_parts, no_text, none, one, open_bracket, own_fault, part, pass_in_entry, pass_in_line, pass_in_list, passed_over, past_texts, rest_of, saying, take_after_texts, take_all, take_in_entry, take_in_list, take_item, take_part, take_piece, take_text, take_use, take_value, taken, text_in, two, value, with_fault, with_piece}
 use Rattle.cmap_text.specs.Salvage as salvage
 use Rattle.cmap_text.proofs.FaultsAdded.{by_bool, by_class, by_option}
 
@@ -110,11 +110,6 @@ module _ (front : Lists) (names : List (List ℕ)) where
   list_passed : (old : Salvaged) (rest : Rest) (piece : Piece) → Has old → Keeps (pass_in_list old rest piece)
   list_passed old rest piece has = by_class Keeps (item_keeps old piece has) (kept has tt) (kept has tt) (kept has (entry_cuts rest)) (kept has tt) (class_of piece)
 
-  fault_keeps : (old : Salvaged) (entry : Entry) (piece : Piece) (fault : Stop) → Has old → Keeps (entry_fault old entry piece fault)
-  fault_keeps old entry piece fault has =
-      let passed = entry_passed (with_fault old fault) (rest_of entry) piece has in
-      by_class Keeps passed (kept has tt) passed passed passed (class_of piece)
-
   -- ---- a place that is filled
   module _ (lists : Lists) (uses : List (List ℕ)) (has : Holds lists uses) where
     record Fills (filled : Filled) : Type 0 where
@@ -185,6 +180,49 @@ module _ (front : Lists) (names : List (List ℕ)) where
         by (one start) is = rw (is, fill) (second_fills entry.section entry start t)
         by (two start end) is = rw (is, fill) (third_fills entry.section entry start end t)
 
+    -- ---- a part at fault that fills its place
+    record Mends (mended : Mended) : Type 0 where
+      pub gives : (p : State × Lists) → mended ≡ Some p → Holds p.1 uses × Cuts p.0
+
+    mended_by : {A : Type 0} (entry : Entry) (declares : A → List Declaration) (found : Option A) → Mends (option_map (λ x. (in_entry (new_entry entry.section), adding lists (declares x))) found)
+    mended_by entry declares (Some x) = record { gives = λ p is. let same : ◌≡◌ {A = State × Lists} (in_entry (new_entry entry.section), adding lists (declares x)) p = cc in subst (λ q. Holds q.1 uses × Cuts q.0) same (more_has lists uses (declares x) has, tt) }
+    mended_by entry declares None = record { gives = λ p is. absurd (cc) }
+
+    mends_none : Mends None
+    mends_none = record { gives = λ p is. absurd (cc) }
+
+    second_mends : (section : Section) (entry : Entry) (start : Code) (piece : Piece) → Mends (salvage.second_mended section lists entry start piece)
+    second_mends codespace_range entry start piece = mended_by entry (λ declared. declared) (option_and_then (salvage.widened start) (salvage.code_of_piece piece))
+    second_mends (cids kind extent) entry start piece = mends_none
+    second_mends bf_range entry start piece = mends_none
+    second_mends bf_char entry start piece = mended_by entry (text_of start.number start.number) (empty_text_in piece)
+
+    third_mends : (section : Section) (entry : Entry) (start end : Code) (piece : Piece) → Mends (salvage.third_mended section lists entry start end piece)
+    third_mends codespace_range entry start end piece = mends_none
+    third_mends (cids kind extent) entry start end piece = mends_none
+    third_mends bf_range entry start end piece = mended_by entry (text_of start.number end.number) (empty_text_in piece)
+    third_mends bf_char entry start end piece = mends_none
+
+    all_mend : (entry : Entry) (piece : Piece) → Mends (mend lists entry piece)
+    all_mend entry piece = by entry.parts refl
+      where
+        by : (parts : Parts) → entry.parts ≡ parts → Mends (mend lists entry piece)
+        by none is = rw (is, mend) mends_none
+        by (one start) is = rw (is, mend) (second_mends entry.section entry start piece)
+        by (two start end) is = rw (is, mend) (third_mends entry.section entry start end piece)
+
+  passed_keeps : (old : Salvaged) (entry : Entry) (piece : Piece) → Has old → Keeps (passed_over old entry piece)
+  passed_keeps old entry piece has =
+      let passed = entry_passed old (rest_of entry) piece has in
+      by_class Keeps passed (kept has tt) passed passed passed (class_of piece)
+
+  mended_keeps : (old : Salvaged) (entry : Entry) (piece : Piece) (mended : Mended) → (has : Has old) → Mends old.said.lists old.said.uses has mended → Keeps (elim mended [ Some p ↦ (p.0, having_lists old p.1) | None ↦ passed_over old entry piece ])
+  mended_keeps old entry piece (Some p) has mends_it = let (holds, cuts) = mends_it.gives p refl in kept holds cuts
+  mended_keeps old entry piece None has mends_it = passed_keeps old entry piece has
+
+  fault_keeps : (old : Salvaged) (entry : Entry) (piece : Piece) (fault : Stop) → Has old → Keeps (entry_fault old entry piece fault)
+  fault_keeps old entry piece fault has = mended_keeps (with_fault old fault) entry piece (mend old.said.lists entry piece) has (all_mend old.said.lists old.said.uses has entry piece)
+
   taken_keeps : (old : Salvaged) (entry : Entry) (piece : Piece) (t : Token) (filled : Filled) → (has : Has old) → Fills old.said.lists old.said.uses has filled → Keeps (taken old entry piece t filled)
   taken_keeps old entry piece t (Ok p) has fills_it = let (holds, cuts) = fills_it.gives p refl in kept holds cuts
   taken_keeps old entry piece t (Err reason) has fills_it = fault_keeps old entry piece _ has
@@ -205,7 +243,9 @@ module _ (front : Lists) (names : List (List ℕ)) where
   no_text_keeps : (old : Salvaged) (list : Texts) (piece : Piece) → length front.bfs ≤ list.kept → Has old → Keeps (no_text old list piece)
   no_text_keeps old list piece long has =
       let lost = lose_has old list long has in
-      by_class Keeps (item_keeps (losing old list) piece lost) (kept has long) (kept has long) (kept lost (entry_cuts (salvage.rest_of_list list))) (kept has long) (class_of piece)
+      let short : Has (salvage.short_list old list) = by_bool Has has lost (is_nominal list) in
+      let with_empty : Has (salvage.adding_empty old list.next piece) = by_option Has (λ units. more_has old.said.lists old.said.uses (text_of list.next list.next units) has) has (empty_text_in piece) in
+      by_class Keeps (item_keeps (losing old list) piece lost) (kept has long) (kept has long) (kept short (entry_cuts (salvage.rest_of_list list))) (kept with_empty long) (class_of piece)
 
   text_keeps : (old : Salvaged) (list : Texts) (piece : Piece) → length front.bfs ≤ list.kept → Has old → Keeps (take_text old list piece)
   text_keeps old list piece long has = by_option Keeps (λ units. kept {s = (list_after list piece (list.next + 1), having_lists old (adding old.said.lists (text_of list.next list.next units)))} (more_has old.said.lists old.said.uses (text_of list.next list.next units) has) long) (no_text_keeps (with_fault old (fault_of TextExpected piece)) list piece long has) (text_in piece)

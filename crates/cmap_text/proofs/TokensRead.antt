@@ -1,15 +1,17 @@
 -- What options tell of what they are made of, and what single tokens are read as.
-use Rattle.std.proofs.Common.{◌≡◌, ℕ, ◌≤◌, ◌<◌, ◌^◌, ◌&&◌, Bool, true, false, refl, sym, ap, ◌∙◌, List, length, arith}
-use Rattle.std.proofs.lemmas.Bool.{and_parts, le-leb, leb-true, lt-ltb, ltb-true}
+use Rattle.std.proofs.Common.{◌≡◌, ℕ, ◌≤◌, ◌<◌, ◌^◌, ◌&&◌, Bool, true, false, refl, subst, sym, ap, ◌∙◌, List, [], ◌∷◌, length, arith}
+use Rattle.std.proofs.lemmas.Bool.{and_parts, eqb-true, le-leb, leb-true, lt-ltb, ltb-true}
 use Rattle.std.proofs.lemmas.Option.{none-some, same_Some}
 use Rattle.std.proofs.lemmas.Slice.Eq.{bytes_eq-Decides}
-use Rattle.std.specs.Prelude.{pos, nat_le, nat_lt, Option, Some, None, option_map, option_and_then, if◌then◌else◌}
+use Rattle.std.specs.Prelude.{pos, ◌==◌, nat_le, nat_lt, Option, Some, None, option_map, option_and_then, if◌then◌else◌}
 use Rattle.cmap_values.specs.BigEndian.{big_endian}
 use Rattle.cmap_tokens.specs.Numbers.{Number}
 use Rattle.cmap_tokens.specs.Strings.{IsValue, WritesTwoBytes}
 use Rattle.cmap_tokens.proofs.StringValues.{IsValue-read, IsValue-from}
 use Rattle.cmap_tokens.specs.Texts.{units_of}
 use Rattle.cmap_tokens.specs.Tokens.{Token}
+use Rattle.cmap_text.specs.Salvage.{empty_text_of}
+use Rattle.cmap_text.specs.Standing.{IsEmptyString}
 use Rattle.cmap_text.specs.TextFiles.{IsCode, IsCid, IsDestination}
 use Rattle.cmap_text.specs.TextReading.{Code, code_of, code_in, cid_in, destination_of, destination_in, is_executable, value_in}
 
@@ -87,3 +89,14 @@ destination_found t units is =
     let (piece, bytes, string, value, gives) = found_value destination_of t units is in
     let (filled, same) = tested (nat_lt 0 (length bytes)) (units_of bytes) units gives in
     (piece, bytes, string, value, ltb-true 0 (length bytes) filled, sym same)
+
+-- an empty string
+pub empty_found : (t : Token) (units : List ℕ) → option_and_then empty_text_of (value_in t) ≡ Some units → IsEmptyString t × (units ≡ [])
+empty_found t units is =
+    let (raw, bytes, string, value, gives) = found_value empty_text_of t units is in
+    let (empty, same) = tested (length bytes == 0) [] units gives in
+    ((raw, string, subst (IsValue raw) (no_bytes bytes (eqb-true (length bytes) 0 empty)) value), sym same)
+  where
+    no_bytes : (bytes : List ℕ) → length bytes ≡ 0 → bytes ≡ []
+    no_bytes [] none = refl
+    no_bytes (b ∷ bytes) none = absurd (omega (arith, none))

@@ -222,7 +222,7 @@ module _ (len : ℕ) where
   -- a text comes, in a list that has places
   module _ (list : Texts) (old : Salvaged) (none : old.faults ≡ []) (open_places : nat_le list.next list.last ≡ true) where
     abbrev text_ends : List ℕ → Bool → State × Salvaged
-    text_ends units one_line = (in_list (record { next = list.next + 1; last = list.last; kept = list.kept; begins_line = list.begins_line; one_line = one_line }), having_lists old (adding old.said.lists (text_of list.next list.next units)))
+    text_ends units one_line = (in_list (record { first = list.first; next = list.next + 1; last = list.last; kept = list.kept; begins_line = list.begins_line; one_line = one_line }), having_lists old (adding old.said.lists (text_of list.next list.next units)))
 
     in_text : (piece : Piece) → take_in_list old list piece ≡ take_text old list piece
     in_text piece = cond-true _ _ _ open_places
@@ -308,7 +308,7 @@ module _ (len : ℕ) where
   texts_from zero list old none is left pieces cut = close_sim list old none (lt-leb list.next list.last (omega (arith, is))) left pieces cut
   texts_from (suc count) list old none is left pieces cut =
       sim_then (λ units. run (list_in count (list.next + 1) (adding old.said.lists (text_of list.next list.next units)))) (run next_destination left) (in_list list, old) pieces (text_ends list old none (le-leb list.next list.last (omega (arith, is)))) _ (text_sim list old none (le-leb list.next list.last (omega (arith, is))) left pieces cut) (
-      λ units l b rest found cut_rest. texts_from count (record { next = list.next + 1; last = list.last; kept = list.kept; begins_line = list.begins_line; one_line = b }) (having_lists old (adding old.said.lists (text_of list.next list.next units))) none (omega (arith, is)) l rest cut_rest
+      λ units l b rest found cut_rest. texts_from count (record { first = list.first; next = list.next + 1; last = list.last; kept = list.kept; begins_line = list.begins_line; one_line = b }) (having_lists old (adding old.said.lists (text_of list.next list.next units))) none (omega (arith, is)) l rest cut_rest
       )
 
   -- ---- what follows the first code

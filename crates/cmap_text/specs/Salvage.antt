@@ -1,5 +1,5 @@
 -- What a text says apart from its faults, piece by piece.
-use Rattle.std.specs.Prelude.{◌≡◌, ℕ, ◌+◌, ◌-◌, ◌&&◌, ◌||◌, not, nat_le, Bool, true, false, List, [], ◌∷◌, ◌++◌, ◌⊎◌, flat_map, length, take, codes, bytes_eq, map, Option, Some, None, Result, Ok, Err, if◌then◌else◌}
+use Rattle.std.specs.Prelude.{◌≡◌, ℕ, ◌+◌, ◌-◌, ◌&&◌, ◌||◌, ◌==◌, not, nat_le, nat_lt, Bool, true, false, List, [], ◌∷◌, ◌++◌, ◌⊎◌, flat_map, length, take, codes, bytes_eq, map, Option, Some, None, option_and_then, option_map, Result, Ok, Err, if◌then◌else◌}
 use Rattle.std.specs.List.{list_any}
 use Rattle.cmap_tokens.specs.Malformed as malformed
 use Rattle.cmap_tokens.specs.Malformed.{Malformed}
@@ -12,7 +12,7 @@ use Rattle.cmap_values.specs.declared.fault.Reason.{Reason}
 use Rattle.cmap_values.specs.declared.fault.Reason.TheVariants.{BracketExpected, CidExpected, EndWithinSection, TextExpected, UnclosedString, UnequalLengths, UseWithoutName}
 use Rattle.cmap_values.specs.declared.fault.Stop.{Stop}
 use Rattle.cmap_text.specs.TextFiles.{CidKind, IsEntry, IsItem, IsMetadata, Item, Section, declared_by, names_used, bf_char, bf_range, cids, closer, codespace_range, opener, range, single, use_word, declares_cid}
-use Rattle.cmap_text.specs.TextReading.{Code, Said, StopsText, adding, cid_in, code_fault, code_in, codespace, destination_in, filed, is_executable, key_in, nothing_said, opened_by, sections, text_of, with_other, with_value}
+use Rattle.cmap_text.specs.TextReading.{Code, Said, StopsText, adding, cid_in, code_fault, code_in, codespace, destination_in, filed, is_executable, key_in, nothing_said, opened_by, sections, text_of, value_in, with_other, with_value}
 use Rattle.cmap_text.specs.TokenParsers.{malformed_reason}
 
 -- ---- pieces in a section
@@ -94,7 +94,8 @@ pub record Rest : Type 0 where
 
 -- a list of texts
 pub record Texts : Type 0 where
-  -- the code of its next place, and its last one
+  -- its first code, the code of its next place, and its last one
+  pub first : ℕ
   pub next : ℕ
   pub last : ℕ
   -- how many texts there were before it
@@ -217,6 +218,26 @@ pass_in_list old rest piece = elim (class_of piece) [
   | part ↦ (in_brackets rest, old)
 ]
 
+-- ---- a part at fault that shows what was meant
+-- the empty text
+abbrev pub empty_text_of : List ℕ → Option (List ℕ)
+empty_text_of bytes = if length bytes == 0 then Some [] else None
+
+-- that of an empty string
+abbrev pub empty_text_in : Piece → Option (List ℕ)
+empty_text_in piece = elim piece.token [ Ok t ↦ option_and_then empty_text_of (value_in t) | Err w ↦ None ]
+
+abbrev pub code_of_piece : Piece → Option Code
+code_of_piece piece = elim piece.token [ Ok t ↦ code_in t | Err w ↦ None ]
+
+-- the codes from low, with bytes 0 before it, to a longer code
+abbrev pub widened : Code → Code → Option (List Declaration)
+widened low high = if nat_lt low.len high.len then Some (Declaration.codespace (record { len = high.len; low = low.number; high = high.number }) ∷ []) else None
+
+-- it fills its place all the same, and these are the lists then
+abbrev pub Mended : Type 0
+Mended = Option (State × Lists)
+
 -- ---- an entry
 -- the next place is filled, and these are the lists then; or why it isn't
 abbrev pub Filled : Type 0
@@ -246,7 +267,7 @@ abbrev pub fill_text : Lists → Entry → Code → Code → Token → Filled
 fill_text lists entry start end t = if_text t (λ units. Ok (in_entry (new_entry entry.section), adding lists (text_of start.number end.number units)))
 
 abbrev pub list_begun : Lists → Entry → Code → Code → Texts
-list_begun lists entry start end = record { next = start.number; last = end.number; kept = length lists.bfs; begins_line = entry.begins_line; one_line = entry.begins_line }
+list_begun lists entry start end = record { first = start.number; next = start.number; last = end.number; kept = length lists.bfs; begins_line = entry.begins_line; one_line = entry.begins_line }
 
 -- one text, or a list of them
 abbrev pub fill_texts : Lists → Entry → Code → Code → Token → Filled
@@ -278,9 +299,36 @@ fill lists entry t = elim entry.parts [
   | two start end ↦ fill_third lists entry start end t
 ]
 
+-- the place of a text, which an empty string fills
+abbrev pub mend_text : Lists → Entry → Code → Code → Piece → Mended
+mend_text lists entry start end piece = option_map (λ units. (in_entry (new_entry entry.section), adding lists (text_of start.number end.number units))) (empty_text_in piece)
+
+-- the high end of a codespace range
+abbrev pub mend_high : Lists → Entry → Code → Piece → Mended
+mend_high lists entry low piece = option_map (λ declared. (in_entry (new_entry entry.section), adding lists declared)) (option_and_then (widened low) (code_of_piece piece))
+
+abbrev pub second_mended : Section → Lists → Entry → Code → Piece → Mended
+second_mended codespace_range = mend_high
+second_mended bf_char = λ lists entry start. mend_text lists entry start start
+second_mended _ = λ lists entry start piece. None
+
+abbrev pub third_mended : Section → Lists → Entry → Code → Code → Piece → Mended
+third_mended bf_range = mend_text
+third_mended _ = λ lists entry start end piece. None
+
+abbrev pub mend : Lists → Entry → Piece → Mended
+mend lists entry piece = elim entry.parts [
+  | none ↦ None
+  | one start ↦ second_mended entry.section lists entry start piece
+  | two start end ↦ third_mended entry.section lists entry start end piece
+]
+
 -- a piece that is alone leaves the place to be filled
+abbrev pub passed_over : Salvaged → Entry → Piece → State × Salvaged
+passed_over old entry piece = elim (class_of piece) [ alone ↦ (in_entry entry, old) | _ ↦ pass_in_entry old (rest_of entry) piece ]
+
 abbrev pub entry_fault : Salvaged → Entry → Piece → Stop → State × Salvaged
-entry_fault old entry piece fault = elim (class_of piece) [ alone ↦ (in_entry entry, with_fault old fault) | _ ↦ pass_in_entry (with_fault old fault) (rest_of entry) piece ]
+entry_fault old entry piece fault = elim (mend old.said.lists entry piece) [ Some p ↦ (p.0, having_lists (with_fault old fault) p.1) | None ↦ passed_over (with_fault old fault) entry piece ]
 
 abbrev pub taken : Salvaged → Entry → Piece → Token → Filled → State × Salvaged
 taken old entry piece t (Ok p) = (p.0, having_lists old p.1)
@@ -307,7 +355,7 @@ pass_in_line old section piece = if piece.begins_line then take_in_entry old (ne
 
 -- ---- a list of texts
 abbrev pub list_after : Texts → Piece → ℕ → State
-list_after list piece next = in_list (record { next = next; last = list.last; kept = list.kept; begins_line = list.begins_line; one_line = list.one_line && not piece.begins_line })
+list_after list piece next = in_list (record { first = list.first; next = next; last = list.last; kept = list.kept; begins_line = list.begins_line; one_line = list.one_line && not piece.begins_line })
 
 abbrev pub rest_of_list : Texts → Rest
 rest_of_list list = record { section = bf_range; places = 1; begins_line = list.begins_line }
@@ -319,12 +367,24 @@ losing old list = having_lists old (record { cids = old.said.lists.cids; notdefs
 abbrev pub text_in : Piece → Option (List ℕ)
 text_in piece = elim piece.token [ Ok t ↦ destination_in t | Err w ↦ None ]
 
+-- more places are left than are filled
+abbrev pub is_nominal : Texts → Bool
+is_nominal list = nat_lt (list.next - list.first) (list.last + 1 - list.next)
+
+-- a list that is too short is lost, unless its range is nominal
+abbrev pub short_list : Salvaged → Texts → Salvaged
+short_list old list = if is_nominal list then old else losing old list
+
+-- the empty text of a code, where an empty string stands
+abbrev pub adding_empty : Salvaged → ℕ → Piece → Salvaged
+adding_empty old code piece = elim (empty_text_in piece) [ Some units ↦ having_lists old (adding old.said.lists (text_of code code units)) | None ↦ old ]
+
 abbrev pub no_text : Salvaged → Texts → Piece → State × Salvaged
 no_text old list piece = elim (class_of piece) [
-  | part ↦ (list_after list piece (list.next + 1), old)
+  | part ↦ (list_after list piece (list.next + 1), adding_empty old list.next piece)
   | alone ↦ (list_after list piece list.next, old)
   | open_bracket ↦ (list_after list piece list.next, old)
-  | close_bracket ↦ (after_entry (rest_of_list list), losing old list)
+  | close_bracket ↦ (after_entry (rest_of_list list), short_list old list)
   | known ↦ take_item (losing old list) piece
 ]
 

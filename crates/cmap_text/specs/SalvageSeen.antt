@@ -1,12 +1,12 @@
 -- Private aid: what contracts see of a text that is read past its faults.
-use Rattle.std.specs.Prelude.{◌≡◌, List, Option, Some, None, Result, Ok, Err}
+use Rattle.std.specs.Prelude.{◌≡◌, List, MatchOption, Option, Some, None, Result, Ok, Err}
 use Rattle.cmap_values.specs.DeclarationsSeen.{lists_seen}
 use Rattle.cmap_values.specs.Files.{Declaration, Lists}
 use Rattle.cmap_values.specs.Outcomes.{Outcome}
 use Rattle.cmap_values.specs.declared.fault.Fault.{Fault}
 use Rattle.cmap_values.specs.declared.fault.Reason.{Reason}
 use Rattle.cmap_text.specs.Salvage as salvage
-use Rattle.cmap_text.specs.Salvage.{Filled, having_lists}
+use Rattle.cmap_text.specs.Salvage.{Filled, Mended, having_lists}
 use Rattle.cmap_text.specs.TextReading.{adding}
 use Rattle.cmap_text.specs.TextSeen.{code_seen, key_name, said_seen, section_seen}
 use Rattle.cmap_text.specs.declared.salvage.Found.{Found}
@@ -39,7 +39,7 @@ abbrev pub rest_seen : AtFault → salvage.Rest
 rest_seen rest = record { section = section_seen rest.section; places = rest.places; begins_line = rest.begins_line }
 
 abbrev pub texts_seen : TextList → salvage.Texts
-texts_seen list = record { next = list.next; last = list.last; kept = list.kept; begins_line = list.begins_line; one_line = list.is_one_line }
+texts_seen list = record { first = list.first; next = list.next; last = list.last; kept = list.kept; begins_line = list.begins_line; one_line = list.is_one_line }
 
 abbrev pub state_seen : State → salvage.State
 state_seen state.Item = salvage.item
@@ -60,6 +60,11 @@ AddsLists declared old new = found_seen new ≡ having_lists (found_seen old) (a
 -- a token that is read so, or else this is wrong
 abbrev pub ReadsToken : {A B : Type 0} → Option B → (A → B) → Reason → Result A (Fault Reason) → Type 0
 ReadsToken found seen fault = Outcome (λ x. found ≡ Some (seen x)) (λ reason. (found ≡ None) × (reason ≡ fault))
+
+-- a part at fault fills its place so, or nothing changes
+abbrev pub MendsPlace : Mended → Found → Found → Option State → Type 0
+MendsPlace mended old new result = MatchOption result ((mended ≡ None) × (found_seen new ≡ found_seen old))
+    (λ state. (lists : Lists) × (mended ≡ Some (state_seen state, lists)) × (found_seen new ≡ having_lists (found_seen old) lists))
 
 -- a place is filled so, or nothing changes
 abbrev pub FillsPlace : Filled → Found → Found → Result State (Fault Reason) → Type 0

@@ -1,6 +1,7 @@
 -- Where the declarations that are read past faults stand in the pieces of a text.
-use Rattle.std.specs.Prelude.{◌≡◌, ℕ, ◌+◌, ◌-◌, ◌≤◌, ◌⊎◌, false, List, [], ◌∷◌, ◌++◌, codes, Some, None, Ok}
+use Rattle.std.specs.Prelude.{◌≡◌, ℕ, ◌+◌, ◌-◌, ◌<◌, ◌≤◌, ◌⊎◌, false, List, [], ◌∷◌, ◌++◌, codes, length, Some, None, Ok}
 use Rattle.cmap_tokens.specs.Pieces.{Piece, pieces_left}
+use Rattle.cmap_tokens.specs.Strings.{IsValue}
 use Rattle.cmap_tokens.specs.Tokens.{Token}
 use Rattle.cmap_tokens.specs.TokensLeft.{start_of}
 use Rattle.cmap_values.specs.BigEndian.{big_endian}
@@ -15,17 +16,25 @@ pub data AreParts : List Piece → List Token → Type 0 where
   lone_piece : {pieces : List Piece} {tokens : List Token} → AreParts pieces tokens → (piece : Piece) → class_of piece ≡ alone → AreParts (pieces ++ piece ∷ []) tokens
   next_part : {pieces : List Piece} {tokens : List Token} → AreParts pieces tokens → (piece : Piece) (t : Token) → piece.token ≡ Ok t → AreParts (pieces ++ piece ∷ []) (tokens ++ t ∷ [])
 
+-- a string without bytes
+abbrev pub IsEmptyString : Token → Type 0
+IsEmptyString t = (raw : List ℕ) × (t ≡ Token.String raw) × IsValue raw []
+
 -- pieces of a list have texts for so many codes from this one on, or other parts in their place, and declare this
 pub data AreTexts (start : ℕ) : List Piece → ℕ → List Declaration → Type 0 where
   no_text : AreTexts start [] 0 []
   between : {pieces : List Piece} {n : ℕ} {declared : List Declaration} → AreTexts start pieces n declared → (piece : Piece) → (class_of piece ≡ alone) ⊎ (class_of piece ≡ open_bracket) → AreTexts start (pieces ++ piece ∷ []) n declared
   other_part : {pieces : List Piece} {n : ℕ} {declared : List Declaration} → AreTexts start pieces n declared → (piece : Piece) → class_of piece ≡ part → text_in piece ≡ None → AreTexts start (pieces ++ piece ∷ []) (n + 1) declared
   next_text : {pieces : List Piece} {n : ℕ} {declared : List Declaration} → AreTexts start pieces n declared → (piece : Piece) (units : List ℕ) → text_in piece ≡ Some units → AreTexts start (pieces ++ piece ∷ []) (n + 1) (declared ++ text_of (start + n) (start + n) units)
+  empty_text : {pieces : List Piece} {n : ℕ} {declared : List Declaration} → AreTexts start pieces n declared → (piece : Piece) (t : Token) → piece.token ≡ Ok t → IsEmptyString t → AreTexts start (pieces ++ piece ∷ []) (n + 1) (declared ++ text_of (start + n) (start + n) [])
 
--- pieces are an entry that declares this, or the beginning of one with a list
+-- pieces are an entry that declares this, or the beginning of one with a list; or they show what was meant, by an empty string in the place of a text, or by a longer second code of a codespace range, the first with bytes 0 before it
 pub data StandsAs : List Piece → List Declaration → Type 0 where
   an_entry : {pieces : List Piece} {tokens : List Token} {declared : List Declaration} → AreParts pieces tokens → (section : Section) → IsEntry section tokens declared [] → StandsAs pieces declared
   a_list : {opening others : List Piece} {a b : Token} {first last : List ℕ} {n : ℕ} {declared : List Declaration} → AreParts opening (a ∷ b ∷ Token.Name false (codes "[") ∷ []) → IsCode a first → IsCode b last → AreTexts (big_endian first) others n declared → n ≤ big_endian last + 1 - big_endian first → StandsAs (opening ++ others) declared
+  an_empty_text : {pieces : List Piece} {a d : Token} {code : List ℕ} → AreParts pieces (a ∷ d ∷ []) → IsCode a code → IsEmptyString d → StandsAs pieces (text_of (big_endian code) (big_endian code) [])
+  empty_texts : {pieces : List Piece} {a b d : Token} {first last : List ℕ} → AreParts pieces (a ∷ b ∷ d ∷ []) → IsCode a first → IsCode b last → IsEmptyString d → StandsAs pieces (text_of (big_endian first) (big_endian last) [])
+  a_longer_end : {pieces : List Piece} {a b : Token} {low high : List ℕ} → AreParts pieces (a ∷ b ∷ []) → IsCode a low → IsCode b high → length low < length high → StandsAs pieces (Declaration.codespace (record { len = length high; low = big_endian low; high = big_endian high }) ∷ [])
 
 -- what pieces declare, each declaration at an entry of its own, in order
 pub data Stands : List Piece → List Declaration → Type 0 where

@@ -1,6 +1,6 @@
 //! The tokens of a text in order, and what single tokens stand for.
 
-ghost use Rattle.std.specs.Prelude.{◌≡◌, ◌+◌, ◌%◌, ◌++◌, ◌<◌, ◌≤◌, ◌^◌, ℕ, List, [], ◌∷◌, bytes_eq, length, min, pos, Ok, Some, IfOk, MatchOption, option_map};
+ghost use Rattle.std.specs.Prelude.{◌≡◌, ◌+◌, ◌%◌, ◌++◌, ◌<◌, ◌≤◌, ◌^◌, ℕ, List, [], ◌∷◌, bytes_eq, length, min, pos, Ok, Some, IfOk, MatchOption, option_and_then, option_map};
 ghost use Rattle.std.specs.Int.Digits.{number_from_digits};
 ghost use Rattle.std.specs.List.{AllByRecursion, list_any};
 ghost use Rattle.std.specs.Option.{option_copied};
@@ -13,8 +13,9 @@ ghost use Rattle.cmap_tokens.specs.Tokens.{Numeral, String};
 ghost use Rattle.cmap_tokens.specs.TokenSeen.{malformed_seen, string_raw, token_seen};
 ghost use Rattle.cmap_tokens.specs.TokensLeft.{Left, start_of, tokens_of};
 ghost use Rattle.cmap_text.specs.EntriesSeen.{ReadsAs};
+ghost use Rattle.cmap_text.specs.Salvage.{empty_text_of};
 ghost use Rattle.cmap_text.specs.TextFiles.{literal_head, other};
-ghost use Rattle.cmap_text.specs.TextReading.{cid_in, code_fault, code_in, code_of, destination_in, is_executable, next_cid, next_code, next_destination};
+ghost use Rattle.cmap_text.specs.TextReading.{cid_in, code_fault, code_in, code_of, destination_in, is_executable, next_cid, next_code, next_destination, value_in};
 ghost use Rattle.cmap_text.specs.TextSeen.{code_seen};
 ghost use Rattle.cmap_text.specs.TokenParsers.{malformed_reason, next_in, or_wrong, run, token_in};
 
@@ -347,6 +348,24 @@ impl Decoder {
             return Ok(None);
         }
         Ok(Some(units_of_bytes(self.alloc, &self.bytes)?))
+    }
+
+    /// The empty text, if a token is an empty string.
+    pub(crate) fn empty_text(&mut self, token: &Token<'_>) -> Result<Option<Units>, AllocError>
+        ensures { IfOk result (λ found. option_map units_seen found ≡ option_and_then empty_text_of (value_in (token_seen token.now))) }
+    {
+        match token {
+            Token::String(string) => self.empty_string_text(string),
+            _ => Ok(None),
+        }
+    }
+
+    /// The empty text, if a string is empty.
+    fn empty_string_text(&mut self, string: &StringToken<'_>) -> Result<Option<Units>, AllocError>
+        ensures { IfOk result (λ found. option_map units_seen found ≡ option_and_then empty_text_of (value_in (String (string_raw string.now)))) }
+    {
+        string.decode_into(&mut self.bytes)?;
+        Ok(self.bytes.is_empty().then_some(Units::Empty))
     }
 }
 

@@ -1,14 +1,14 @@
 //! Entries of sections, place by place.
 
-ghost use Rattle.std.specs.Prelude.{◌≡◌, List, [], ◌∷◌, None, Some, IfOk, OnOk};
+ghost use Rattle.std.specs.Prelude.{◌≡◌, List, [], ◌∷◌, None, Some, option_map, IfOk, OnOk};
 ghost use Rattle.cmap_tokens.specs.TokenSeen.{piece_seen, token_seen};
-ghost use Rattle.cmap_values.specs.DeclarationsSeen.{lists_seen};
+ghost use Rattle.cmap_values.specs.DeclarationsSeen.{codespace_seen, lists_seen};
 ghost use Rattle.cmap_values.specs.Files.{Declaration};
 ghost use Rattle.cmap_values.specs.Outcomes.{Outcome};
 ghost use Rattle.cmap_values.specs.UnitsSeen.{units_seen};
 ghost use Rattle.cmap_values.specs.declared.fault.Reason.TheVariants.{CidExpected, TextExpected, UnequalLengths};
 ghost use Rattle.cmap_text.specs.Salvage as salvage;
-ghost use Rattle.cmap_text.specs.SalvageSeen.{AddsLists, FillsPlace, ReadsToken, entry_seen, found_seen, state_seen};
+ghost use Rattle.cmap_text.specs.SalvageSeen.{AddsLists, FillsPlace, MendsPlace, ReadsToken, entry_seen, found_seen, state_seen};
 ghost use Rattle.cmap_text.specs.TextFiles.{declares_cid};
 ghost use Rattle.cmap_text.specs.TextReading.{adding, cid_in, code_fault, code_in, codespace, destination_in, filed, text_of};
 ghost use Rattle.cmap_text.specs.TextSeen.{code_seen, kind_seen, section_seen};
@@ -61,7 +61,7 @@ impl<'d> Found<'d> {
         }
     }
 
-    /// Adds the fault of a piece of an entry. One that is alone leaves the place to be filled.
+    /// Adds the fault of a piece of an entry, which may fill its place all the same.
     fn add_entry_fault(
         &mut self,
         piece: &Piece<'d>,
@@ -72,9 +72,74 @@ impl<'d> Found<'d> {
             ≡ salvage.entry_fault (found_seen self.old) (entry_seen entry) (piece_seen piece.now) fault) }
     {
         self.faults.push(fault)?;
+        match self.mend(piece, entry)? {
+            Some(state) => Ok(state),
+            None => self.pass_over(piece, entry),
+        }
+    }
+
+    /// Passes over a piece of an entry. One that is alone leaves the place to be filled.
+    fn pass_over(&mut self, piece: &Piece<'d>, entry: Entry) -> Result<State, AllocError>
+        ensures { IfOk result (λ state. (state_seen state, found_seen self.new)
+            ≡ salvage.passed_over (found_seen self.old) (entry_seen entry) (piece_seen piece.now)) }
+    {
         match class_of(piece) {
             Class::Alone => Ok(State::Entry(entry)),
             _ => self.pass_in_entry(piece, entry.at_fault()),
+        }
+    }
+
+    /// Fills the last place of an entry with a piece at fault that shows what was meant: an empty text,
+    /// or the end of a codespace range that is longer than its first code.
+    fn mend(&mut self, piece: &Piece<'_>, entry: Entry) -> Result<Option<State>, AllocError>
+        ensures { IfOk result (MendsPlace (salvage.mend (lists_seen self.old.said.lists) (entry_seen entry) (piece_seen piece.now))
+            self.old self.new) }
+    {
+        match (entry.section, entry.parts) {
+            (Section::Codespaces, Parts::One(low)) => self.mend_high(piece, entry, low),
+            (Section::BfChar, Parts::One(start)) => self.mend_text(piece, entry, start, start),
+            (Section::BfRange, Parts::Two(start, end)) => self.mend_text(piece, entry, start, end),
+            _ => Ok(None),
+        }
+    }
+
+    /// Fills the place of the high end of a codespace range with a code that is longer than the first.
+    fn mend_high(
+        &mut self,
+        piece: &Piece<'_>,
+        entry: Entry,
+        low: Code,
+    ) -> Result<Option<State>, AllocError>
+        ensures { IfOk result (MendsPlace (salvage.mend_high (lists_seen self.old.said.lists) (entry_seen entry) (code_seen low) (piece_seen piece.now))
+            self.old self.new) }
+    {
+        let Some(high) = self.code_of(piece)? else {
+            return Ok(None);
+        };
+        let Some(space) = widened(low, high) else {
+            return Ok(None);
+        };
+        self.said.lists.add_codespace(space)?;
+        Ok(Some(State::entry(entry.section)))
+    }
+
+    /// Fills the place of a text with an empty string.
+    fn mend_text(
+        &mut self,
+        piece: &Piece<'_>,
+        entry: Entry,
+        start: Code,
+        end: Code,
+    ) -> Result<Option<State>, AllocError>
+        ensures { IfOk result (MendsPlace (salvage.mend_text (lists_seen self.old.said.lists) (entry_seen entry) (code_seen start) (code_seen end) (piece_seen piece.now))
+            self.old self.new) }
+    {
+        match self.empty_text_of(piece)? {
+            Some(units) => {
+                self.add_texts(start.number, end.number, units)?;
+                Ok(Some(State::entry(entry.section)))
+            }
+            None => Ok(None),
         }
     }
 
@@ -229,6 +294,28 @@ impl<'d> Found<'d> {
         }
     }
 
+    /// The code that a piece is.
+    fn code_of(&mut self, piece: &Piece<'_>) -> Result<Option<Code>, AllocError>
+        ensures code { IfOk result (λ found. option_map code_seen found ≡ salvage.code_of_piece (piece_seen piece.now)) }
+        ensures same { found_seen self.new ≡ found_seen self.old }
+    {
+        match &piece.token {
+            Ok(token) => self.decoder.code(token),
+            Err(_) => Ok(None),
+        }
+    }
+
+    /// The empty text, if a piece is an empty string.
+    pub(super) fn empty_text_of(&mut self, piece: &Piece<'_>) -> Result<Option<Units>, AllocError>
+        ensures text { IfOk result (λ found. option_map units_seen found ≡ salvage.empty_text_in (piece_seen piece.now)) }
+        ensures same { found_seen self.new ≡ found_seen self.old }
+    {
+        match &piece.token {
+            Ok(token) => self.decoder.empty_text(token),
+            Err(_) => Ok(None),
+        }
+    }
+
     fn add_codespace(&mut self, low: Code, high: Code) -> Result<(), Fault<Reason>>
         ensures { Outcome (λ done. (declared : List Declaration) × (codespace (code_seen low) (code_seen high) ≡ Some declared)
             × AddsLists declared self.old self.new)
@@ -273,6 +360,21 @@ impl<'d> Found<'d> {
         let range = Range { start, end };
         self.said.lists.add_bf(BfRange { range, units })
     }
+}
+
+/// The range from a code, with bytes 0 before it, to a longer one.
+fn widened(low: Code, high: Code) -> Option<Codespace>
+    ensures { option_map (λ space. Declaration.codespace (codespace_seen space) ∷ []) result
+        ≡ salvage.widened (code_seen low) (code_seen high) }
+{
+    if low.len.count() >= high.len.count() {
+        return None;
+    }
+    Some(Codespace {
+        len: high.len,
+        low: low.number,
+        high: high.number,
+    })
 }
 
 /// Whether a piece closes a section.

@@ -1,6 +1,6 @@
 //! Lists of texts, place by place.
 
-ghost use Rattle.std.specs.Prelude.{◌≡◌, option_map, IfOk};
+ghost use Rattle.std.specs.Prelude.{◌≡◌, option_map, IfOk, OnOk};
 ghost use Rattle.cmap_tokens.specs.TokenSeen.{piece_seen};
 ghost use Rattle.cmap_values.specs.UnitsSeen.{units_seen};
 ghost use Rattle.cmap_text.specs.Salvage as salvage;
@@ -66,16 +66,38 @@ impl<'d> Found<'d> {
             ≡ salvage.no_text (found_seen self.old) (texts_seen list) (piece_seen piece.now)) }
     {
         match class_of(piece) {
-            Class::Part => Ok(list.after_code(code, piece)),
+            Class::Part => {
+                self.add_empty(piece, code)?;
+                Ok(list.after_code(code, piece))
+            }
             Class::Alone | Class::OpenBracket => Ok(list.after_piece(piece)),
             Class::CloseBracket => {
-                self.lose(list);
+                self.end_short(list);
                 Ok(list.at_fault().after_entry())
             }
             Class::Word => {
                 self.lose(list);
                 self.take_item(piece)
             }
+        }
+    }
+
+    /// Adds the empty text of this code, if a piece is an empty string.
+    fn add_empty(&mut self, piece: &Piece<'_>, code: u32) -> Result<(), AllocError>
+        ensures { OnOk result (found_seen self.new ≡ salvage.adding_empty (found_seen self.old) code (piece_seen piece.now)) }
+    {
+        match self.empty_text_of(piece)? {
+            Some(units) => self.add_texts(code, code, units),
+            None => Ok(()),
+        }
+    }
+
+    /// Takes away the texts of a list that is too short, unless its range is nominal.
+    fn end_short(&mut self, list: TextList)
+        ensures { found_seen self.new ≡ salvage.short_list (found_seen self.old) (texts_seen list) }
+    {
+        if !list.is_nominal() {
+            self.lose(list);
         }
     }
 

@@ -188,6 +188,8 @@ impl AtFault {
 /// A list of texts, as far as it is read.
 #[derive(Clone, Copy)]
 pub(super) struct TextList {
+    /// The first code.
+    first: u32,
     /// The code of its next place.
     next: u64,
     /// The last code.
@@ -204,6 +206,7 @@ impl TextList {
     /// The list of the codes from the first of an entry to the second, before its first text.
     pub(super) fn new(start: Code, end: Code, kept: usize, begins_line: bool) -> TextList
         ensures { texts_seen result ≡ record {
+          first = start.number;
           next = start.number;
           last = end.number;
           kept = kept;
@@ -212,6 +215,7 @@ impl TextList {
         } }
     {
         TextList {
+            first: start.number,
             next: u64::from(start.number),
             last: end.number,
             kept,
@@ -251,6 +255,15 @@ impl TextList {
             is_one_line: self.is_one_line && !piece.begins_line,
             ..self
         })
+    }
+
+    /// Whether more places are left than are filled.
+    pub(super) fn is_nominal(&self) -> bool
+        ensures { result ≡ salvage.is_nominal (texts_seen self.now) }
+    {
+        let filled = self.next.saturating_sub(u64::from(self.first));
+        let left = (u64::from(self.last) + 1).saturating_sub(self.next);
+        filled < left
     }
 
     /// Whether its `]` is missing before this piece, which comes after all its texts.

@@ -12,4 +12,4 @@ returns-then-is_executable c =
     let lists = lists_seen c.args.self.now.said.lists in
     let opens : is_executable (codes "[") (token_seen c.args.token.now) ≡ true = sym c.is_executable.ensures ∙ c.if-is_executable.true in
     let count : length lists.bfs ≡ c.len-count.result = length-map c.args.self.now.said.lists.bfs.items bf_entry_seen ∙ sym c.args.self.now.said.lists.bfs.ok.0 ∙ sym c.len-count.ensures in
-    ((lists, rw opens (ap (λ n. let l : Texts = record { next = c.args.start.number; last = c.args.end.number; kept = n; begins_line = c.args.entry.begins_line; one_line = c.args.entry.begins_line } in Ok (in_list l, lists)) count ∙ ap (λ l. Ok (in_list l, lists)) (sym c.new.ensures)), refl), tt)
+    ((lists, rw opens (ap (λ n. let l : Texts = record { first = c.args.start.number; next = c.args.start.number; last = c.args.end.number; kept = n; begins_line = c.args.entry.begins_line; one_line = c.args.entry.begins_line } in Ok (in_list l, lists)) count ∙ ap (λ l. Ok (in_list l, lists)) (sym c.new.ensures)), refl), tt)
