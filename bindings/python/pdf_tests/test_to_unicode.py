@@ -3,8 +3,9 @@
 import unittest
 
 from hayro_cmap import pdf
+from hayro_cmap.pdf import Source
 
-from made import showing
+from made import needs_glyph_list, showing
 
 RANGES = b"1 begincodespacerange <00> <FF> endcodespacerange "
 
@@ -32,6 +33,32 @@ class FiveDigits(unittest.TestCase):
         [fault] = file.font().to_unicode.faults
         self.assertEqual(fault.offset, len(RANGES) + len(b"beginbfchar <01> <20BB7> <02> /x"))
         self.assertEqual(file.text(), "\U00020bb7?")
+
+
+@needs_glyph_list
+class EmptyTexts(unittest.TestCase):
+    """An empty string is a fault, and the empty text: nothing else is asked for the text of the code."""
+
+    def texts(self, entries, string=b"AB", **options):
+        file = showing(string, RANGES + b"beginbfchar %b endbfchar" % entries)
+        return [(it.text, it.source) for it in pdf.characters(file.pdf.pages[0], **options)]
+
+    def test_the_empty_text(self):
+        own, name = Source.TO_UNICODE, Source.GLYPH_NAME
+        self.assertEqual(self.texts(b"<41> <> <42> <0062>"), [("", own), ("b", own)])
+        self.assertEqual(self.texts(b"<41> <> <42> <0062>", lenient=False), [("A", name), ("B", name)])
+
+    def test_the_last_declaration_decides(self):
+        for entries, text in [(b"<41> <> <41> <0061>", "a"), (b"<41> <0061> <41> <>", "")]:
+            self.assertEqual(self.texts(entries, b"A"), [(text, Source.TO_UNICODE)])
+
+    def test_of_a_range(self):
+        file = showing(b"@ABC", RANGES + b"beginbfrange <41> <42> <> <42> <42> <> endbfrange")
+        self.assertEqual([it.text for it in file.characters()], ["@", "", "", "C"])
+
+    def test_all_codes_have_a_text(self):
+        report = pdf.check(showing(b"AB", RANGES + b"beginbfchar <41> <> <42> <> endbfchar").pdf)
+        self.assertEqual((report.with_text, report.refused), (2, 1))
 
 
 class LongTexts(unittest.TestCase):

@@ -1,5 +1,6 @@
 """The fonts of a PDF file, with their CMaps."""
 
+import bisect
 import enum
 import functools
 import re
@@ -52,6 +53,9 @@ LONG_TEXT = re.compile(rb"[0-9A-Fa-f\0\t\n\f\r ]{2048}|\([^<>\[\]]{1024}")
 #: Five digits without others beside them, and a hexadecimal string.
 FIVE_DIGITS = re.compile(rb"(?<![0-9A-Fa-f])[0-9A-Fa-f]{5}(?![0-9A-Fa-f])")
 HEXADECIMAL = re.compile(rb"<([0-9A-Fa-f\0\t\n\f\r ]*)>")
+
+#: The last code that four bytes write.
+LAST_CODE = (1 << 32) - 1
 
 #: How many bytes a code has that is a character.
 UNICODE_BYTES = 2
@@ -360,7 +364,7 @@ class Font:
         if self.is_composite:
             text, source = self._text_of_composite(code, text, lenient)
         else:
-            text, source = self._text_of_simple(code.code, text)
+            text, source = self._text_of_simple(code.code, text, lenient)
         is_left_out = source.is_guess and not guesses
         return Character(self, code, None, Source.NONE) if is_left_out else Character(self, code, text, source)
 
@@ -370,6 +374,8 @@ class Font:
         is_own = self.texts_of_cids is None or to_unicode is not None and to_unicode.text(code.code) is not None
         if text is not None and is_own:
             return text, Source.TO_UNICODE
+        if lenient and self._has_empty_text(code.code):
+            return "", Source.TO_UNICODE
         if lenient and code.byte_len == UNICODE_BYTES and self.has_unicode_codes and is_character(code.code):
             return chr(code.code), Source.UNICODE_CODES
         if text is not None:
@@ -378,12 +384,31 @@ class Font:
             text = self.glyphs_of_cids.text(code.cid)
         return text, Source.NONE if text is None else Source.FONT_PROGRAM
 
-    def _text_of_simple(self, code: int, text: Optional[str]) -> Tuple[Optional[str], Source]:
+    def _text_of_simple(self, code: int, text: Optional[str], lenient: bool) -> Tuple[Optional[str], Source]:
         """The text of a code of a simple font, of which the ToUnicode CMap gives this text."""
         if text is not None:
             return text, Source.TO_UNICODE
+        if lenient and self._has_empty_text(code):
+            return "", Source.TO_UNICODE
         found = ((text_of(code), source) for source, text_of in self._ways)
         return next(((text, source) for text, source in found if text is not None), (None, Source.NONE))
+
+    def _has_empty_text(self, code: int) -> bool:
+        """Whether the ToUnicode CMap declares the empty text for a code of which it has no other text."""
+        index = bisect.bisect_right(self._empty_texts, (code, LAST_CODE)) - 1
+        return index >= 0 and code <= self._empty_texts[index][1]
+
+    @functools.cached_property
+    def _empty_texts(self) -> List[Tuple[int, int]]:
+        """The codes for which the ToUnicode CMap declares the empty text, in rows that lie apart. It is a fault there."""
+        read, found = self.to_unicode, []
+        layers = read.lenient.layers if read.faults and read.lenient is not None else []
+        for first, last in sorted((it.first, it.last) for layer in layers for it in layer.texts if not it.text):
+            if found and first <= found[-1][1]:
+                found[-1] = (found[-1][0], max(last, found[-1][1]))
+            else:
+                found.append((first, last))
+        return found
 
     @functools.cached_property
     def _ways(self) -> List[Tuple[Source, Callable[[int], Optional[str]]]]:
