@@ -327,6 +327,7 @@ mend lists entry piece = elim entry.parts [
 abbrev pub passed_over : Salvaged → Entry → Piece → State × Salvaged
 passed_over old entry piece = elim (class_of piece) [ alone ↦ (in_entry entry, old) | _ ↦ pass_in_entry old (rest_of entry) piece ]
 
+-- a piece at fault, which may fill its place all the same
 abbrev pub entry_fault : Salvaged → Entry → Piece → Stop → State × Salvaged
 entry_fault old entry piece fault = elim (mend old.said.lists entry piece) [ Some p ↦ (p.0, having_lists (with_fault old fault) p.1) | None ↦ passed_over (with_fault old fault) entry piece ]
 
