@@ -1,6 +1,5 @@
 """Many PDF files: one after another, over processes of this machine, or over a cluster of Dask."""
 
-import asyncio
 import contextlib
 import errno
 import functools
@@ -249,6 +248,8 @@ def by_dask(paths: Sequence[str], command: str, options: Dict[str, Any], address
 
 def client_of(address: str):
     """A client of a Dask scheduler. OSError where it can't be reached."""
+    import asyncio
+
     from distributed import Client
 
     try:
