@@ -178,7 +178,8 @@ class Warnings(unittest.TestCase):
 
     def test_of_fonts_with_few_texts(self):
         """One of ten codes is enough."""
-        for string, is_found in [(b"\1" * 10, True), (b"A" + b"\1" * 10, True), (b"A" + b"\1" * 9, False), (b"", False)]:
+        few, enough = [b"\1" * 10, b"A" + b"\1" * 10], [b"A" + b"\1" * 9, b""]
+        for string, is_found in [*((it, True) for it in few), *((it, False) for it in enough)]:
             found = [(it.of, it.name) for it in self.report(GOOD, string).warnings]
             self.assertEqual(found, [("font", "few-texts")] if is_found else [], string)
 
@@ -215,7 +216,8 @@ class Warnings(unittest.TestCase):
         self.assertEqual(found["replacement-character"], (2000, 0x1FFD))
 
     def test_of_the_whole(self):
-        for to_unicode, name in [(b"no CMap", "nothing-declared"), (b"1 beginbfchar <41> <0041> endbfchar", "no-codespace")]:
+        declared = b"1 beginbfchar <41> <0041> endbfchar"
+        for to_unicode, name in [(b"no CMap", "nothing-declared"), (declared, "no-codespace")]:
             font = self.report(to_unicode)
             self.assertIn(("ToUnicode", name, None), [(it.of, it.name, it.first) for it in font.other_warnings])
         self.assertEqual((self.report(GOOD).warnings, self.report(GOOD).other_warnings), ([], []))

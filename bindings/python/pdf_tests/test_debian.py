@@ -16,7 +16,9 @@ from made import needs_glyph_list
 #: How many files, of how many bytes and pages each.
 FILES, BYTES, PAGES = 6, 600_000, 5
 
-FOUND = sorted(path for path in Path("/usr/share/doc").rglob("*.pdf") if path.is_file() and path.stat().st_size < BYTES)[:FILES]
+FOUND = sorted(
+    path for path in Path("/usr/share/doc").rglob("*.pdf") if path.is_file() and path.stat().st_size < BYTES
+)[:FILES]
 
 #: Letters that Poppler writes for the names of ligatures.
 LIGATURES = {"\ufb00": "ff", "\ufb01": "fi", "\ufb02": "fl", "\ufb03": "ffi", "\ufb04": "ffl"}

@@ -37,7 +37,9 @@ class Words(unittest.TestCase):
 
     def test_gaps(self):
         """The second string is 10 further than the first, and the others further than the width of that."""
-        for x, lines in [(10, ["abcd"]), (11, ["abcd"]), (11.5, ["abcd"]), (11.7, ["ab cd"]), (12, ["ab cd"]), (40, ["ab cd"]), (9, ["abcd"]), (-30, ["ab", "cd"])]:
+        near, far = ((x, ["abcd"]) for x in (9, 10, 11, 11.5)), ((x, ["ab cd"]) for x in (11.7, 12, 40))
+        expected = [*near, *far, (-30, ["ab", "cd"])]
+        for x, lines in expected:
             self.assertEqual(self.lines(b"(ab) Tj %g 0 Td (cd) Tj" % x), lines, x)
             self.assertEqual(self.lines(b"[(ab) %g (cd)] TJ" % (-100 * (x - 10))), lines, x)
             self.assertEqual(self.lines(b"1 0 0 1 50 50 Tm (ab) Tj 1 0 0 1 %g 50 Tm (cd) Tj" % (50 + x)), lines, x)
@@ -69,13 +71,15 @@ class Words(unittest.TestCase):
 
     def test_matrices(self):
         """Text may be rotated, mirrored, or scaled by the user space, also within forms."""
-        self.assertEqual(self.lines(b"0 1 -1 0 9 9 Tm (ab) Tj 10 0 Td (cd) Tj 12 0 Td (e) Tj 0 -12 Td (f) Tj"), ["abcd e", "f"])
+        content = b"(ab) Tj 10 0 Td (cd) Tj 12 0 Td (e) Tj 0 -12 Td (f) Tj"
+        self.assertEqual(self.lines(b"0 1 -1 0 9 9 Tm " + content), ["abcd e", "f"])
         self.assertEqual(self.lines(b"1 0 0 -1 9 9 Tm (ab) Tj 10 0 Td (cd) Tj 0 12 Td (e) Tj"), ["abcd", "e"])
         page = Page()
         form = page.file.form(b"/F 1 Tf BT (cd) Tj ET", **page.fonts)
         form.Matrix = Array([10, 0, 0, 10, 10, 0])
         page.file.page.Resources.XObject.X = form
-        self.assertEqual(page.lines(b"(ab) Tj ET /X Do BT 22 0 Td (e) Tj ET q 2 0 0 2 0 40 cm BT (f) Tj 5 0 Td (g) Tj"), ["abcd e", "fg"])
+        content = b"(ab) Tj ET /X Do BT 22 0 Td (e) Tj ET q 2 0 0 2 0 40 cm BT (f) Tj 5 0 Td (g) Tj"
+        self.assertEqual(page.lines(content), ["abcd e", "fg"])
 
     def test_another_direction(self):
         self.assertEqual(self.lines(b"(ab) Tj 0 1 -1 0 50 0 Tm (cd) Tj"), ["ab", "cd"])

@@ -21,7 +21,8 @@ class Recipe(Folder):
     @unittest.skipUnless(PAGE.is_file(), "the pages aren't beside the tests")
     def test_from_a_garbled_file_to_a_repaired_one(self):
         showing(b"\1\2\4\5", GARBLED).saved(self.path("garbled.pdf"))
-        commands = re.findall(r"^    \$ python3 (.*)\n((?:    (?!\$).*\n)*)", PAGE.read_text(encoding="utf-8"), re.MULTILINE)
+        page = PAGE.read_text(encoding="utf-8")
+        commands = re.findall(r"^    \$ python3 (.*)\n((?:    (?!\$).*\n)*)", page, re.MULTILINE)
         self.assertEqual(len(commands), 4)
         for words, printed in commands:
             ran = subprocess.run(

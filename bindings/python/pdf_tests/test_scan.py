@@ -107,7 +107,8 @@ class Strings(unittest.TestCase):
 
 class Limits(unittest.TestCase):
     def test_time_grows_with_the_length(self):
-        for piece in [b"1 ", b" ", b"(", b"(\\a", b"[(a)", b"<41", b"1 0 m ", b"[(a(b)c)", b"[[", b"<<", b")", b"/", b"%", b"I"]:
+        numbers, strings = [b"1 ", b" ", b"1 0 m "], [b"(", b"(\\a", b"[(a)", b"<41", b"[(a(b)c)"]
+        for piece in [*numbers, *strings, b"[[", b"<<", b")", b"/", b"%", b"I"]:
             start = time.process_time()
             for _ in _scan.operators(piece * (400_000 // len(piece))):
                 pass

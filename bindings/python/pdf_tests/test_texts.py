@@ -29,7 +29,8 @@ class Contents(unittest.TestCase):
 
     def test_operands_that_are_none(self):
         """What isn't a string shows nothing; a string may begin with a slash, or be empty."""
-        content = b"/F 9 Tf Tj () Tj /A Tj 12 Tj [(/a) /B 1.5 [(c)] << /D (d) >> true null (e)] TJ (f) TJ [(g)] Tj (h) Tf gs (i) Tj"
+        content = b"/F 9 Tf Tj () Tj /A Tj 12 Tj [(/a) /B 1.5 [(c)] << /D (d) >> true null (e)] TJ (f) TJ [(g)] Tj"
+        content += b" (h) Tf gs (i) Tj"
         file = File()
         file.show(content, F=file.simple(GOOD))
         self.assertEqual(file.shown(), [("Simple", b""), ("Simple", b"/a"), ("Simple", b"e"), (None, b"i")])

@@ -234,8 +234,8 @@ def check(
     """Which fonts of a file have CMaps with faults, and which of the codes that it shows have no text.
 
     `progress` is handed the pages, and gives them again. The texts are those that ToUnicode CMaps have apart from their
-    faults; with `lenient=False` one with faults has none, and with `guesses=False` no text is a guess. TooLong where the
-    deadline is over.
+    faults; with `lenient=False` one with faults has none, and with `guesses=False` no text is a guess. TooLong where
+    the deadline is over.
     """
     document, without_font = Document(pdf, lenient=lenient, deadline=deadline), 0
     strings: Dict[Font, Strings] = {}

@@ -38,8 +38,8 @@ class Shown(NamedTuple):
     #: None where no font is chosen, or one that isn't there.
     font: Optional[Font]
     string: bytes
-    #: What stands between it and the string before, by their places: nothing, a space or a line end. Without places it is
-    #: nothing.
+    #: What stands between it and the string before, by their places: nothing, a space or a line end. It is nothing where
+    #: places aren't asked for.
     separator: str
 
 
@@ -47,8 +47,8 @@ class Content:
     """What pages show, with the fonts that they name, each read once.
 
     `places` is for the separators of `shown`, and takes more time. A ToUnicode CMap with faults gives the texts that it
-    has apart from them, and none with `lenient=False`. With `guesses=False` no text is a guess. Where a deadline is over
-    while a page is read, that is TooLong.
+    has apart from them, and none with `lenient=False`. With `guesses=False` no text is a guess. TooLong where a deadline
+    is over while a page is read.
     """
 
     def __init__(
@@ -93,8 +93,8 @@ class Content:
     def lines(self, page: pikepdf.Page) -> Iterator[str]:
         """The lines of text that a page shows, in the order of its content; U+FFFD for a code without a text.
 
-        A line goes on as long as strings are shown on it, one after another, and a wide gap between two is a space. Text
-        from right to left is in the order in which it is read.
+        A line goes on as long as strings are shown on it, one after another, and a wide gap between two is a space.
+        Text from right to left is in the order in which it is read.
         """
         left = MOST_CHARACTERS
         for line in filter(None, self._lines_and_none(page)):
@@ -198,7 +198,7 @@ class Document(Content):
 
     @functools.cached_property
     def fonts(self) -> List[Font]:
-        """The fonts, each once: those of pages, forms, patterns, soft masks, Type 3 fonts, annotations and form fields."""
+        """The fonts, each once: of pages, forms, patterns, soft masks, Type 3 fonts, annotations and form fields."""
         return fonts_of(self._pdf, self._found)
 
 

@@ -400,7 +400,7 @@ class Font:
 
     @functools.cached_property
     def _empty_texts(self) -> List[Tuple[int, int]]:
-        """The codes for which the ToUnicode CMap declares the empty text, in rows that lie apart. It is a fault there."""
+        """The codes for which the ToUnicode CMap declares the empty text, which is a fault, in rows that lie apart."""
         read, found = self.to_unicode, []
         layers = read.lenient.layers if read.faults and read.lenient is not None else []
         for first, last in sorted((it.first, it.last) for layer in layers for it in layer.texts if not it.text):

@@ -7,8 +7,8 @@ import pikepdf
 
 from ._fonts import Font, resources_of
 from ._measured import Measure, Measured
-from ._objects import bytes_of, dictionary_at, name_at, named, object_number
-from ._scan import Operand, Operator, actual_text, elements_of, last_name, last_string, numbers_in, operators
+from ._objects import dictionary_at, name_at, named, object_number
+from ._scan import Operand, actual_text, elements_of, last_name, last_string, numbers_in, operators
 
 #: How many operators that text may depend on one page may have, with those of its forms, each as often as it is drawn.
 MOST_STEPS = 5_000_000
@@ -92,7 +92,8 @@ class Level:
         self.operators = operators(data)
         self.resources = resources
         self.form = None if form is None else form.objgen
-        self.state, self.saved, self.text, self.span, self.marks = run.state, len(run.saved), run.text, run.span, run.marks
+        self.state, self.saved, self.text = run.state, len(run.saved), run.text
+        self.span, self.marks = run.span, run.marks
         self._fonts: Dict[bytes, Any] = {}
 
     def named(self, kind: str, name: bytes) -> Any:
@@ -361,8 +362,8 @@ class Frame:
         )
 
     def is_spaced(self, string: Measured) -> bool:
-        """Whether a string is the last letter of a word and the first one of another: two codes with a wide space between
-        them. More codes are letters that are spaced out."""
+        """Whether a string is the last letter of a word and the first one of another: two codes with a wide space
+        between them. More codes are letters that are spaced out."""
         return self._is_wide and len(string.texts) == 2
 
     def leave(self, text: TextMatrix) -> None:
