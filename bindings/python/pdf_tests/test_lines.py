@@ -6,7 +6,7 @@ from unittest import mock
 from pikepdf import Array, Dictionary, Name, String
 
 from hayro_cmap import pdf
-from hayro_cmap.pdf import Source, _content
+from hayro_cmap.pdf import Source, _content, _interpreter
 
 from made import GOOD, File, needs_glyph_list, needs_resources
 
@@ -80,6 +80,13 @@ class Words(unittest.TestCase):
         page.file.page.Resources.XObject.X = form
         content = b"(ab) Tj ET /X Do BT 22 0 Td (e) Tj ET q 2 0 0 2 0 40 cm BT (f) Tj 5 0 Td (g) Tj"
         self.assertEqual(page.lines(content), ["abcd e", "fg"])
+
+    def test_states_that_a_form_leaves_open(self):
+        """They end with the form, also past the number that is kept."""
+        page = Page()
+        page.file.page.Resources.XObject.X = page.file.form(b"q " * (_interpreter.MOST_SAVED + 9))
+        content = b"(ab) Tj ET q 1 0 0 1 0 90 cm /X Do Q BT 10 0 Td (cd) Tj"
+        self.assertEqual(page.lines(content), ["abcd"])
 
     def test_another_direction(self):
         self.assertEqual(self.lines(b"(ab) Tj 0 1 -1 0 50 0 Tm (cd) Tj"), ["ab", "cd"])

@@ -48,7 +48,7 @@ IDENTITIES = ("Identity-H", "Identity-V")
 
 #: How many characters the text of a code may have, and what a longer one is written in, at least.
 MOST_OF_TEXT = 1 << 10
-LONG_TEXT = re.compile(rb"[0-9A-Fa-f\0\t\n\f\r ]{2048}|\([^<>\[\]]{1024}")
+LONG_TEXT = re.compile(rb"<[0-9A-Fa-f\0\t\n\f\r ]{2048}|\([^()<>\[\]]{1024}")
 
 #: Five digits without others beside them, and a hexadecimal string.
 FIVE_DIGITS = re.compile(rb"(?<![0-9A-Fa-f])[0-9A-Fa-f]{5}(?![0-9A-Fa-f])")
@@ -476,7 +476,7 @@ def read_stream(stream: pikepdf.Stream, of: str, streams: Streams, over: Tuple =
         return Read(None, None, [Fault(of, number, None, None, (), str(fault))])
     except NotWritable as fault:
         return Read(None, None, [Fault(of, number, None, None, (), f"what it is based on can't be used: {fault}")])
-    lines = Lines(data)
+    lines = Lines(data if refusals else b"")
     faults = [fault_of(it, of, number, lines) for it in refusals[:MOST_FAULTS]]
     if len(refusals) > MOST_FAULTS:
         faults.append(Fault(of, number, None, None, (), f"more than {MOST_FAULTS:,} faults"))

@@ -92,8 +92,8 @@ class Level:
         self.operators = operators(data)
         self.resources = resources
         self.form = None if form is None else form.objgen
-        self.state, self.saved, self.text = run.state, len(run.saved), run.text
-        self.span, self.marks = run.span, run.marks
+        self.state, self.saved, self.unsaved = run.state, len(run.saved), run.unsaved
+        self.text, self.span, self.marks = run.text, run.span, run.marks
         self._fonts: Dict[bytes, Any] = {}
 
     def named(self, kind: str, name: bytes) -> Any:
@@ -134,7 +134,7 @@ class Interpreter:
         self.state = State(IDENTITY)
         self.saved: List[State] = []
         #: How many states weren't kept, since there were too many.
-        self._unsaved = 0
+        self.unsaved = 0
         self.text = TextMatrix()
         self.span: Optional[Span] = None
         self.marks = 0
@@ -176,16 +176,17 @@ class Interpreter:
         level = self._levels.pop()
         self.state, self.text, self.span, self.marks = level.state, level.text, level.span, level.marks
         del self.saved[level.saved :]
+        self.unsaved = level.unsaved
 
     def _save(self, *_: Any) -> None:
         if len(self.saved) < MOST_SAVED:
             self.saved.append(self.state.copy())
         else:
-            self._unsaved += 1
+            self.unsaved += 1
 
     def _restore(self, *_: Any) -> None:
-        if self._unsaved:
-            self._unsaved -= 1
+        if self.unsaved:
+            self.unsaved -= 1
         elif len(self.saved) > self._levels[-1].saved:
             self.state = self.saved.pop()
 

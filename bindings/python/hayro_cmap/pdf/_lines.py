@@ -106,8 +106,8 @@ def distance(line: Place, x: float, y: float, other_x: float, other_y: float) ->
 
 def is_mark_on(before: Piece, piece: Piece) -> bool:
     """Whether a string has nothing but marks that are combined with a letter, shown near the string before."""
-    first, second = before.place, piece.place
-    if first is None or second is None or not all(map(unicodedata.combining, text_of(piece))) or not text_of(piece):
+    first, second, text = before.place, piece.place, text_of(piece)
+    if first is None or second is None or not text or not all(map(unicodedata.combining, text)):
         return False
     along, across = distance(first, first.end_x, first.end_y, second.x, second.y)
     return max(abs(along), abs(across)) < max(first.size, second.size)
