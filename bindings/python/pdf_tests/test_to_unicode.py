@@ -33,6 +33,12 @@ class FiveDigits(unittest.TestCase):
         [fault] = file.font().to_unicode.faults
         self.assertEqual(fault.offset, len(RANGES) + len(b"beginbfchar <01> <20BB7> <02> /x"))
         self.assertEqual(file.text(), "\U00020bb7?")
+        [repaired] = pdf.repair(file.pdf)
+        number = repaired.number
+        said = f"ToUnicode {number}: texts of five digits are read as the characters of these numbers"
+        self.assertEqual(repaired.lines()[:2], [f"ToUnicode {number}: written anew, with texts for 1 codes", said])
+        [character, _] = pdf.characters(file.pdf.pages[0], lenient=False)
+        self.assertEqual(character.text, "\U00020bb7")
 
 
 @needs_glyph_list

@@ -127,6 +127,8 @@ class Read(NamedTuple):
     faults: List[Fault]
     #: The decoded stream; no bytes for a predefined CMap.
     data: bytes = b""
+    #: Whether the map past faults has characters for texts of five digits.
+    has_five_digits: bool = False
 
 
 NOTHING = Read(None, None, [])
@@ -481,7 +483,7 @@ def read_stream(stream: pikepdf.Stream, of: str, streams: Streams, over: Tuple =
     if len(refusals) > MOST_FAULTS:
         faults.append(Fault(of, number, None, None, (), f"more than {MOST_FAULTS:,} faults"))
     faults += below.faults
-    return Read(None if faults else cmap, past_faults, faults, data)
+    return Read(None if faults else cmap, past_faults, faults, data, read_as != data)
 
 
 def limit_texts(cmap: CMap, data: bytes) -> None:

@@ -41,7 +41,10 @@ class Repaired(NamedTuple):
     def lines(self) -> List[str]:
         """A line for what is written, and one for each fault."""
         what = f"written anew, with texts for {self.kept:,} codes" if self.kept else "nothing is left of it"
-        return [f"ToUnicode {self.number}: {what}", *(f"lost at {fault}" for fault in self.faults)]
+        lines = [f"ToUnicode {self.number}: {what}"]
+        if self.fonts[0].to_unicode.has_five_digits:
+            lines.append(f"ToUnicode {self.number}: texts of five digits are read as the characters of these numbers")
+        return [*lines, *(f"lost at {fault}" for fault in self.faults)]
 
     def as_json(self) -> Dict[str, Any]:
         """The same as values of JSON."""
