@@ -26,7 +26,7 @@ class Page:
 
     def lines(self, content):
         self.file.show(b"/F 10 Tf BT %b ET" % content, **self.fonts)
-        document = pdf.Document(self.file.pdf, places=True)
+        document = pdf.Document(self.file.pdf)
         return list(document.lines(document.pages[0]))
 
 
@@ -97,7 +97,7 @@ class Words(unittest.TestCase):
     def test_separators(self):
         page = Page()
         page.file.show(b"/F 10 Tf BT (a) Tj 5 0 Td (b) Tj 8 0 Td (c) Tj 0 -12 Td (d) Tj ET", **page.fonts)
-        document = pdf.Document(page.file.pdf, places=True)
+        document = pdf.Document(page.file.pdf)
         self.assertEqual([it.separator for it in document.shown(document.pages[0])], ["", "", " ", "\n"])
 
     def test_too_many_characters(self):
@@ -217,7 +217,7 @@ class Vertical(unittest.TestCase):
         file = File()
         content = b"/F 10 Tf BT 90 90 Td <93FA967B> Tj 0 -20 Td <8CEA> Tj 0 -13 Td <93FA> Tj -20 33 Td <967B> Tj ET"
         file.show(content, F=file.composite(Name("/90ms-RKSJ-V"), "Japan1"))
-        document = pdf.Document(file.pdf, places=True)
+        document = pdf.Document(file.pdf)
         self.assertEqual(list(document.lines(document.pages[0])), ["日本語 日", "本"])
 
     def test_characters_below_each_other(self):

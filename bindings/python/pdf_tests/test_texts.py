@@ -96,7 +96,7 @@ class Contents(unittest.TestCase):
             b"/F 9 Tf BT (A) Tj 0 -9 Td (A) Tj 9 0 Td (A) Tj [(A) -50 (A) -300 (A)] TJ T* (A) Tj ET BT (A\\001) Tj ET"
         )
         file.show(content, F=file.simple(GOOD))
-        document = pdf.Document(file.pdf, places=True)
+        document = pdf.Document(file.pdf)
         self.assertEqual(list(document.lines(document.pages[0])), ["A", "A A" + "AA A", "A", "A\ufffd"])
 
 

@@ -121,7 +121,7 @@ def run_check(job: Job) -> Result:
 
 
 def run_text(job: Job) -> Result:
-    document, lines, objects = Document(job.pdf, True, job.lenient, job.deadline, job.guesses), [], []
+    document, lines, objects = Document(job.pdf, lenient=job.lenient, deadline=job.deadline, guesses=job.guesses), [], []
     for number, page in enumerate(job.progress(document.pages), 1):
         of_page = list(document.lines(page))
         lines += of_page

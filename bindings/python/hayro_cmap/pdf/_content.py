@@ -38,17 +38,16 @@ class Shown(NamedTuple):
     #: None where no font is chosen, or one that isn't there.
     font: Optional[Font]
     string: bytes
-    #: What stands between it and the string before, by their places: nothing, a space or a line end. It is nothing where
-    #: places aren't asked for.
+    #: What stands between it and the string before, by their places: nothing, a space or a line end.
     separator: str
 
 
 class Content:
     """What pages show, with the fonts that they name, each read once.
 
-    `places` is for the separators of `shown`, and takes more time. A ToUnicode CMap with faults gives the texts that it
-    has apart from them, and none with `lenient=False`. With `guesses=False` no text is a guess. TooLong where a deadline
-    is over while a page is read.
+    A ToUnicode CMap with faults gives the texts that it has apart from them, and none with `lenient=False`. With
+    `guesses=False` no text is a guess. TooLong where a deadline is over while a page is read. `places` changes nothing:
+    the places of strings are looked for where they are needed.
     """
 
     def __init__(
@@ -61,7 +60,7 @@ class Content:
     ):
         self._found = Fonts() if fonts is None else fonts
         self._deadline = Deadline(None) if deadline is None else deadline
-        self._has_places, self._options = places, (lenient, guesses)
+        self._options = lenient, guesses
         self._streams: Streams = self._found.streams
         #: What of the contents couldn't be read.
         self.faults: List[str] = []
@@ -114,7 +113,7 @@ class Content:
     def shown(self, page: pikepdf.Page, annotations: bool = True) -> Iterator[Shown]:
         """The strings that a page shows, in the order of its content, and then those of its annotations."""
         before: Optional[Piece] = None
-        for piece in self.pieces(page, annotations, self._measure if self._has_places else None):
+        for piece in self.pieces(page, annotations, self._measure):
             yield Shown(piece.font, piece.string, NOTHING if before is None else gap(before, piece).separator)
             before = piece
 
