@@ -15,6 +15,12 @@ class Budget:
     def __init__(self, left: int = MOST_OF_FONTS):
         self._left = left
 
+    def allow(self, count: int) -> int:
+        """How many of this many entries are taken: as many as are left of the budget, at most."""
+        allowed = min(count, self._left)
+        self._left -= allowed
+        return allowed
+
     def take(self, entries: Iterable[T], most: int) -> Iterator[T]:
         """The entries, up to this many, and while something is left of the budget."""
         for it in itertools.islice(entries, most):

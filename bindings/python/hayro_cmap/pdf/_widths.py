@@ -53,8 +53,6 @@ LARGEST = 1e6
 NO_CID = -1
 
 #: A CID with its numbers of an array, and None for what is no number.
-Row = Tuple[int, List[Any]]
-
 #: What an array of numbers has: a number, an array, or None for anything else.
 Value = Union[None, float, List[Any]]
 
@@ -202,35 +200,39 @@ def is_vertical(font: "Font") -> bool:
 
 def widths_of_cids(descendant: pikepdf.Dictionary, budget: Budget) -> Dict[int, float]:
     """The widths of the CIDs of the array W of a CIDFont."""
-    return {cid: width for cid, [width] in rows_of(descendant.get("/W"), 1, budget)}
+    found: Dict[int, float] = {}
+    for first, row in runs_of(descendant.get("/W"), 1, budget):
+        found.update((cid, width) for cid, width in enumerate(row, first) if is_width(width) and 0 <= cid < CIDS)
+    return found
 
 
 def verticals_of_cids(descendant: pikepdf.Dictionary, budget: Budget) -> Dict[int, Vertical]:
     """How the CIDs of the array W2 of a CIDFont are placed in vertical writing."""
-    return {cid: Vertical(*row) for cid, row in rows_of(descendant.get("/W2"), len(Vertical._fields), budget)}
+    found: Dict[int, Vertical] = {}
+    size = len(Vertical._fields)
+    for first, row in runs_of(descendant.get("/W2"), size, budget):
+        for cid, at in enumerate(range(0, len(row), size), first):
+            if 0 <= cid < CIDS and all(map(is_width, row[at : at + size])):
+                found[cid] = Vertical(*row[at : at + size])
+    return found
 
 
-def rows_of(listed: Any, size: int, budget: Budget) -> Iterator[Tuple[int, List[float]]]:
-    """The CIDs of an array W or W2, each with its numbers, of which it has `size`."""
-    values = iter(values_of(listed))
-    rows = itertools.chain.from_iterable(rows_from(first, values, size) for first in values)
-    for cid, row in budget.take(rows, MOST_WIDTHS):
-        found = list(filter(is_width, row))
-        if 0 <= cid < CIDS and len(found) == size:
-            yield cid, found
+def runs_of(listed: Any, size: int, budget: Budget) -> Iterator[Tuple[int, List[Value]]]:
+    """The first CID of each run of CIDs of an array W or W2, and their numbers, `size` for each CID.
 
-
-def rows_from(first: Value, values: Iterator[Value], size: int) -> Iterator[Row]:
-    """The CIDs of what stands in an array W or W2 from its first CID on.
-
-    An array follows, with the numbers of CID after CID, or the last CID, and the numbers of all up to it.
+    After a first CID stands an array with the numbers of CID after CID, or the last CID and the numbers of each.
     """
-    cid, second = cid_of(first), next(values, None)
-    if isinstance(second, list):
-        found = second
-        return ((cid + rank, found[at : at + size]) for rank, at in enumerate(range(0, len(found), size)))
-    row = list(itertools.islice(values, size))
-    return ((it, row) for it in range(max(cid, 0), min(cid_of(second), CIDS - 1) + 1))
+    values, left = iter(values_of(listed)), MOST_WIDTHS
+    for first in values:
+        cid, second = cid_of(first), next(values, None)
+        if isinstance(second, list):
+            count = budget.allow(min(len(second) // size, left))
+            yield cid, second[: count * size]
+        else:
+            row, cid = list(itertools.islice(values, size)), max(cid, 0)
+            count = budget.allow(min(max(min(cid_of(second), CIDS - 1) + 1 - cid, 0), left))
+            yield cid, row * count if len(row) == size else []
+        left -= count
 
 
 def cid_of(value: Value) -> int:
