@@ -20,8 +20,6 @@ from ctypes import (
 )
 from pathlib import Path
 
-from ._run import missing
-
 #: The name of the library in a system: its number is the first one of the project's version.
 SONAME = "libhayro_cmap.so.1"
 
@@ -245,6 +243,9 @@ def load():
             return typed(ctypes.CDLL(path))
         except (OSError, AttributeError) as fault:
             faults.append(str(fault))
+    # the declarations above may be loaded without the package
+    from ._run import missing
+
     raise missing("the C library of hayro_cmap isn't found: " + "; ".join(faults))
 
 
