@@ -28,6 +28,11 @@ WAITS = "import sys; from distributed import Client; Client(scheduler_file=sys.a
 FILES = 60
 
 
+def setUpModule():
+    """Lets interrupts through: a shell that runs tests in the background has them ignored."""
+    signal.signal(signal.SIGINT, signal.default_int_handler)
+
+
 @unittest.skipUnless(importlib.util.find_spec("distributed"), "Debian's package python3-distributed isn't installed")
 class Cluster(unittest.TestCase):
     @classmethod

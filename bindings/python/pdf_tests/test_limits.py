@@ -32,6 +32,11 @@ def busy(seconds):
             deadline.check()
 
 
+def setUpModule():
+    """Lets interrupts through: a shell that runs tests in the background has them ignored."""
+    signal.signal(signal.SIGINT, signal.default_int_handler)
+
+
 class Deadlines(Folder):
     def test_a_deadline(self):
         """It counts processor time, and is over once."""
