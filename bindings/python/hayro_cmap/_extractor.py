@@ -118,8 +118,8 @@ class Extractor:
         another. Of several strings it is the shortest, and of several as short the one whose bytes are least.
 
         A text that no string shows is Unencodable. But where `missing` is given, as b"\\x00\\x3f" for a question mark, the
-        string is that of the longest front that strings show, then these bytes for the character after it, then what is
-        left of the text likewise.
+        string is that of the longest prefix that strings show, then these bytes for the character after it, then what
+        is left of the text likewise.
 
         What is needed for it is made of all codes of the font when it is first called, and kept.
         """
