@@ -2,10 +2,11 @@ pub mod ListElements
 pub mod Order
 pub mod Numbers
 pub mod CodesRead
-pub mod StringsShown
+pub mod FirstGiven
+pub mod PiecesParted
 pub mod WaysFound
 pub mod WaysFollowed
-pub mod FrontsShown
+pub mod PrefixesFound
 pub mod CodesOutside
 pub mod LossyShown
 pub mod FirstsFound
@@ -15,6 +16,7 @@ pub mod RunsNumbered
 pub mod TextEnds
 pub mod TreeNodes
 pub mod TextsFound
+pub mod TextsOwned
 pub mod RunsAdded
 pub mod GatheredFound
 pub mod CidsAdded

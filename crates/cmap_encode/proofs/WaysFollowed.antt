@@ -1,32 +1,41 @@
 -- The encoding to which ways lead.
-use Rattle.std.proofs.Common.{◌≡◌, ℕ, ◌+◌, ◌-◌, ◌≤◌, ◌<◌, List, [], ◌++◌, length, drop, get_or, Option, Some, None, refl, sym, ap, ◌∙◌, subst, arith, append_assoc, append-nil, length-drop}
-use Rattle.std.specs.Prelude.{IfSome, slice_get}
+use Rattle.std.proofs.Common.{◌≡◌, ℕ, ◌+◌, ◌-◌, ◌≤◌, ◌<◌, List, [], ◌∷◌, ◌++◌, length, take, drop, get_or, Option, Some, None, refl, sym, ap, ◌∙◌, subst, arith, append_assoc, append-nil, length-drop}
+use Rattle.std.specs.Prelude.{IfSome, flat_map, slice_get}
 use Rattle.std.proofs.lemmas.Option.{slice_get-get_or}
 use Rattle.std.proofs.lemmas.List.{drop-drop, drop_all}
-use Rattle.cmap_unicode.specs.TextsOfCodes.{Font}
-use Rattle.cmap_encode.specs.Codes.{code_bytes}
-use Rattle.cmap_encode.specs.Encodings.{HasNoEncoding, IsEncodingOf, IsString, Shows}
+use Rattle.cmap_encode.specs.ChoicesSeen.{choice_seen}
+use Rattle.cmap_encode.specs.Encodings.{IsEncodingBy}
+use Rattle.cmap_encode.specs.Pieces.{AreChoices, Choice, Choices, IsEncodable, next, nothing}
 use Rattle.cmap_encode.specs.Ways.{IsWay, last_of}
 use Rattle.cmap_encode.specs.declared.ways.Way.{Way}
-use Rattle.cmap_encode.proofs.Numbers.{code_string}
-use Rattle.cmap_encode.proofs.StringsShown.{nothing_shown, one_encoding}
-use Rattle.std.proofs.lemmas.List.Elements.{All-append, All-nil}
+use Rattle.cmap_encode.proofs.PiecesParted.{encoded_encodable}
 
--- these bytes are the front of the encoding of a text, of which so many characters are left
-pub record AreFront (font : Font) (text bytes : List ℕ) (left : ℕ) : Type 0 where
+abbrev bytes_of : List Choice → List ℕ
+bytes_of pieces = flat_map (λ (piece : Choice). piece.bytes) pieces
+
+-- these bytes stand for the first pieces of a text, of which so many characters are left
+pub record AreFirst (choices : Choices) (text bytes : List ℕ) (left : ℕ) : Type 0 where
   pub within : left ≤ length text
-  pub found : (rest : List ℕ) → IsString rest → IsEncodingOf font (last_of left text) rest → IsEncodingOf font text (bytes ++ rest)
-  pub none : HasNoEncoding font (last_of left text) → HasNoEncoding font text
+  pub pieces : List Choice
+  pub found : (rest : List Choice) → AreChoices choices (last_of left text) rest → AreChoices choices text (pieces ++ rest)
+  pub is : bytes ≡ bytes_of pieces
+  pub none : (IsEncodable choices (last_of left text) → ⊥) → IsEncodable choices text → ⊥
 
-module _ (font : Font) (text : List ℕ) where
+bytes_more : (pieces : List Choice) (piece : Choice) → bytes_of (pieces ++ piece ∷ []) ≡ bytes_of pieces ++ piece.bytes
+bytes_more [] piece = append-nil piece.bytes
+bytes_more (first ∷ pieces) piece = ap (λ l. first.bytes ++ l) (bytes_more pieces piece) ∙ sym (append_assoc first.bytes (bytes_of pieces) piece.bytes)
+
+module _ (choices : Choices) (text : List ℕ) where
   all_left : last_of (length text) text ≡ text
   all_left = let skipped : length text - length text ≡ 0 = omega arith in ap (λ n. drop n text) skipped
 
-  pub front_none : AreFront font text [] (length text)
-  front_none = record {
+  pub first_none : AreFirst choices text [] (length text)
+  first_none = record {
     within = omega arith;
-    found = λ rest bytes is. subst (λ t. IsEncodingOf font t rest) all_left is;
-    none = subst (HasNoEncoding font) all_left;
+    pieces = [];
+    found = λ rest are. subst (λ t. AreChoices choices t rest) all_left are;
+    is = refl;
+    none = λ not encodable. not (subst (IsEncodable choices) (sym all_left) encodable);
   }
 
   rest_left : (left taken : ℕ) → taken ≤ left → left ≤ length text → drop taken (last_of left text) ≡ last_of (left - taken) text
@@ -34,26 +43,31 @@ module _ (font : Font) (text : List ℕ) where
       let all : length text - left + taken ≡ length text - (left - taken) = omega arith in
       drop-drop taken (length text - left) text ∙ ap (λ n. drop n text) all
 
-  -- one more code
-  pub front_more : (bytes : List ℕ) (left : ℕ) (way : Way) → AreFront font text bytes left → IsWay font (last_of left text) way → AreFront font text (bytes ++ code_bytes way.code) (left - way.taken)
-  front_more bytes left way front is =
-      let count : length (last_of left text) ≡ left = omega (arith, length-drop (length text - left) text, front.within) in
-      let after = rest_left left way.taken (omega (arith, is.within)) front.within in
+  -- one more piece
+  pub first_more : (bytes : List ℕ) (left : ℕ) (way : Way) → AreFirst choices text bytes left → IsWay choices (last_of left text) way → AreFirst choices text (bytes ++ (choice_seen way.choice).bytes) (left - way.taken)
+  first_more bytes left way first is =
+      let piece = choice_seen way.choice in
+      let count : length (last_of left text) ≡ left = omega (arith, length-drop (length text - left) text, first.within) in
+      let after = rest_left left way.taken (omega (arith, is.begins.may.within)) first.within in
       record {
-        within = omega (arith, front.within);
-        found = λ rest rest_string its.
-            let here = subst (λ t. IsEncodingOf font t rest) (sym after) its in
-            let same : is.rest ≡ rest = one_encoding font (drop way.taken (last_of left text)) is.rest rest is.rest_string rest_string is.is_rest here in
-            let whole = front.found (code_bytes way.code ++ is.rest) (All-append (λ b. b < 256) (code_bytes way.code) is.rest (code_string way.code) is.rest_string) is.encoding in
-            subst (IsEncodingOf font text) (ap (λ r. bytes ++ (code_bytes way.code ++ r)) same ∙ sym (append_assoc bytes (code_bytes way.code) rest)) whole;
-        none = λ nothing. absurd (nothing is.rest is.rest_string (subst (λ t. Shows font is.rest t) after is.is_rest.shows));
+        within = omega (arith, first.within);
+        pieces = first.pieces ++ piece ∷ [];
+        found = λ rest are.
+            subst (AreChoices choices text) (sym (append_assoc first.pieces (piece ∷ []) rest))
+            (first.found (piece ∷ rest) (next (last_of left text) way.taken piece rest is.begins is.chosen (subst (λ t. AreChoices choices t rest) (sym after) are)));
+        is = ap (λ l. l ++ piece.bytes) first.is ∙ sym (bytes_more first.pieces piece);
+        none = λ not. absurd (not (subst (IsEncodable choices) after is.begins.may.rest));
       }
 
   -- all of them
-  pub front_all : (bytes : List ℕ) (left : ℕ) → left ≡ 0 → AreFront font text bytes left → IsEncodingOf font text bytes
-  front_all bytes left empty front =
+  pub first_all : (bytes : List ℕ) (left : ℕ) → left ≡ 0 → AreFirst choices text bytes left → IsEncodingBy choices text bytes
+  first_all bytes left empty first =
       let nothing_left : last_of left text ≡ [] = drop_all (length text - left) text (omega arith) in
-      subst (IsEncodingOf font text) (append-nil bytes) (front.found [] (All-nil (λ b. b < 256)) (subst (λ t. IsEncodingOf font t []) (sym nothing_left) (nothing_shown font)))
+      record {
+        pieces = first.pieces;
+        are = subst (AreChoices choices text) (append-nil first.pieces) (first.found [] (subst (λ t. AreChoices choices t []) (sym nothing_left) nothing));
+        is = first.is;
+      }
 
 -- ---- one of the ways
 pub way_at : (ways : List (Option Way)) (k : ℕ) (d o : Option Way) (P : Option Way → Type 0) → k < length ways → get_or ways k d ≡ o → IfSome (slice_get ways k) P → P o

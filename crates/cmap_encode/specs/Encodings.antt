@@ -1,25 +1,41 @@
--- The strings of a font that show a text, and the first of them.
-use Rattle.std.specs.Prelude.{◌≡◌, ℕ, ◌+◌, ◌<◌, ◌≤◌, ◌⊎◌, IsTrue, List, [], ◌∷◌, ◌++◌, length, drop, take, flat_map, All, Some}
+-- Texts encoded piece by piece, by what stands for the pieces.
+use Rattle.std.specs.Prelude.{◌≡◌, ℕ, ◌+◌, ◌<◌, ◌≤◌, ◌⊎◌, All, List, [], ◌∷◌, ◌++◌, drop, flat_map, length, take}
 use Rattle.std.specs.Char.{encode_utf8}
-use Rattle.cmap_tokens.specs.Texts.{Text}
-use Rattle.cmap_layers.specs.StringCodes.{IsNextCode}
-use Rattle.cmap_layers.specs.declared.string_codes.StringCode.{StringCode}
-use Rattle.cmap_unicode.specs.Characters.{characters_of}
-use Rattle.cmap_unicode.specs.TextsOfCodes.{Font, IsTextOf}
-
--- the string is read as codes in codespace ranges, whose texts one after another are the text
-pub data Shows (font : Font) : List ℕ → List ℕ → Type 0 where
-  -- the empty string shows the empty text
-  nothing : Shows font [] []
-  -- the string begins with a code in a codespace range, which has a text, and the rest of the string shows what comes after that
-  next : (string : List ℕ) (code : StringCode) (text : Text) (after : List ℕ) → IsNextCode font.encoding string code → IsTrue code.in_codespace → IsTextOf font code.code code.byte_len (Some text)
-      → Shows font (drop code.byte_len string) after → Shows font string (characters_of text ++ after)
+use Rattle.cmap_encode.specs.Pieces.{AreChoices, Choice, Choices, IsEncodable}
 
 -- a string has bytes
 abbrev pub IsString : List ℕ → Type 0
 IsString string = All (λ byte. byte < 256) string
 
--- the first string is less at the first byte at which the two differ, or it is a front of the second
+-- the text falls into pieces, and the string is what stands for them, one after another
+pub record IsEncodingBy (choices : Choices) (text string : List ℕ) : Type 0 where
+  pub pieces : List Choice
+  pub are : AreChoices choices text pieces
+  pub is : string ≡ flat_map (λ piece. piece.bytes) pieces
+
+-- of the prefixes of the text that fall into pieces, the longest has so many characters
+pub record IsLongestEncodable (choices : Choices) (text : List ℕ) (count : ℕ) : Type 0 where
+  pub within : count ≤ length text
+  pub encodable : IsEncodable choices (take count text)
+  pub longest : (more : ℕ) → count < more → more ≤ length text → IsEncodable choices (take more text) → ⊥
+
+-- the text doesn't fall into pieces; its longest prefix that does ends at this offset, in bytes of UTF-8
+pub record IsStuckBy (choices : Choices) (text : List ℕ) (offset : ℕ) : Type 0 where
+  pub none : IsEncodable choices text → ⊥
+  pub count : ℕ
+  pub longest : IsLongestEncodable choices text count
+  pub is_offset : offset ≡ length (flat_map encode_utf8 (take count text))
+
+-- the longest prefix that falls into pieces, encoded; then other bytes for the character after it; then what comes after that likewise
+pub data IsLossyEncodingBy (choices : Choices) (missing : List ℕ) : List ℕ → List ℕ → Type 0 where
+  -- all of the text falls into pieces
+  whole : (text string : List ℕ) → IsEncodingBy choices text string → IsLossyEncodingBy choices missing text string
+  -- so many characters of it do, and no more
+  stuck : (text prefix rest : List ℕ) (count : ℕ) → IsLongestEncodable choices text count → count < length text → IsEncodingBy choices (take count text) prefix
+      → IsLossyEncodingBy choices missing (drop (count + 1) text) rest → IsLossyEncodingBy choices missing text (prefix ++ (missing ++ rest))
+
+-- ---- which of two strings comes first
+-- the first string is less at the first byte at which the two differ, or it is a prefix of the second
 abbrev pub IsAtMost : List ℕ → List ℕ → Type 0
 IsAtMost [] ys = Unit {0}
 IsAtMost (x ∷ xs) [] = ⊥
@@ -28,37 +44,3 @@ IsAtMost (x ∷ xs) (y ∷ ys) = (x < y) ⊎ ((x ≡ y) × IsAtMost xs ys)
 -- it is shorter than the second, or as long and no greater
 abbrev pub IsNotAfter : List ℕ → List ℕ → Type 0
 IsNotAfter string other = (length string < length other) ⊎ ((length string ≡ length other) × IsAtMost string other)
-
--- the string shows the text, and of all strings that do it comes first
-pub record IsEncodingOf (font : Font) (text string : List ℕ) : Type 0 where
-  pub shows : Shows font string text
-  pub first : (other : List ℕ) → IsString other → Shows font other text → IsNotAfter string other
-
--- no string shows the text
-abbrev pub HasNoEncoding : Font → List ℕ → Type 0
-HasNoEncoding font text = (string : List ℕ) → IsString string → Shows font string text → ⊥
-
--- some string shows the text
-abbrev pub HasEncoding : Font → List ℕ → Type 0
-HasEncoding font text = (string : List ℕ) × IsString string × Shows font string text
-
--- of the fronts of the text that strings show, the longest has so many characters
-pub record IsLongestShown (font : Font) (text : List ℕ) (count : ℕ) : Type 0 where
-  pub within : count ≤ length text
-  pub shown : HasEncoding font (take count text)
-  pub longest : (more : ℕ) → count < more → more ≤ length text → HasEncoding font (take more text) → ⊥
-
--- no string shows the text; the longest front that strings show ends at this offset, in bytes of UTF-8
-pub record IsStuckAt (font : Font) (text : List ℕ) (offset : ℕ) : Type 0 where
-  pub none : HasNoEncoding font text
-  pub count : ℕ
-  pub longest : IsLongestShown font text count
-  pub is_offset : offset ≡ length (flat_map encode_utf8 (take count text))
-
--- the text piece by piece: of what is left, the longest front that some string shows, and other bytes for the character after it
-pub data IsLossyEncodingOf (font : Font) (missing : List ℕ) : List ℕ → List ℕ → Type 0 where
-  -- some string shows all of the text
-  whole : (text string : List ℕ) → IsEncodingOf font text string → IsLossyEncodingOf font missing text string
-  -- strings show so many characters of it, and no more; what comes after the next character is encoded likewise
-  stuck : (text front rest : List ℕ) (count : ℕ) → IsLongestShown font text count → count < length text → IsEncodingOf font (take count text) front
-      → IsLossyEncodingOf font missing (drop (count + 1) text) rest → IsLossyEncodingOf font missing text (front ++ (missing ++ rest))

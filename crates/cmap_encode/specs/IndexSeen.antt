@@ -6,6 +6,9 @@ use Rattle.cmap_encode.specs.Codes.{IsBefore, IsFirstAmong, code_bytes}
 use Rattle.cmap_encode.specs.FirstsSeen.{AreFirsts, first_at}
 use Rattle.cmap_encode.specs.TreeSeen.{node_of}
 use Rattle.cmap_encode.specs.declared.firsts.CodeRun.{CodeRun}
+use Rattle.cmap_encode.specs.declared.code.Code.{Code}
+use Rattle.cmap_encode.specs.declared.code.Rank.TheVariants.{Stated}
+use Rattle.cmap_encode.specs.declared.code.Ranked.{Ranked}
 use Rattle.cmap_encode.specs.declared.index.Index.{Index}
 
 -- for each key the first code that the runs give it, if there are runs
@@ -36,3 +39,16 @@ pub record IsIndexed (font : Font) (len limit : ℕ) (index : Index) : Type 0 wh
 -- all codes have less than five bytes
 abbrev pub IsIndexOf : Font → Index → Type 0
 IsIndexOf font index = IsIndexed font 5 0 index
+
+-- ---- the code of a text, with its rank
+abbrev pub code_found : Option (Box (List CodeRun)) → ℕ → Option Code
+code_found found key = option_and_then (λ firsts. first_at firsts.value key) found
+
+abbrev pub own_at : Index → Option ℕ → ℕ → Option Ranked
+own_at index node last = option_map (λ code. record { code = code; rank = Stated }) (option_and_then (λ found. code_found found last) (option_and_then (slice_get index.firsts.items) node))
+
+abbrev pub own_after : Index → List ℕ → ℕ → Option Ranked
+own_after index front last = own_at index (node_of index.tree front) last
+
+abbrev pub own_in : Index → List ℕ → Option Ranked
+own_in index text = option_and_then (own_after index (take (length text - 1) text)) (slice_get text (length text - 1))

@@ -1,11 +1,13 @@
 //! A code with its bytes.
 
-ghost use Rattle.std.specs.Prelude.{◌≡◌, ◌++◌, MatchOption, OnOk};
+ghost use Rattle.std.specs.Prelude.{◌≡◌, ◌++◌, MatchOption, OnOk, bytes_eq, ◌∷◌, []};
 ghost use Rattle.cmap_values.specs.CodeLengths.{length_of};
 ghost use Rattle.cmap_values.specs.Only.{HoldsOfNone};
 ghost use Rattle.cmap_layers.specs.StringCodes.{BeginsInside, IsShortestInside};
-ghost use Rattle.cmap_encode.specs.Codes.{aligned, code_bytes};
+ghost use Rattle.cmap_encode.specs.ChoicesSeen.{choice_seen, grade_of, own_choice};
+ghost use Rattle.cmap_encode.specs.Codes.{code_bytes};
 
+use crate::choices::{Choice, Grade};
 use cmap_layers::layers::Layers;
 use cmap_values::code_length::CodeLength;
 use std::alloc::AllocError;
@@ -15,6 +17,46 @@ use std::alloc::AllocError;
 pub(crate) struct Code {
     pub(crate) number: u32,
     pub(crate) len: CodeLength,
+}
+
+/// How a code stands for a text, best first.
+#[derive(Clone, Copy, PartialEq, Eq)]
+pub(crate) enum Rank {
+    Stated,
+    OwnForm,
+    Canonical,
+    Collection,
+}
+
+/// A code with its rank.
+#[derive(Clone, Copy)]
+pub(crate) struct Ranked {
+    pub(crate) code: Code,
+    pub(crate) rank: Rank,
+}
+
+impl Ranked {
+    /// The code, as what stands for a text.
+    pub(crate) fn choice(self) -> Choice
+        ensures { choice_seen result ≡ own_choice self }
+    {
+        Choice {
+            code: Some(self.code),
+            grade: self.rank.grade(),
+        }
+    }
+}
+
+impl Rank {
+    fn grade(self) -> Grade
+        ensures { result ≡ grade_of self }
+    {
+        match self {
+            Rank::Stated => Grade::Stated,
+            Rank::OwnForm | Rank::Canonical => Grade::Canonical,
+            Rank::Collection => Grade::Collection,
+        }
+    }
 }
 
 impl Code {
@@ -32,6 +74,17 @@ impl Code {
         CodeLength::of(front.byte_len)
     }
 
+    /// Whether it is the byte of a character.
+    pub(crate) fn is_byte(self, character: char) -> bool
+        ensures { result ≡ bytes_eq (code_bytes self) (character ∷ []) }
+    {
+        let bytes = self.number.to_be_bytes();
+        match u8::try_from(character) {
+            Ok(byte) => bytes[4 - usize::from(self.len.count())..] == [byte],
+            Err(_) => false,
+        }
+    }
+
     /// Adds its bytes to a string.
     pub(crate) fn push_to(self, string: &mut Vec<u8>) -> Result<(), AllocError>
         ensures { OnOk result (string.new.items ≡ string.old.items ++ code_bytes self) }
@@ -39,12 +92,5 @@ impl Code {
         let bytes = self.number.to_be_bytes();
         string.extend_from_slice(&bytes[4 - usize::from(self.len.count())..])?;
         Ok(())
-    }
-
-    /// Its number, with zeros after its bytes up to the fourth.
-    pub(crate) fn aligned(self) -> u32
-        ensures { result ≡ aligned self }
-    {
-        self.number << (8 * (4 - self.len.count()))
     }
 }

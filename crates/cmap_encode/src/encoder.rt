@@ -5,27 +5,29 @@ ghost use Rattle.std.specs.Str.{chars};
 ghost use Rattle.cmap_unicode.specs.Characters.{font_of};
 ghost use Rattle.cmap_unicode.specs.TextsOfCodes as texts;
 ghost use Rattle.cmap_values.specs.Outcomes.{Outcome, RefusesWith};
-ghost use Rattle.cmap_encode.specs.EncoderSeen.{IsEncoderOf};
-ghost use Rattle.cmap_encode.specs.Encodings.{HasNoEncoding, IsEncodingOf, IsLossyEncodingOf, IsStuckAt};
-ghost use Rattle.cmap_encode.specs.Fronts.{IsLongestAdded};
+ghost use Rattle.cmap_encode.specs.ChoicesSeen.{choices_of};
+ghost use Rattle.cmap_encode.specs.Encodings.{IsEncodingBy, IsLossyEncodingBy, IsStuckBy};
+ghost use Rattle.cmap_encode.specs.Pieces.{IsEncodable};
+ghost use Rattle.cmap_encode.specs.Prefixes.{IsLongestAdded};
 
-use crate::fronts::{longest_shown, stuck_at};
+use crate::choices::Choices;
 use crate::index::Index;
+use crate::prefixes::{longest_prefix, stuck_at};
 use crate::ways::{all_ways, string_of};
 use cmap_unicode::Extractor;
 use cmap_values::fault::Fault;
 use std::alloc::{AllocError, Global};
 
-/// Finds the strings of a font that show texts. It keeps no reference to the font.
+/// Finds the strings of a font for texts. It keeps no reference to the font.
 #[derive(Drop)]
 pub struct Encoder {
-    index: Index,
+    choices: Choices,
 }
 
-/// A text that no string of a font shows.
+/// A text that the codes of a font don't show.
 #[derive(Clone, Copy, Debug, PartialEq, Eq)]
 pub struct Unencodable {
-    /// Where in the text, in bytes: of the fronts of the text that strings show, the longest ends there.
+    /// Where in the text, in bytes: the longest prefix of the text that can be encoded ends there.
     pub offset: usize,
 }
 
@@ -33,20 +35,21 @@ impl Encoder {
     /// The encoder of a font. It keeps one code for each text that a code of the font has.
     ///
     /// It fails only if memory runs out.
-    pub fn build(alloc: Global, font: &Extractor<'_>) -> Result<Encoder, AllocError>
-        ensures { IfOk result (IsEncoderOf (font_of font.now)) }
-    {
+    pub fn build(alloc: Global, font: &Extractor<'_>) -> Result<Encoder, AllocError> {
         let index = Index::build(alloc, font)?;
-        Ok(Encoder { index })
+        Ok(Encoder {
+            choices: Choices {
+                index,
+                exact: false,
+            },
+        })
     }
 
-    /// The string that shows the text: it is read as codes in codespace ranges, whose texts one after
-    /// another are the text. Of several strings it is the shortest one, and of several as short the
-    /// one whose bytes are least. It is refused only where no string shows the text.
+    /// The string of a text, piece by piece.
     pub fn encode(&self, alloc: Global, text: &str) -> Result<Vec<u8>, Fault<Unencodable>>
-        ensures { (font : texts.Font) → IsEncoderOf font self.now → Outcome
-            (λ string. IsEncodingOf font (chars text.now) string.items)
-            (λ refused. IsStuckAt font (chars text.now) refused.offset) result }
+        ensures { Outcome
+            (λ string. IsEncodingBy (choices_of self.now.choices) (chars text.now) string.items)
+            (λ refused. IsStuckBy (choices_of self.now.choices) (chars text.now) refused.offset) result }
     {
         let characters = characters_of(alloc, text)?;
         match self.encoding_of(alloc, &characters)? {
@@ -55,9 +58,9 @@ impl Encoder {
         }
     }
 
-    /// The string that shows the text as far as strings do: the longest front of the text that some string
-    /// shows is encoded as by `encode`, `missing` stands for the character after it, and what comes after
-    /// that is encoded likewise.
+    /// The string of a text as far as it can be encoded: the longest prefix of the text that falls into pieces
+    /// is encoded as by `encode`, `missing` stands for the character after it, and what comes after that is
+    /// encoded likewise.
     ///
     /// It fails only if memory runs out.
     pub fn encode_lossy(
@@ -66,8 +69,8 @@ impl Encoder {
         text: &str,
         missing: &[u8],
     ) -> Result<Vec<u8>, AllocError>
-        ensures { (font : texts.Font) → IsEncoderOf font self.now → IfOk result
-            (λ string. IsLossyEncodingOf font missing.now (chars text.now) string.items) }
+        ensures { IfOk result
+            (λ string. IsLossyEncodingBy (choices_of self.now.choices) missing.now (chars text.now) string.items) }
     {
         let characters = characters_of(alloc, text)?;
         let mut string = Vec::new(alloc);
@@ -79,8 +82,8 @@ impl Encoder {
         Ok(string)
     }
 
-    /// Adds the encoding of the longest front of a text that some string shows. It gives what is left of
-    /// the text.
+    /// Adds the encoding of the longest prefix of a text that falls into pieces. It gives what is left of the
+    /// text.
     fn push_longest<'t>(
         &self,
         alloc: Global,
@@ -88,32 +91,32 @@ impl Encoder {
         string: &mut Vec<u8>,
     ) -> Result<&'t [char], AllocError>
         ensures fewer { IfOk result (λ left. length left.now ≤ length text.now) }
-        ensures longest { (font : texts.Font) → IsEncoderOf font self.now → IfOk result
-            (λ left. IsLongestAdded font text.now left.now string.old.items string.new.items) }
+        ensures longest { IfOk result (λ left. IsLongestAdded (choices_of self.now.choices) text.now
+            left.now string.old.items string.new.items) }
     {
-        let count = longest_shown(alloc, &self.index, text)?;
-        if let Some(front) = self.encoding_of(alloc, &text[..count])? {
-            string.extend_from_slice(&front)?;
+        let count = longest_prefix(alloc, &self.choices, text)?;
+        if let Some(prefix) = self.encoding_of(alloc, &text[..count])? {
+            string.extend_from_slice(&prefix)?;
         }
         Ok(&text[count..])
     }
 
-    /// The first string that shows a text.
+    /// The string of a text that falls into pieces.
     fn encoding_of(&self, alloc: Global, text: &[char]) -> Result<Option<Vec<u8>>, AllocError>
-        ensures { (font : texts.Font) → IsEncoderOf font self.now → IfOk result
-            (λ found. MatchOption found (HasNoEncoding font text.now)
-            (λ string. IsEncodingOf font text.now string.items)) }
+        ensures { IfOk result
+            (λ found. MatchOption found (IsEncodable (choices_of self.now.choices) text.now → ⊥)
+            (λ string. IsEncodingBy (choices_of self.now.choices) text.now string.items)) }
     {
-        let ways = all_ways(alloc, &self.index, text)?;
+        let ways = all_ways(alloc, &self.choices, text)?;
         string_of(alloc, &ways)
     }
 
-    /// Why a text is refused that no string shows.
+    /// Why a text is refused that doesn't fall into pieces.
     fn refusal(&self, alloc: Global, text: &[char]) -> Fault<Unencodable>
-        ensures { (font : texts.Font) → IsEncoderOf font self.now → HasNoEncoding font text.now
-            → RefusesWith (λ refused. IsStuckAt font text.now refused.offset) result }
+        ensures { (IsEncodable (choices_of self.now.choices) text.now → ⊥)
+            → RefusesWith (λ refused. IsStuckBy (choices_of self.now.choices) text.now refused.offset) result }
     {
-        match stuck_at(alloc, &self.index, text) {
+        match stuck_at(alloc, &self.choices, text) {
             Ok(offset) => Fault::Refused(Unencodable { offset }),
             Err(AllocError) => Fault::Memory,
         }

@@ -6,11 +6,11 @@ ghost use Rattle.std.specs.Global.{Vec as List_of};
 ghost use Rattle.cmap_unicode.specs.Characters.{font_of};
 ghost use Rattle.cmap_encode.specs.Codes.{code_bytes};
 ghost use Rattle.cmap_encode.specs.FirstsSeen.{IsCodeRun};
-ghost use Rattle.cmap_encode.specs.IndexSeen.{AreFirstsOf, IsIndexOf, found_at};
+ghost use Rattle.cmap_encode.specs.IndexSeen.{AreFirstsOf, IsIndexOf, own_at};
 ghost use Rattle.cmap_encode.specs.TreeSeen.{step_of};
 
 use crate::by_cid::add_cids;
-use crate::code::Code;
+use crate::code::{Rank, Ranked};
 use crate::firsts::{CodeRun, Firsts};
 use crate::gathered::Gathered;
 use crate::tree::Tree;
@@ -45,10 +45,14 @@ impl Index {
     }
 
     /// The code of the text of a node and a last character. No node has no code.
-    pub(crate) fn find(&self, node: Option<usize>, last: char) -> Option<Code>
-        ensures { option_map code_bytes result ≡ found_at self.now node last }
+    pub(crate) fn find(&self, node: Option<usize>, last: char) -> Option<Ranked>
+        ensures { result ≡ own_at self.now node last }
     {
-        self.firsts.get(node?)?.as_ref()?.find(u32::from(last))
+        let code = self.firsts.get(node?)?.as_ref()?.find(u32::from(last))?;
+        Some(Ranked {
+            code,
+            rank: Rank::Stated,
+        })
     }
 
     /// The node of the text of a node and one more character.

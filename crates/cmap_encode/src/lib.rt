@@ -1,17 +1,21 @@
 //! Strings of a font that show a text, by the layers of its CMaps.
 #![tactic(auto)]
 
+mod alike;
 mod by_cid;
+mod choices;
 mod code;
 mod encoder;
 mod firsts;
-mod fronts;
 mod gathered;
 mod index;
+mod letters;
 mod outside;
+mod prefixes;
 mod runs_by_front;
 mod tree;
 mod ways;
 mod whole;
 
+pub use choices::Grade;
 pub use encoder::{Encoder, Unencodable};

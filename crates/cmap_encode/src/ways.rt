@@ -1,140 +1,144 @@
-//! How the encoding of a text begins, found from the end of the text on.
+//! How the pieces of a text begin, found from the end of the text on.
 
-ghost use Rattle.std.specs.Prelude.{◌≡◌, ◌↔◌, ◌+◌, ◌-◌, ◌≤◌, ℕ, List, IfOk, IfSome, IsTrue, MatchOption, length, take};
-ghost use Rattle.cmap_encode.specs.Encodings.{HasNoEncoding, IsEncodingOf};
-ghost use Rattle.cmap_encode.specs.IndexSeen.{IsIndexOf};
+ghost use Rattle.std.specs.Prelude.{◌≡◌, ◌↔◌, ◌+◌, ◌-◌, ◌<◌, ◌≤◌, ℕ, List, IfOk, IfSome, IsTrue, MatchOption, if◌then◌else◌, length, option_map, take};
+ghost use Rattle.cmap_encode.specs.Letters.{is_mark};
+ghost use Rattle.cmap_encode.specs.ChoicesSeen.{choice_seen, choices_of};
+ghost use Rattle.cmap_encode.specs.Encodings.{IsEncodingBy};
+ghost use Rattle.cmap_encode.specs.Pieces.{Choices as Codes, IsEncodable, letter_of};
 ghost use Rattle.cmap_encode.specs.TreeSeen.{node_of};
-ghost use Rattle.cmap_encode.specs.Ways.{AreInside, AreWays, IsBetter, IsInside, IsRestOf, IsSooner, IsSoonest, IsTryOf, IsWayOf, last_of};
-ghost use Rattle.cmap_unicode.specs.TextsOfCodes.{Font};
+ghost use Rattle.cmap_encode.specs.Ways.{AreInside, AreWays, IsInside, IsSettled, IsTryOf, IsWayOf, last_of};
 
-use crate::code::Code;
-use crate::index::Index;
+use crate::choices::{Choice, Choices};
+use crate::letters::is_mark;
 use crate::tree::EMPTY;
 use std::alloc::{AllocError, Global};
 
-/// The first code of the encoding of a text.
+/// The first piece of a text.
 #[derive(Clone, Copy)]
 pub(crate) struct Way {
-    pub(crate) code: Code,
-    /// How many characters its text has.
+    /// How many characters it has.
     pub(crate) taken: usize,
-    /// How many bytes the encoding has.
-    pub(crate) byte_len: u128,
+    /// What stands for it.
+    pub(crate) choice: Choice,
 }
 
-impl Way {
-    /// Whether the encoding that begins so comes before another one of the same text, whose first code is
-    /// another.
-    fn is_sooner(&self, other: &Way) -> bool
-        ensures { IsTrue result ↔ IsSooner self.now other.now }
-    {
-        self.byte_len < other.byte_len
-            || (self.byte_len == other.byte_len && self.code.aligned() < other.code.aligned())
-    }
-}
-
-/// The ways of the last characters of a text: of one, of two, and so on.
+/// The ways of the last characters of a text: of one, of two, and so on. Those that don't fall into pieces
+/// have none.
 pub(crate) fn all_ways(
     alloc: Global,
-    index: &Index,
+    choices: &Choices,
     text: &[char],
 ) -> Result<Vec<Option<Way>>, AllocError>
-    ensures ways { IfOk result (λ ways. (font : Font) → IsIndexOf font index.now
-        → AreWays font text.now ways.items) }
+    ensures ways { IfOk result (λ ways. AreWays (choices_of choices.now) text.now ways.items) }
     ensures count { IfOk result (λ ways. length ways.items ≡ length text.now) }
     ensures inside { IfOk result (λ ways. AreInside ways.items) }
 {
     let mut ways = Vec::with_capacity(alloc, text.len())?;
+    let mut marks = 0;
     for left in 1..text.len() + 1 {
-        ways.push(best_way(index, &ways, &text[text.len() - left..]))?;
+        let rest = &text[text.len() - left..];
+        ways.push(best_way(choices, &ways, rest, 1 + marks))?;
+        marks = marks_with(rest[0], marks);
     }
     Ok(ways)
 }
 
-/// The way of a text, by those of its last characters.
-fn best_way(index: &Index, ways: &[Option<Way>], text: &[char]) -> Option<Way>
-    requires { length ways.now + 1 ≡ length text.now }
-    ensures way { (font : Font) → IsIndexOf font index.now → AreWays font text.now ways.now
-        → IsWayOf font text.now result }
+/// How many marks there are from a character on, of which so many come after it.
+fn marks_with(character: char, after: usize) -> usize
+    requires { after < usize.MAX }
+    ensures { result ≡ (if is_mark character then 1 + after else 0) }
+{
+    if is_mark(character) { 1 + after } else { 0 }
+}
+
+/// The way of a text whose first letter has so many characters, by those of its last characters.
+fn best_way(choices: &Choices, ways: &[Option<Way>], text: &[char], letter: usize) -> Option<Way>
+    requires count { length ways.now + 1 ≡ length text.now }
+    requires letter { letter ≡ letter_of text.now }
+    ensures way { AreWays (choices_of choices.now) text.now ways.now
+        → IsWayOf (choices_of choices.now) text.now result }
     ensures inside { IfSome result (λ way. IsInside way (length text.now)) }
 {
     let mut best = None;
     let mut node = Some(EMPTY);
-    for taken in 1..index.longest.min(text.len()) + 1 {
-        if node.is_none() {
+    for taken in 1..text.len() + 1 {
+        if node.is_none() || is_settled(best, taken, letter) {
             return best;
         }
-        best = better(best, way_by(index, node, ways, text, taken));
-        node = index.after(node, text[taken - 1]);
+        best = way_by(choices, node, ways, text, taken).or(best);
+        node = choices.after(node, text[taken - 1]);
     }
     best
 }
 
-/// The way whose first code takes `taken` characters, if a string shows the text so. The node is that of the
-/// characters before the last of these.
+/// Whether no piece of so many characters or more comes before this one.
+fn is_settled(best: Option<Way>, taken: usize, letter: usize) -> bool
+    ensures { IsTrue result ↔ IsSettled best taken letter }
+{
+    match best {
+        Some(best) => best.taken <= letter && letter < taken,
+        None => false,
+    }
+}
+
+/// The way that takes so many characters, if the text falls into pieces so. The node is that of the characters
+/// before the last of these.
 fn way_by(
-    index: &Index,
+    choices: &Choices,
     node: Option<usize>,
     ways: &[Option<Way>],
     text: &[char],
     taken: usize,
 ) -> Option<Way>
-    requires node { node ≡ node_of index.now.tree (take (taken - 1) text.now) }
+    requires node { node ≡ node_of choices.now.index.tree (take (taken - 1) text.now) }
     requires some { 1 ≤ taken }
     requires within { taken ≤ length text.now }
     requires ways { length ways.now + 1 ≡ length text.now }
-    ensures way { (font : Font) → IsIndexOf font index.now → AreWays font text.now ways.now
-        → IsTryOf font taken text.now result }
-    ensures inside { IfSome result (λ way. way.taken ≡ taken) }
+    ensures way { AreWays (choices_of choices.now) text.now ways.now
+        → IsTryOf (choices_of choices.now) text.now taken result }
+    ensures taken { IfSome result (λ way. way.taken ≡ taken) }
 {
-    let code = index.find(node, text[taken - 1])?;
-    let rest = bytes_of_last(ways, text.len() - taken)?;
-    let byte_len = u128::from(code.len.count()).saturating_add(rest);
-    Some(Way {
-        code,
-        taken,
-        byte_len,
-    })
+    if !has_way(ways, text.len() - taken) {
+        return None;
+    }
+    let choice = choice_of(choices, node, text, taken)?;
+    Some(Way { taken, choice })
 }
 
-/// How many bytes the encoding of the last characters has.
-fn bytes_of_last(ways: &[Option<Way>], left: usize) -> Option<u128>
+/// What stands for the first characters of a text, so many. The node is that of the characters before the last
+/// of these.
+fn choice_of(choices: &Choices, node: Option<usize>, text: &[char], taken: usize) -> Option<Choice>
+    requires node { node ≡ node_of choices.now.index.tree (take (taken - 1) text.now) }
+    requires some { 1 ≤ taken }
+    requires within { taken ≤ length text.now }
+    ensures { option_map choice_seen result ≡ choices_of choices.now (take taken text.now) }
+{
+    let last = text[taken - 1];
+    if taken == 1 {
+        choices.one(last)
+    } else {
+        choices.longer(node, last)
+    }
+}
+
+/// Whether the last characters, so many, fall into pieces.
+fn has_way(ways: &[Option<Way>], left: usize) -> bool
     requires { left ≤ length ways.now }
-    ensures { (font : Font) (text : List ℕ) → AreWays font text ways.now
-        → IsRestOf font (last_of left text) result }
+    ensures { (choices : Codes) (text : List ℕ) → AreWays choices text ways.now
+        → IsTrue result ↔ IsEncodable choices (last_of left text) }
 {
     match left.checked_sub(1) {
-        Some(last) => Some(ways[last]?.byte_len),
-        None => Some(0),
+        Some(last) => ways[last].is_some(),
+        None => true,
     }
 }
 
-/// The better one of two ways, or the one that there is.
-fn better(best: Option<Way>, found: Option<Way>) -> Option<Way>
-    ensures { IsBetter best found result }
-{
-    match found {
-        Some(way) => Some(soonest(best, way)),
-        None => best,
-    }
-}
-
-/// The one of two ways whose encoding comes first.
-fn soonest(best: Option<Way>, way: Way) -> Way
-    ensures { IsSoonest best way result }
-{
-    match best {
-        Some(best) if !way.is_sooner(&best) => best,
-        _ => way,
-    }
-}
-
-/// The encoding that the ways lead to.
+/// The encoding to which the ways lead; or the text doesn't fall into pieces.
 pub(crate) fn string_of(alloc: Global, ways: &[Option<Way>]) -> Result<Option<Vec<u8>>, AllocError>
     requires { AreInside ways.now }
-    ensures { IfOk result (λ found. (font : Font) (text : List ℕ) → AreWays font text ways.now
+    ensures { IfOk result (λ found. (codes : Codes) (text : List ℕ) → AreWays codes text ways.now
         → length ways.now ≡ length text
-        → MatchOption found (HasNoEncoding font text) (λ string. IsEncodingOf font text string.items)) }
+        → MatchOption found (IsEncodable codes text → ⊥) (λ string. IsEncodingBy codes text string.items)) }
 {
     let mut string = Vec::new(alloc);
     let mut left = ways.len();
@@ -142,7 +146,7 @@ pub(crate) fn string_of(alloc: Global, ways: &[Option<Way>]) -> Result<Option<Ve
         let Some(way) = ways[left - 1] else {
             return Ok(None);
         };
-        way.code.push_to(&mut string)?;
+        way.choice.push_to(&mut string)?;
         left -= way.taken;
     }
     Ok(Some(string))

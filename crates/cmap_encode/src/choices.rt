@@ -1,0 +1,183 @@
+//! What stands for a piece of a text.
+
+ghost use Rattle.std.specs.Prelude.{◌≡◌, ◌++◌, ◌∷◌, [], Some, OnOk, option_and_then, option_map};
+ghost use Rattle.cmap_encode.specs.Alike.{first_given};
+ghost use Rattle.cmap_encode.specs.ChoicesSeen.{choice_seen, own_choice, owned, owned_at};
+ghost use Rattle.cmap_encode.specs.Standing as standing;
+ghost use Rattle.cmap_encode.specs.TreeSeen.{step_of};
+
+use crate::alike::{alike_to, national_of};
+use crate::code::{Code, Rank, Ranked};
+use crate::index::Index;
+use crate::letters::is_selector;
+use crate::tree::EMPTY;
+use std::alloc::AllocError;
+
+/// How well a code stands for a piece of a text, best first.
+#[derive(Clone, Copy, Debug, PartialEq, Eq)]
+pub enum Grade {
+    /// The ToUnicode CMap has the piece as the text of the code.
+    Stated,
+    /// The code has the CID that the map from Unicode gives to the character.
+    Canonical,
+    /// The collection's map to Unicode has the piece as the text of the code's CID.
+    Collection,
+    /// The code shows a text that looks or means the same; or nothing stands for a variation selector.
+    Alike,
+    /// The code is the byte of a character of ASCII that a national version of ISO 646 shows otherwise.
+    National,
+}
+
+/// What stands for a piece of a text.
+#[derive(Clone, Copy)]
+pub(crate) struct Choice {
+    /// Its code; none stands for a variation selector that no code shows.
+    pub(crate) code: Option<Code>,
+    pub(crate) grade: Grade,
+}
+
+impl Choice {
+    /// Adds the bytes of the code to a string.
+    pub(crate) fn push_to(self, string: &mut Vec<u8>) -> Result<(), AllocError>
+        ensures { OnOk result (string.new.items ≡ string.old.items ++ (choice_seen self).bytes) }
+    {
+        match self.code {
+            Some(code) => code.push_to(string),
+            None => Ok(()),
+        }
+    }
+}
+
+/// What stands for pieces of texts: the codes of an index, and where it has none, those of characters alike.
+#[derive(Drop)]
+pub(crate) struct Choices {
+    pub(crate) index: Index,
+    /// Whether nothing stands for a text but codes that are read as that text.
+    pub(crate) exact: bool,
+}
+
+impl Choices {
+    /// What stands for a character.
+    pub(crate) fn one(&self, character: char) -> Option<Choice>
+        ensures { option_map choice_seen result
+            ≡ standing.one (owned self.now.index) self.now.exact character }
+    {
+        if is_no_character(character) {
+            return None;
+        }
+        match self.longer(Some(EMPTY), character) {
+            Some(own) => Some(own),
+            None => self.other(character),
+        }
+    }
+
+    /// What stands for the text of a node and a last character, if that has more than one. Nothing stands
+    /// for the text of no node.
+    pub(crate) fn longer(&self, node: Option<usize>, last: char) -> Option<Choice>
+        ensures { option_map choice_seen result ≡ owned_at self.now.index node last }
+    {
+        Some(self.index.find(node, last)?.choice())
+    }
+
+    /// What stands for a character that has no code of its own.
+    fn other(&self, character: char) -> Option<Choice>
+        ensures { option_map choice_seen result
+            ≡ standing.other (owned self.now.index) self.now.exact character }
+    {
+        if self.exact {
+            return None;
+        }
+        match self.alike(character) {
+            Some(alike) => Some(alike),
+            None => self.national(character).or(selector(character)),
+        }
+    }
+
+    /// The code of the first character that is alike and has one.
+    fn alike(&self, character: char) -> Option<Choice>
+        ensures { option_map choice_seen result
+            ≡ standing.alike (owned self.now.index) self.now.exact character }
+    {
+        let own = self.first_own(alike_to(character))?;
+        Some(Choice {
+            code: Some(own.code),
+            grade: Grade::Alike,
+        })
+    }
+
+    /// The code of the first of these characters that has one.
+    fn first_own(&self, characters: &[char]) -> Option<Ranked>
+        ensures { option_map own_choice result
+            ≡ first_given (λ one. owned self.now.index (one ∷ [])) characters.now }
+    {
+        for character in characters {
+            if let Some(own) = self.index.find(Some(EMPTY), *character) {
+                return Some(own);
+            }
+        }
+        None
+    }
+
+    /// The byte of the character, as the code of one that national versions of ISO 646 show by it.
+    fn national(&self, character: char) -> Option<Choice>
+        ensures { option_map choice_seen result
+            ≡ standing.national (owned self.now.index) self.now.exact character }
+    {
+        self.first_national(character, national_of(character))
+    }
+
+    /// The byte of the character, as the code of the first of these whose code it is.
+    fn first_national(&self, character: char, others: &[char]) -> Option<Choice>
+        ensures { option_map choice_seen result ≡ first_given
+            (λ other. standing.national_as character (owned self.now.index (other ∷ []))) others.now }
+    {
+        for other in others {
+            if let Some(national) = self.national_by(character, *other) {
+                return Some(national);
+            }
+        }
+        None
+    }
+
+    /// The byte of the character, as the code of this one.
+    fn national_by(&self, character: char, other: char) -> Option<Choice>
+        ensures { option_map choice_seen result
+            ≡ standing.national_as character (owned self.now.index (other ∷ [])) }
+    {
+        let own = self.index.find(Some(EMPTY), other)?;
+        if !own.code.is_byte(character) {
+            return None;
+        }
+        Some(Choice {
+            code: Some(own.code),
+            grade: Grade::National,
+        })
+    }
+
+    /// The node of the text of this one and a character.
+    pub(crate) fn after(&self, node: Option<usize>, character: char) -> Option<usize>
+        ensures { result ≡ option_and_then (λ n. step_of self.now.index.tree n character) node }
+    {
+        self.index.after(node, character)
+    }
+}
+
+/// Nothing needs to stand for a variation selector.
+fn selector(character: char) -> Option<Choice>
+    ensures { option_map choice_seen result ≡ standing.selector character }
+{
+    if !is_selector(character) {
+        return None;
+    }
+    Some(Choice {
+        code: None,
+        grade: Grade::Alike,
+    })
+}
+
+/// Whether a text of this character says no more than that there is no character.
+fn is_no_character(character: char) -> bool
+    ensures { result ≡ standing.is_no_character character }
+{
+    matches!(character, '\0' | '\u{FFFD}' | '\u{FFFF}')
+}

@@ -1,0 +1,119 @@
+//! How much of a text falls into pieces.
+
+ghost use Rattle.std.specs.Prelude.{◌≡◌, ◌↔◌, ◌≤◌, IfOk, IsTrue, List, [], flat_map, if◌then◌else◌, length};
+ghost use Rattle.std.specs.Char.{encode_utf8};
+ghost use Rattle.cmap_encode.specs.ChoicesSeen.{choices_of};
+ghost use Rattle.cmap_encode.specs.Encodings.{IsLongestEncodable, IsStuckBy};
+ghost use Rattle.cmap_encode.specs.Pieces.{IsEncodable};
+ghost use Rattle.cmap_encode.specs.Prefixes.{EndsFrom, EndsPiece, WentOn};
+
+use crate::choices::Choices;
+use crate::tree::EMPTY;
+use std::alloc::{AllocError, Global};
+
+/// Where the longest prefix of a text ends that falls into pieces, in bytes of UTF-8.
+pub(crate) fn stuck_at(alloc: Global, choices: &Choices, text: &[char]) -> Result<usize, AllocError>
+    ensures { IfOk result (λ offset. (IsEncodable (choices_of choices.now) text.now → ⊥)
+        → IsStuckBy (choices_of choices.now) text.now offset) }
+{
+    let count = longest_prefix(alloc, choices, text)?;
+    utf8_len(alloc, &text[..count])
+}
+
+/// How many bytes characters have in UTF-8.
+fn utf8_len(alloc: Global, text: &[char]) -> Result<usize, AllocError>
+    ensures { IfOk result (λ len. len ≡ length (flat_map encode_utf8 text.now)) }
+{
+    let mut written = String::new(alloc);
+    for character in text {
+        written.push(*character)?;
+    }
+    Ok(written.len())
+}
+
+/// How many characters the longest prefix of a text has that falls into pieces.
+///
+/// Once no piece may begin, and none goes on, no longer prefix does.
+pub(crate) fn longest_prefix(
+    alloc: Global,
+    choices: &Choices,
+    text: &[char],
+) -> Result<usize, AllocError>
+    ensures { IfOk result (IsLongestEncodable (choices_of choices.now) text.now) }
+{
+    let mut nodes = Vec::new(alloc);
+    let mut may_begin = true;
+    let mut longest = 0;
+    for count in 0..text.len() {
+        if !may_begin && nodes.is_empty() {
+            return Ok(longest);
+        }
+        let ends = ends_piece(choices, may_begin, &nodes, text[count]);
+        nodes = go_on(alloc, choices, may_begin, &nodes, text[count])?;
+        may_begin = ends;
+        longest = longer(ends, count + 1, longest);
+    }
+    Ok(longest)
+}
+
+/// The longest prefix so far, after one more that is longer.
+fn longer(falls: bool, count: usize, longest: usize) -> usize
+    ensures { result ≡ (if falls then count else longest) }
+{
+    if falls { count } else { longest }
+}
+
+/// Whether a character ends a piece: one that begins with it, if one may, or one that goes on from a node.
+fn ends_piece(choices: &Choices, may_begin: bool, nodes: &[usize], last: char) -> bool
+    ensures { IsTrue result ↔ EndsPiece choices.now may_begin nodes.now last }
+{
+    (may_begin && choices.one(last).is_some()) || ends_from(choices, nodes, last)
+}
+
+/// Whether a character ends a piece that goes on from a node.
+fn ends_from(choices: &Choices, nodes: &[usize], last: char) -> bool
+    ensures { IsTrue result ↔ EndsFrom choices.now nodes.now last }
+{
+    for node in nodes {
+        if choices.longer(Some(*node), last).is_some() {
+            return true;
+        }
+    }
+    false
+}
+
+/// The nodes after one more character, and that of the character itself if a piece may begin with it.
+fn go_on(
+    alloc: Global,
+    choices: &Choices,
+    may_begin: bool,
+    nodes: &[usize],
+    character: char,
+) -> Result<Vec<usize>, AllocError>
+    ensures { IfOk result
+        (λ after. WentOn choices.now character may_begin nodes.now after.items) }
+{
+    let mut after = begun(alloc, choices, may_begin, character)?;
+    for node in nodes {
+        if let Some(next) = choices.after(Some(*node), character) {
+            after.push(next)?;
+        }
+    }
+    Ok(after)
+}
+
+/// The node of a character, if a piece may begin with it.
+fn begun(
+    alloc: Global,
+    choices: &Choices,
+    may_begin: bool,
+    character: char,
+) -> Result<Vec<usize>, AllocError>
+    ensures { IfOk result (λ after. WentOn choices.now character may_begin [] after.items) }
+{
+    let mut after = Vec::new(alloc);
+    if may_begin && let Some(next) = choices.after(Some(EMPTY), character) {
+        after.push(next)?;
+    }
+    Ok(after)
+}
