@@ -19,3 +19,4 @@ pub mod RunsAdded
 pub mod GatheredFound
 pub mod CidsAdded
 pub mod GatheredRows
+pub mod GlyphsFound
