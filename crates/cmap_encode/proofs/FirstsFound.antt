@@ -14,15 +14,18 @@ use Rattle.cmap_values.specs.declared.code_length.CodeLength.{CodeLength}
 use Rattle.cmap_values.specs.declared.code_length.CodeLength.TheVariants.{One, Two, Three, Four}
 use Rattle.cmap_encode.specs.CodeRuns.{run_span}
 use Rattle.cmap_encode.specs.Codes.{bytes_of, code_bytes}
-use Rattle.cmap_encode.specs.Encodings.{IsNotAfter}
-use Rattle.cmap_encode.specs.FirstsSeen.{AreFirsts, Gives, IsCodeRun, IsFirstGiven, IsKeyStretch, code_at, rank_of}
-use Rattle.cmap_encode.specs.declared.code.Code.{Code}
+use Rattle.cmap_encode.specs.Strings.{IsNotAfter}
+use Rattle.cmap_encode.specs.FirstsSeen.{AreFirsts, Gives, IsCodeRun, IsFirstGiven, IsKeyStretch, code_at, precedence_of}
+use Rattle.cmap_encode.specs.Ranks.{Candidate, IsNoLater, candidate_of, place_of}
 use Rattle.cmap_encode.specs.declared.firsts.CodeRun.{CodeRun}
+use Rattle.cmap_encode.specs.declared.rank.Rank.{Rank}
+use Rattle.cmap_encode.specs.declared.rank.Rank.TheVariants.{Stated, Collection}
+use Rattle.cmap_encode.specs.declared.rank.Ranked.{Ranked}
 use Rattle.cmap_encode.proofs.Numbers.{are_bytes_of, code_count, code_string, lesser_first}
 use Rattle.cmap_encode.proofs.Order.{not_after_itself}
 
--- ---- of two runs that have a key, the one of the higher rank gives the earlier code
-pub code_fits : (run : CodeRun) (key : ℕ) → IsCodeRun run → run.range.start ≤ key → key ≤ run.range.end → (code_at run key).number < 256 ^ length_of run.code.len
+-- ---- of two runs that have a key, the one of the higher precedence gives the earlier code
+pub code_fits : (run : CodeRun) (key : ℕ) → IsCodeRun run → run.range.start ≤ key → key ≤ run.range.end → (code_at run key).code.number < 256 ^ length_of run.first.code.len
 code_fits run key is from to = omega (arith, is.fits)
 
 below_length : (len : CodeLength) (number : ℕ) → number < 256 ^ length_of len → (number < 2 ^ 32) × (1 ≤ length_of len) × (length_of len ≤ 4)
@@ -31,30 +34,48 @@ below_length Two number fits = (omega arith, omega arith, omega arith)
 below_length Three number fits = (omega arith, omega arith, omega arith)
 below_length Four number fits = (omega arith, omega arith, omega arith)
 
-pub higher_first : (first other : CodeRun) (key : ℕ) → IsCodeRun first → IsCodeRun other → first.range.start ≤ key → key ≤ first.range.end → other.range.start ≤ key → key ≤ other.range.end → rank_of other ≤ rank_of first
-    → IsNotAfter (code_bytes (code_at first key)) (code_bytes (code_at other key))
-higher_first first other key is is_too from to from_too to_too rank =
-    let few = below_length first.code.len (code_at first key).number (code_fits first key is from to) in
-    let few_too = below_length other.code.len (code_at other key).number (code_fits other key is_too from_too to_too) in
-    let count = code_count (code_at first key) in
-    let count_too = code_count (code_at other key) in
+few_places : (rank : Rank) → place_of rank ≤ 1
+few_places Stated = omega arith
+few_places Collection = omega arith
+
+pub higher_first : (first other : CodeRun) (key : ℕ) → IsCodeRun first → IsCodeRun other → first.range.start ≤ key → key ≤ first.range.end → other.range.start ≤ key → key ≤ other.range.end → precedence_of other ≤ precedence_of first
+    → IsNoLater (candidate_of (code_at first key)) (candidate_of (code_at other key))
+higher_first first other key is is_too from to from_too to_too precedence =
+    let few = below_length first.first.code.len (code_at first key).code.number (code_fits first key is from to) in
+    let few_too = below_length other.first.code.len (code_at other key).code.number (code_fits other key is_too from_too to_too) in
+    let place = few_places first.first.rank in
+    let place_too = few_places other.first.rank in
     let first_keys = is.keys in
     let other_keys = is_too.keys in
-    elim (cases_order (length_of first.code.len) (length_of other.code.len)) [
-      | inl same ↦
-          elim (cases_order (code_at first key).number (code_at other key).number) [
-            | inl equal ↦
-                let bytes : code_bytes (code_at first key) ≡ code_bytes (code_at other key) = ap (λ len. bytes_of len (code_at first key).number) same ∙ ap (bytes_of (length_of other.code.len)) equal in
-                subst (IsNotAfter (code_bytes (code_at first key))) bytes (not_after_itself (code_bytes (code_at first key)))
-            | inr (inl less) ↦
-                let writes = (are_bytes_of first.code.len (code_at first key).number (code_fits first key is from to)).writes in
-                let writes_too = (are_bytes_of other.code.len (code_at other key).number (code_fits other key is_too from_too to_too)).writes in
-                lesser_first (code_bytes (code_at first key)) (code_bytes (code_at other key)) (code_string (code_at first key)) (code_string (code_at other key)) (count ∙ same ∙ sym count_too) (omega (arith, writes, writes_too))
-            | inr (inr more) ↦ absurd (omega (arith, same))
-          ]
-      | inr (inl shorter) ↦ inl (omega (arith, count, count_too))
-      | inr (inr longer) ↦ absurd (omega arith)
+    elim (cases_order (place_of first.first.rank) (place_of other.first.rank)) [
+      | inl same ↦ inr (same, as_ranked same)
+      | inr (inl better) ↦ inl better
+      | inr (inr worse) ↦ absurd (omega arith)
     ]
+  where
+    as_ranked : place_of first.first.rank ≡ place_of other.first.rank → IsNotAfter (code_bytes (code_at first key).code) (code_bytes (code_at other key).code)
+    as_ranked ranks =
+        let few = below_length first.first.code.len (code_at first key).code.number (code_fits first key is from to) in
+        let few_too = below_length other.first.code.len (code_at other key).code.number (code_fits other key is_too from_too to_too) in
+        let count = code_count (code_at first key).code in
+        let count_too = code_count (code_at other key).code in
+        let first_keys = is.keys in
+        let other_keys = is_too.keys in
+        elim (cases_order (length_of first.first.code.len) (length_of other.first.code.len)) [
+          | inl same ↦
+              elim (cases_order (code_at first key).code.number (code_at other key).code.number) [
+                | inl equal ↦
+                    let bytes : code_bytes (code_at first key).code ≡ code_bytes (code_at other key).code = ap (λ len. bytes_of len (code_at first key).code.number) same ∙ ap (bytes_of (length_of other.first.code.len)) equal in
+                    subst (IsNotAfter (code_bytes (code_at first key).code)) bytes (not_after_itself (code_bytes (code_at first key).code))
+                | inr (inl less) ↦
+                    let writes = (are_bytes_of first.first.code.len (code_at first key).code.number (code_fits first key is from to)).writes in
+                    let writes_too = (are_bytes_of other.first.code.len (code_at other key).code.number (code_fits other key is_too from_too to_too)).writes in
+                    lesser_first (code_bytes (code_at first key).code) (code_bytes (code_at other key).code) (code_string (code_at first key).code) (code_string (code_at other key).code) (count ∙ same ∙ sym count_too) (omega (arith, writes, writes_too))
+                | inr (inr more) ↦ absurd (omega (arith, same, ranks))
+              ]
+          | inr (inl shorter) ↦ inl (omega (arith, count, count_too))
+          | inr (inr longer) ↦ absurd (omega (arith, ranks))
+        ]
 
 -- ---- the last of the runs that contain a key
 contained : (run : CodeRun) (key : ℕ) → run.range.start ≤ key → key ≤ run.range.end → contains (run_span run) key ≡ true
@@ -104,37 +125,37 @@ module _ (runs : List CodeRun) (key : ℕ) where
   pub no_run : last_of run_span runs key ≡ None → (index : ℕ) (run : CodeRun) → slice_get runs index ≡ Some run → run.range.start ≤ key → key ≤ run.range.end → ⊥
   no_run is = none_found (last_index (map run_span runs) key) (is_last (map run_span runs) key) is
 
--- ---- a list in the order of ranks
-module _ (runs firsts : List CodeRun) (are : All IsCodeRun firsts) (moved : IsPermutation runs firsts) (order : IsNonDecreasingBy rank_of firsts) (key : ℕ) where
+-- ---- a list in the order of precedence
+module _ (runs firsts : List CodeRun) (are : All IsCodeRun firsts) (moved : IsPermutation runs firsts) (order : IsNonDecreasingBy precedence_of firsts) (key : ℕ) where
   -- a code that a run gives, by a run of the other list
-  given : (from to : List CodeRun) (bytes : List ℕ) → IsPermutation from to → Any (Gives key bytes) from → Any (Gives key bytes) to
-  given from to bytes perm (k, run, lt, at, gives) = let (j, below, is) = Contains-permutation from to run perm (k, lt, at) in (j, run, below, is, gives)
+  given : (from to : List CodeRun) (one : Candidate) → IsPermutation from to → Any (Gives key one) from → Any (Gives key one) to
+  given from to one perm (k, run, lt, at, gives) = let (j, below, is) = Contains-permutation from to run perm (k, lt, at) in (j, run, below, is, gives)
 
-  found : (last : Option CodeRun) → last_of run_span firsts key ≡ last → IsFirstGiven runs key (option_map code_bytes (option_map (λ run. code_at run key) last))
-  found None none = λ bytes gives.
-      let (k, run, lt, at, its) = given runs firsts bytes moved gives in
+  found : (last : Option CodeRun) → last_of run_span firsts key ≡ last → IsFirstGiven runs key (option_map candidate_of (option_map (λ run. code_at run key) last))
+  found None none = λ one gives.
+      let (k, run, lt, at, its) = given runs firsts one moved gives in
       no_run firsts key none k run (slice_get-get_or firsts k run lt ∙ ap Some at) its.0 its.1
   found (Some run) some =
       let last = last_run firsts key run some in
       let lt = slice_get_within firsts last.index run last.at in
       let here = get_or_from_slice_get firsts last.index run run last.at in (
-        given firsts runs (code_bytes (code_at run key)) (IsPermutation-sym runs firsts moved) (last.index, run, lt, here, (last.from, last.to, refl)),
+        given firsts runs (candidate_of (code_at run key)) (IsPermutation-sym runs firsts moved) (last.index, run, lt, here, (last.from, last.to, refl)),
         λ other gives.
             let (k, its, below, at, gives_it) = given runs firsts other moved gives in
             let before : k ≤ last.index = last.last k its (slice_get-get_or firsts k its below ∙ ap Some at) gives_it.0 gives_it.1 in
             let is_first : IsCodeRun run = subst IsCodeRun here (are last.index run lt) in
             let is_other : IsCodeRun its = subst IsCodeRun at (are k its below) in
-            let its_rank : get_or firsts k run ≡ its = get_or_from_slice_get firsts k its run (slice_get-get_or firsts k its below ∙ ap Some at) in
-            let rank : rank_of its ≤ rank_of run = subst (λ r. rank_of r ≤ rank_of run) its_rank (subst (λ r. rank_of (get_or firsts k run) ≤ rank_of r) here (order k last.index run before lt)) in
-            subst (IsNotAfter (code_bytes (code_at run key))) (sym gives_it.2) (higher_first run its key is_first is_other last.from last.to gives_it.0 gives_it.1 rank),
+            let its_place : get_or firsts k run ≡ its = get_or_from_slice_get firsts k its run (slice_get-get_or firsts k its below ∙ ap Some at) in
+            let precedence : precedence_of its ≤ precedence_of run = subst (λ r. precedence_of r ≤ precedence_of run) its_place (subst (λ r. precedence_of (get_or firsts k run) ≤ precedence_of r) here (order k last.index run before lt)) in
+            subst (IsNoLater (candidate_of (code_at run key))) (sym gives_it.2) (higher_first run its key is_first is_other last.from last.to gives_it.0 gives_it.1 precedence),
       )
 
-pub are_firsts : (runs firsts : List CodeRun) → All IsCodeRun firsts → IsPermutation runs firsts → IsNonDecreasingBy rank_of firsts → AreFirsts runs firsts
+pub are_firsts : (runs firsts : List CodeRun) → All IsCodeRun firsts → IsPermutation runs firsts → IsNonDecreasingBy precedence_of firsts → AreFirsts runs firsts
 are_firsts runs firsts are moved order = λ key. found runs firsts are moved order key (last_of run_span firsts key) refl
 
 -- ---- keys in a row that one run gives their codes, or none
 module _ (firsts : List CodeRun) (first last : ℕ) (le : first ≤ last) where
-  key_stretch_of : (run : Option CodeRun) → All IsCodeRun firsts → IsStretch run_span firsts first last run → IsKeyStretch firsts first (record { code = option_map (λ run. code_at run first) run; last = last })
+  key_stretch_of : (run : Option CodeRun) → All IsCodeRun firsts → IsStretch run_span firsts first last run → IsKeyStretch firsts first (record { first = option_map (λ run. code_at run first) run; last = last })
   key_stretch_of None are same = record {
     within = le;
     codes = λ count to. ap (option_map (λ run. code_at run (first + count))) (same (first + count) (omega arith) to);
@@ -149,10 +170,10 @@ module _ (firsts : List CodeRun) (first last : ℕ) (le : first ≤ last) where
       record {
         within = le;
         codes = λ count to.
-            let number : run.code.number + (first + count - run.range.start) ≡ run.code.number + (first - run.range.start) + count = omega arith in
-            ap (option_map (λ run. code_at run (first + count))) (same (first + count) (omega arith) to) ∙ ap (λ n. Some (record { number = n; len = run.code.len })) number;
+            let number : run.first.code.number + (first + count - run.range.start) ≡ run.first.code.number + (first - run.range.start) + count = omega arith in
+            ap (option_map (λ run. code_at run (first + count))) (same (first + count) (omega arith) to) ∙ ap (λ n. Some (record { code = record { number = n; len = run.first.code.len }; rank = run.first.rank })) number;
         fits = omega (arith, is.fits);
       }
 
-  pub key_stretch : (run : Option CodeRun) (code : Option Code) → All IsCodeRun firsts → IsStretch run_span firsts first last run → code ≡ option_map (λ run. code_at run first) run → IsKeyStretch firsts first (record { code = code; last = last })
-  key_stretch run code are same is = subst (λ (code : Option Code). IsKeyStretch firsts first (record { code = code; last = last })) (sym is) (key_stretch_of run are same)
+  pub key_stretch : (run : Option CodeRun) (ranked : Option Ranked) → All IsCodeRun firsts → IsStretch run_span firsts first last run → ranked ≡ option_map (λ run. code_at run first) run → IsKeyStretch firsts first (record { first = ranked; last = last })
+  key_stretch run ranked are same is = subst (λ (ranked : Option Ranked). IsKeyStretch firsts first (record { first = ranked; last = last })) (sym is) (key_stretch_of run are same)

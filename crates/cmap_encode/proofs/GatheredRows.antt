@@ -1,40 +1,40 @@
--- Codes in a row with texts, or with CIDs, gathered.
+-- Codes in a row with texts, or with glyphs, gathered.
 use Rattle.std.proofs.Common.{◌≡◌, ℕ, ◌+◌, ◌-◌, ◌^◌, ◌<◌, ◌≤◌, ◌⊎◌, Bool, true, false, List, [], ◌∷◌, ◌++◌, length, Option, Some, None, refl, sym, ap, ◌∙◌, subst, inl, inr, arith}
-use Rattle.std.specs.Prelude.{is_some, not, option_and_then}
+use Rattle.std.specs.Prelude.{◌↔◌, All, Any, IsSome, not}
 use Rattle.std.specs.Bool.{MatchBool}
-use Rattle.std.specs.Option.{option_or}
-use Rattle.std.proofs.lemmas.Bool.{cases_lt}
+use Rattle.std.proofs.lemmas.Bool.{false≢true}
 use Rattle.std.proofs.lemmas.List.Quantifiers.{Any-push}
 use Rattle.std.proofs.lemmas.Option.{none-some, same_Some}
-use Rattle.cmap_layers.specs.CodeStretches.{cid_after}
-use Rattle.cmap_layers.specs.declared.stretches.Cids.{Cids}
-use Rattle.cmap_layers.specs.declared.stretches.Cids.TheVariants.{Absent}
 use Rattle.cmap_tokens.specs.Texts.{Text}
-use Rattle.cmap_tokens.specs.TextSeen.{text_seen}
-use Rattle.cmap_tokens.specs.declared.utf16.BfString.{BfString}
 use Rattle.cmap_unicode.specs.Characters.{characters_of}
-use Rattle.cmap_unicode.specs.Cids.{declared_cid}
 use Rattle.cmap_unicode.specs.CountedTexts.{text_after}
-use Rattle.cmap_unicode.specs.TextRows.{AreTexts, its_text}
-use Rattle.cmap_unicode.specs.TextsOfCodes.{Font, IsTextOf, by_cid, by_code, text_in}
-use Rattle.cmap_unicode.specs.declared.rows.TextRow.{TextRow}
-use Rattle.cmap_unicode.proofs.OneText.{one_text}
+use Rattle.cmap_unicode.specs.Given.{given}
+use Rattle.cmap_unicode.specs.TextsOfCodes.{text_in}
 use Rattle.cmap_values.specs.BigEndian.{big_endian}
 use Rattle.cmap_values.specs.CodeLengths.{length_of}
-use Rattle.cmap_encode.specs.Codes.{IsCodeOf, IsWhole, code_bytes}
-use Rattle.cmap_encode.specs.Encodings.{IsNotAfter, IsString}
-use Rattle.cmap_encode.specs.FirstsSeen.{Gives, code_after}
-use Rattle.cmap_encode.specs.GatheredSeen.{GivesCode, HasNoTexts, HaveCids, IsGathered, IsTextOfCid}
-use Rattle.cmap_encode.specs.RunsSeen.{AddsTexts, IsFurther}
+use Rattle.cmap_encode.specs.Codes.{IsBetween, IsWhole, code_bytes}
+use Rattle.cmap_encode.specs.Strings.{IsString}
+use Rattle.cmap_encode.specs.FirstsSeen.{Gives, IsCodeRun}
+use Rattle.cmap_encode.specs.GatheredSeen.{AreGathered, AreJust, AreShown, HasNoTexts, HasTexts, HaveGlyphs, IsSilentOne, IsStatedOne}
+use Rattle.cmap_encode.specs.GlyphsSeen.{AreGlyphs, IsDeclaredSo, glyph_after}
+use Rattle.cmap_encode.specs.Maps.{Maps, glyph_of}
+use Rattle.cmap_encode.specs.Ranks.{Candidate, candidate_of, code_after, ranked_after}
+use Rattle.cmap_encode.specs.RunsSeen.{AddsTexts, AreRunsByFront, GivesText, IsFurther}
+use Rattle.cmap_encode.specs.StandsFor.{IsShown, IsSilent, IsStated}
 use Rattle.cmap_encode.specs.WholeSeen.{AreWhole}
 use Rattle.cmap_encode.specs.declared.code.Code.{Code}
 use Rattle.cmap_encode.specs.declared.firsts.CodeRun.{CodeRun}
+use Rattle.cmap_encode.specs.declared.gathered.Gathered.{Gathered}
+use Rattle.cmap_encode.specs.declared.glyphs.Glyphs.{Glyphs}
+use Rattle.cmap_encode.specs.declared.glyphs.Glyphs.TheVariants.{CountOn, Missing, Undeclared}
+use Rattle.cmap_encode.specs.declared.glyphs.GlyphStretch.{GlyphStretch}
+use Rattle.cmap_encode.specs.declared.rank.Rank.{Rank}
+use Rattle.cmap_encode.specs.declared.rank.Rank.TheVariants.{Collection, Stated}
+use Rattle.cmap_encode.specs.declared.rank.Ranked.{Ranked}
 use Rattle.cmap_encode.specs.declared.runs_by_front.RunsByFront.{RunsByFront}
 use Rattle.cmap_encode.specs.declared.whole.WholeStretch.{WholeStretch}
-use Rattle.cmap_encode.proofs.CidsAdded.{no_text_in_row, text_in_row}
-use Rattle.cmap_encode.proofs.Gathering.{more_gathered, none_more}
-use Rattle.cmap_encode.proofs.Numbers.{AreBytesOf, are_bytes_of, fits_length, lesser_first, one_string}
-use Rattle.cmap_encode.proofs.Order.{not_after_itself}
+use Rattle.cmap_encode.proofs.Gathering.{length_gathered, more_gathered, none_gathered, none_more}
+use Rattle.cmap_encode.proofs.Numbers.{AreBytesOf, are_bytes_of, fits_length, one_string}
 use Rattle.cmap_encode.proofs.RunsAdded.{any_kept, any_split}
 
 whole_by : (b : Bool) (Whole : Type 0) → b ≡ true → MatchBool b Whole (Whole → ⊥) → Whole
@@ -45,176 +45,223 @@ not_whole_by : (b : Bool) (Whole : Type 0) → b ≡ false → MatchBool b Whole
 not_whole_by true Whole is whole = cc
 not_whole_by false Whole is whole = whole
 
-module _ (font : Font) (code : Code) (whole : WholeStretch) (are_whole : AreWhole font.encoding (length_of code.len) code.number whole) where
-  abbrev len : ℕ
-  len = length_of code.len
-
-  -- codes that aren't whole
-  pub passed_over : (Given : List ℕ → List ℕ → Type 0) → whole.are_whole ≡ false → IsGathered font len code.number Given → IsGathered font len (whole.last + 1) Given
-  passed_over Given not = none_more font len code.number (whole.last + 1) Given (λ text bytes are long from less is. not_whole_by whole.are_whole (IsWhole font.encoding bytes) not (are_whole bytes are long from (omega arith)) is.whole)
-
-  module _ (is : whole.are_whole ≡ true) (fits : whole.last < 256 ^ len) where
-    bytes_at : (count : ℕ) → code.number + count ≤ whole.last → AreBytesOf len (code.number + count) (code_bytes (code_after count code))
-    bytes_at count within = are_bytes_of code.len (code.number + count) (omega arith)
-
-    whole_at : (count : ℕ) → code.number + count ≤ whole.last → IsWhole font.encoding (code_bytes (code_after count code))
-    whole_at count within =
-        let at = bytes_at count within in
-        whole_by whole.are_whole (IsWhole font.encoding (code_bytes (code_after count code))) is (are_whole (code_bytes (code_after count code)) at.string at.count (omega (arith, at.writes)) (omega (arith, at.writes)))
-
-    -- a code of the row with a text
-    code_at : (count : ℕ) (its : Text) (text : List ℕ) → code.number + count ≤ whole.last → IsTextOf font (code.number + count) len (Some its) → characters_of its ≡ text → IsCodeOf font text (code_bytes (code_after count code))
-    code_at count its text within is_text characters =
-        let at = bytes_at count within in
-        record {
-          whole = whole_at count within;
-          its = its;
-          is_text = subst (λ n. IsTextOf font n (length (code_bytes (code_after count code))) (Some its)) (sym at.writes) (subst (λ n. IsTextOf font (code.number + count) n (Some its)) (sym at.count) is_text);
-          characters = characters;
-        }
-
-    -- its bytes are the only ones
-    its_bytes : (count : ℕ) (bytes : List ℕ) → code.number + count ≤ whole.last → IsString bytes → length bytes ≡ len → big_endian bytes ≡ code.number + count → bytes ≡ code_bytes (code_after count code)
-    its_bytes count bytes within are long same =
-        let at = bytes_at count within in let (some, few) = fits_length code.len in
-        one_string (code_bytes (code_after count code)) bytes at.string are (omega (arith, at.count)) (omega (arith, at.count)) (omega (arith, at.count)) (omega (arith, at.writes))
-
-    -- its text
-    its_there : (count : ℕ) (bytes text : List ℕ) → length bytes ≡ len → big_endian bytes ≡ code.number + count → (has : IsCodeOf font text bytes) → its_text font len (code.number + count) ≡ Some has.its
-    its_there count bytes text long same has =
-        let is_text = subst (λ n. IsTextOf font n len (Some has.its)) same (subst (λ n. IsTextOf font (big_endian bytes) n (Some has.its)) long has.is_text) in
-        sym ((one_text font (code.number + count) len (its_text font len (code.number + count)) refl).alone (Some has.its) is_text)
-
-    -- ---- texts of the ToUnicode CMap
-    module _ (row : TextRow) (text : BfString) (further : ℕ) (are : AreTexts (text_in font.to_unicode) code.number row) (some : row.text ≡ Some text) (counts : row.counts_on ≡ true) (in_row : code.number + further ≤ row.last) (in_whole : code.number + further ≤ whole.last)
-        (old new : RunsByFront) (cids : List CodeRun) (adds : AddsTexts old new (text_seen text) code further) where
-      text_at : (count : ℕ) → count ≤ further → text_in font.to_unicode (code.number + count) ≡ Some (text_after (text_seen text) count)
-      text_at count within = text_in_row (text_in font.to_unicode) code.number count row text are some counts (omega arith)
-
-      its_at : (count : ℕ) → count ≤ further → its_text font len (code.number + count) ≡ Some (text_after (text_seen text) count)
-      its_at count within = ap (λ o. option_or o (option_and_then (text_in font.collection) (declared_cid font.encoding (code.number + count) len))) (text_at count within)
-
-      of_further : (one bytes : List ℕ) → IsFurther (text_seen text) code further one bytes → IsString bytes × IsCodeOf font one bytes
-      of_further one bytes at =
-          let within = at.within in
-          let its = text_after (text_seen text) at.count in
-          let has = code_at at.count its one (omega arith) (by_code its (text_at at.count within)) (sym at.is_text) in
-          (subst IsString (sym at.is_code) (bytes_at at.count (omega arith)).string, subst (IsCodeOf font one) (sym at.is_code) has)
-
-      only_texts : (one bytes : List ℕ) → GivesCode font.collection new cids one bytes → GivesCode font.collection old cids one bytes ⊎ (IsString bytes × IsCodeOf font one bytes)
-      only_texts one bytes (inr by_its_cid) = inl (inr by_its_cid)
-      only_texts one bytes (inl given) = elim ((adds one bytes).0 given) [ inl before ↦ inl (inl before) | inr at ↦ inr (of_further one bytes at) ]
-
-      kept_texts : (one bytes : List ℕ) → GivesCode font.collection old cids one bytes → GivesCode font.collection new cids one bytes
-      kept_texts one bytes (inl given) = inl ((adds one bytes).1 (inl given))
-      kept_texts one bytes (inr by_its_cid) = inr by_its_cid
-
-      row_texts : (one bytes : List ℕ) → IsString bytes → length bytes ≡ len → code.number ≤ big_endian bytes → big_endian bytes < code.number + further + 1 → IsCodeOf font one bytes → (first : List ℕ) × GivesCode font.collection new cids one first × IsNotAfter first bytes
-      row_texts one bytes bytes_are long from less has =
-          let count = big_endian bytes - code.number in
-          let within : count ≤ further = omega arith in
-          let at : big_endian bytes ≡ code.number + count = omega arith in
-          let its = same_Some (text_after (text_seen text) count) has.its (sym (its_at count within) ∙ its_there count bytes one long at has) in
-          (bytes, inl ((adds one bytes).1 (inr (record { count = count; within = within; is_text = sym has.characters ∙ ap characters_of (sym its); is_code = its_bytes count bytes (omega arith) bytes_are long at }))), not_after_itself bytes)
-
-      pub texts_gathered : IsGathered font len code.number (GivesCode font.collection old cids) → IsGathered font len (code.number + further + 1) (GivesCode font.collection new cids)
-      texts_gathered = more_gathered font len code.number (code.number + further + 1) (GivesCode font.collection old cids) (GivesCode font.collection new cids) kept_texts only_texts row_texts
-
-    -- ---- CIDs, where it has no texts
-    module _ (last cid further : ℕ) (step : ℕ → ℕ) (run : CodeRun) (none : HasNoTexts font.to_unicode code.number last) (first : run.code ≡ code) (start : run.range.start ≡ cid) (end : run.range.end ≡ cid + further)
-        (in_whole : code.number + further ≤ whole.last) (in_last : code.number + further ≤ last) (steps : (count : ℕ) → code.number + count ≤ last → (step count ≤ further) × (step count ≤ count))
-        (declared : (count : ℕ) → code.number + count ≤ last → declared_cid font.encoding (code.number + count) len ≡ Some (cid + step count)) (counted : (count : ℕ) → count ≤ further → step count ≡ count)
-        (texts : RunsByFront) (cids : List CodeRun) where
-      of_run : (one bytes : List ℕ) (its_cid : ℕ) → Gives its_cid bytes run → IsTextOfCid font.collection its_cid one → IsString bytes × IsCodeOf font one bytes
-      of_run one bytes its_cid (from, to, is_bytes) has =
-          let count = its_cid - run.range.start in
-          let within : count ≤ further = omega arith in
-          let at : its_cid ≡ cid + count = omega arith in
-          let is_cid : declared_cid font.encoding (code.number + count) len ≡ Some its_cid = declared count (omega arith) ∙ ap (λ k. Some (cid + k)) (counted count within) ∙ ap Some (sym at) in
-          let same : bytes ≡ code_bytes (code_after count code) = is_bytes ∙ ap (λ begin. code_bytes (code_after count begin)) first in
-          let is_code = code_at count has.its one (omega arith) (by_cid its_cid has.its (none (code.number + count) (omega arith) (omega arith)) is_cid has.is_text) has.characters in
-          (subst IsString (sym same) (bytes_at count (omega arith)).string, subst (IsCodeOf font one) (sym same) is_code)
-
-      only_cids : (one bytes : List ℕ) → GivesCode font.collection texts (cids ++ run ∷ []) one bytes → GivesCode font.collection texts cids one bytes ⊎ (IsString bytes × IsCodeOf font one bytes)
-      only_cids one bytes (inl given) = inl (inl given)
-      only_cids one bytes (inr given) =
-          elim (any_split (Gives given.cid bytes) cids run given.given) [
-            | inl before ↦ inl (inr (record { cid = given.cid; given = before; has = given.has }))
-            | inr here ↦ inr (of_run one bytes given.cid here given.has)
-          ]
-
-      kept_cids : (one bytes : List ℕ) → GivesCode font.collection texts cids one bytes → GivesCode font.collection texts (cids ++ run ∷ []) one bytes
-      kept_cids one bytes (inl given) = inl given
-      kept_cids one bytes (inr given) = inr (record { cid = given.cid; given = any_kept (Gives given.cid bytes) cids (run ∷ []) given.given; has = given.has })
-
-      earlier : (count : ℕ) (bytes : List ℕ) → IsString bytes → length bytes ≡ len → big_endian bytes ≡ code.number + count → code.number + count ≤ last → IsNotAfter (code_bytes (code_after (step count) code)) bytes
-      earlier count bytes bytes_are long same within =
-          let (few, less) = steps count within in
-          let at = bytes_at (step count) (omega arith) in
-          elim (cases_lt (step count) count) [
-            | inl before ↦ lesser_first (code_bytes (code_after (step count) code)) bytes at.string bytes_are (at.count ∙ sym long) (omega (arith, at.writes))
-            | inr here ↦ subst (IsNotAfter (code_bytes (code_after (step count) code))) (sym (its_bytes (step count) bytes (omega arith) bytes_are long (omega arith))) (not_after_itself (code_bytes (code_after (step count) code)))
-          ]
-
-      given_at : (count : ℕ) → code.number + count ≤ last → Gives (cid + step count) (code_bytes (code_after (step count) code)) run
-      given_at count within =
-          let (few, less) = steps count within in
-          let key : cid + step count - run.range.start ≡ step count = omega arith in
-          (omega arith, omega arith, sym (ap (λ begin. code_bytes (code_after (cid + step count - run.range.start) begin)) first ∙ ap (λ k. code_bytes (code_after k code)) key))
-
-      row_cids : (one bytes : List ℕ) → IsString bytes → length bytes ≡ len → code.number ≤ big_endian bytes → big_endian bytes < last + 1 → IsCodeOf font one bytes → (found : List ℕ) × GivesCode font.collection texts (cids ++ run ∷ []) one found × IsNotAfter found bytes
-      row_cids one bytes bytes_are long from less has =
-          let count = big_endian bytes - code.number in
-          let at : big_endian bytes ≡ code.number + count = omega arith in
-          let within : code.number + count ≤ last = omega arith in
-          let silent : text_in font.to_unicode (code.number + count) ≡ None = none (code.number + count) (omega arith) within in
-          let its : its_text font len (code.number + count) ≡ text_in font.collection (cid + step count) = ap (λ o. option_or o (option_and_then (text_in font.collection) (declared_cid font.encoding (code.number + count) len))) silent ∙ ap (option_and_then (text_in font.collection)) (declared count within) in (
-            code_bytes (code_after (step count) code),
-            inr (record {
-              cid = cid + step count;
-              given = Any-push (Gives (cid + step count) (code_bytes (code_after (step count) code))) cids run (given_at count within);
-              has = record { its = has.its; is_text = sym its ∙ its_there count bytes one long at has; characters = has.characters };
-            }),
-            earlier count bytes bytes_are long at within,
-          )
-
-      pub cids_gathered : IsGathered font len code.number (GivesCode font.collection texts cids) → IsGathered font len (last + 1) (GivesCode font.collection texts (cids ++ run ∷ []))
-      cids_gathered = more_gathered font len code.number (last + 1) (GivesCode font.collection texts cids) (GivesCode font.collection texts (cids ++ run ∷ [])) kept_cids only_cids row_cids
-
--- codes without a text
-pub nothing_gathered : (font : Font) (len first last : ℕ) (Given : List ℕ → List ℕ → Type 0) → ((code : ℕ) → first ≤ code → code ≤ last → its_text font len code ≡ None) → IsGathered font len first Given → IsGathered font len (last + 1) Given
-nothing_gathered font len first last Given none = none_more font len first (last + 1) Given (λ text bytes are long from less has.
-    let n = big_endian bytes in
-    let is_text = subst (λ l. IsTextOf font n l (Some has.its)) long has.is_text in
-    none-some has.its (sym (none n from (omega arith)) ∙ sym ((one_text font n len (its_text font len n) refl).alone (Some has.its) is_text)))
-
-pub no_text_by_cid : (font : Font) (len code : ℕ) (cid : Option ℕ) → text_in font.to_unicode code ≡ None → declared_cid font.encoding code len ≡ cid → option_and_then (text_in font.collection) cid ≡ None → its_text font len code ≡ None
-no_text_by_cid font len code cid silent declared none = ap (λ o. option_or o (option_and_then (text_in font.collection) (declared_cid font.encoding code len))) silent ∙ ap (option_and_then (text_in font.collection)) declared ∙ none
-
-none_so : {A : Type 0} (o : Option A) → is_some o ≡ false → o ≡ None
-none_so None is = refl
-none_so (Some x) is = cc
-
 pub is_so : (b : Bool) → not b ≡ false → b ≡ true
 is_so true is = refl
 is_so false is = cc
 
--- the collection's map has no text for the CID of the codes
-pub silent_cid : (font : Font) (len first last cid : ℕ) (row : TextRow) (Given : List ℕ → List ℕ → Type 0) → HaveCids font len first last (λ count. cid) → AreTexts (text_in font.collection) cid row → is_some row.text ≡ false → IsGathered font len first Given → IsGathered font len (last + 1) Given
-silent_cid font len first last cid row Given have are none = nothing_gathered font len first last Given (λ code from to.
-    let at : first + (code - first) ≡ code = omega arith in
-    let declared = subst (λ n. declared_cid font.encoding n len ≡ Some cid) at (have.declared (code - first) (omega arith)) in
-    no_text_by_cid font len code (Some cid) (have.silent code from to) declared (no_text_in_row (text_in font.collection) cid cid row are (none_so row.text none) (omega arith) are.within))
+pub is_false : (b : Bool) → not b ≡ true → b ≡ false
+is_false true is = cc
+is_false false is = refl
 
--- nor for those that count on
-pub silent_cids : (font : Font) (len first last cid more : ℕ) (row : TextRow) (Given : List ℕ → List ℕ → Type 0) → HaveCids font len first last (λ count. cid + count) → AreTexts (text_in font.collection) cid row → is_some row.text ≡ false → first + more ≤ last → cid + more ≤ row.last → IsGathered font len first Given → IsGathered font len (first + more + 1) Given
-silent_cids font len first last cid more row Given have are none in_last in_row = nothing_gathered font len first (first + more) Given (λ code from to.
-    let count = code - first in
-    let at : first + count ≡ code = omega arith in
-    let declared = subst (λ n. declared_cid font.encoding n len ≡ Some (cid + count)) at (have.declared count (omega arith)) in
-    no_text_by_cid font len code (Some (cid + count)) (have.silent code from (omega arith)) declared (no_text_in_row (text_in font.collection) cid (cid + count) row are (none_so row.text none) (omega arith) (omega arith)))
+is_none_so : {A : Type 0} (o : Option A) → o ≡ None → IsSome o → ⊥
+is_none_so None is some = false≢true some
+is_none_so (Some x) is some = none-some x (sym is)
 
--- codes without a CID
-pub absent_cids : (font : Font) (len first last : ℕ) (cids : Cids) (Given : List ℕ → List ℕ → Type 0) → HasNoTexts font.to_unicode first last → ((code : ℕ) → first ≤ code → code ≤ last → declared_cid font.encoding code len ≡ cid_after cids (code - first)) → cids ≡ Absent → IsGathered font len first Given → IsGathered font len (last + 1) Given
-absent_cids font len first last cids Given silent declared is = nothing_gathered font len first last Given (λ code from to.
-    no_text_by_cid font len code None (silent code from to) (declared code from to ∙ ap (λ these. cid_after these (code - first)) is) refl)
+module _ (maps : Maps) where
+  real_stated : (text : List ℕ) (one : Candidate) → IsStatedOne maps text one → IsString one.bytes × IsWhole maps.font.encoding one.bytes
+  real_stated text one (rank, is) = (is.string, is.whole)
+
+  real_silent : (cid : ℕ) (one : Candidate) → IsSilentOne maps cid one → IsString one.bytes × IsWhole maps.font.encoding one.bytes
+  real_silent cid one (rank, is) = (is.string, is.whole)
+
+  -- ---- all codes of a length, and none
+  pub nothing_gathered : (gathered : Gathered) → ((text : List ℕ) (one : Candidate) → GivesText gathered.texts text one → ⊥) → ((cid : ℕ) (one : Candidate) → Any (Gives cid one) gathered.cids.items → ⊥) → ((text : List ℕ) → AreJust 1 0 (IsStatedOne maps text) (GivesText gathered.texts text)) × ((cid : ℕ) → AreJust 1 0 (IsSilentOne maps cid) (λ one. Any (Gives cid one) gathered.cids.items))
+  nothing_gathered gathered no_text no_cid = (
+    λ text. none_gathered maps.font.encoding (IsStatedOne maps text) (real_stated text) (GivesText gathered.texts text) (no_text text),
+    λ cid. none_gathered maps.font.encoding (IsSilentOne maps cid) (real_silent cid) (λ one. Any (Gives cid one) gathered.cids.items) (no_cid cid),
+  )
+
+  pub all_gathered : (len limit : ℕ) (gathered : Gathered) → 256 ^ len ≤ limit → AreGathered maps len limit gathered → AreGathered maps (len + 1) 0 gathered
+  all_gathered len limit gathered all are = record {
+    texts = are.texts;
+    cids = are.cids;
+    stated = λ text. length_gathered maps.font.encoding (IsStatedOne maps text) (real_stated text) len limit (GivesText gathered.texts text) all (are.stated text);
+    silent = λ cid. length_gathered maps.font.encoding (IsSilentOne maps cid) (real_silent cid) len limit (λ one. Any (Gives cid one) gathered.cids.items) all (are.silent cid);
+  }
+
+  -- ---- codes that stand for nothing
+  pub none_stand : (len limit more : ℕ) (gathered : Gathered) → limit ≤ more → ((text bytes : List ℕ) → IsBetween len limit more bytes → IsStated maps text bytes → ⊥) → ((cid : ℕ) (bytes : List ℕ) → IsBetween len limit more bytes → IsSilent maps cid bytes → ⊥)
+      → AreGathered maps len limit gathered → AreGathered maps len more gathered
+  none_stand len limit more gathered later no_text no_cid are = record {
+    texts = are.texts;
+    cids = are.cids;
+    stated = λ text. none_more maps.font.encoding (IsStatedOne maps text) (real_stated text) len limit more later (GivesText gathered.texts text) (λ one between is. no_text text one.bytes between is.1) (are.stated text);
+    silent = λ cid. none_more maps.font.encoding (IsSilentOne maps cid) (real_silent cid) len limit more later (λ one. Any (Gives cid one) gathered.cids.items) (λ one between is. no_cid cid one.bytes between is.1) (are.silent cid);
+  }
+
+  -- neither texts nor glyphs
+  pub silent_over : (len first last : ℕ) (glyphs : Glyphs) (gathered : Gathered) → first ≤ last → ((k : ℕ) → glyph_after glyphs k ≡ None) → HasNoTexts maps.font.to_unicode first last → HaveGlyphs maps len first last glyphs → AreGathered maps len first gathered → AreGathered maps len (last + 1) gathered
+  silent_over len first last glyphs gathered le nothing none have = none_stand len first (last + 1) gathered (omega arith)
+      (λ text bytes (long, from, less) is. none-some is.has.its (sym (none (big_endian bytes) from (omega arith)) ∙ is.has.is_text))
+      (λ cid bytes (long, from, less) is.
+      let count = big_endian bytes - first in
+      let at : first + count ≡ big_endian bytes = omega arith in
+      none-some cid (sym (ap (glyph_of maps (big_endian bytes)) long ∙ ap (λ n. glyph_of maps n len) (sym at) ∙ have count (omega arith) ∙ nothing count) ∙ is.glyph))
+
+  -- codes that are declared, without glyphs
+  pub missing_over : (len first : ℕ) (stretch : GlyphStretch) (gathered : Gathered) → AreGlyphs (λ n. glyph_of maps n len) (λ n. given maps.font.encoding n len) first stretch → stretch.glyphs ≡ Missing → AreGathered maps len first gathered → AreGathered maps len (stretch.last + 1) gathered
+  missing_over len first stretch gathered are is = let within = are.within in none_stand len first (stretch.last + 1) gathered (omega arith)
+      (λ text bytes (long, from, less) has.
+      let at : first + (big_endian bytes - first) ≡ big_endian bytes = omega arith in
+      elim has.shown [
+        | inl undeclared ↦ is_none_so (given maps.font.encoding (big_endian bytes) len) (ap (given maps.font.encoding (big_endian bytes)) (sym long) ∙ undeclared) (subst (λ n. IsSome (given maps.font.encoding n len)) at (declared (big_endian bytes - first) (omega arith)))
+        | inr some ↦ is_none_so (glyph_of maps (big_endian bytes) (length bytes)) (no_glyph bytes long from less) some
+      ])
+      (λ cid bytes (long, from, less) has. none-some cid (sym (no_glyph bytes long from less) ∙ has.glyph))
+    where
+      no_glyph : (bytes : List ℕ) → length bytes ≡ len → first ≤ big_endian bytes → big_endian bytes < stretch.last + 1 → glyph_of maps (big_endian bytes) (length bytes) ≡ None
+      no_glyph bytes long from less =
+          let at : first + (big_endian bytes - first) ≡ big_endian bytes = omega arith in
+          ap (glyph_of maps (big_endian bytes)) long ∙ ap (λ n. glyph_of maps n len) (sym at) ∙ are.glyphs (big_endian bytes - first) (omega arith) ∙ ap (λ glyphs. glyph_after glyphs (big_endian bytes - first)) is
+
+      declared : (count : ℕ) → first + count ≤ stretch.last → IsSome (given maps.font.encoding (first + count) len)
+      declared count in_stretch = by_glyphs stretch.glyphs is (are.declared count in_stretch)
+        where
+          by_glyphs : (glyphs : Glyphs) → glyphs ≡ Missing → IsDeclaredSo glyphs (given maps.font.encoding (first + count) len) → IsSome (given maps.font.encoding (first + count) len)
+          by_glyphs (CountOn cid) same so = cc
+          by_glyphs Undeclared same so = cc
+          by_glyphs Missing same so = so
+
+  -- ---- codes in a row
+  module _ (code : Code) (whole : WholeStretch) (are_whole : AreWhole maps.font.encoding (length_of code.len) code.number whole) where
+    abbrev len : ℕ
+    len = length_of code.len
+
+    -- codes that aren't whole
+    pub passed_over : (gathered : Gathered) → code.number ≤ whole.last → whole.are_whole ≡ false → AreGathered maps len code.number gathered → AreGathered maps len (whole.last + 1) gathered
+    passed_over gathered within none = none_stand len code.number (whole.last + 1) gathered (omega arith) (λ text bytes between is. no_whole bytes between is.string is.whole) (λ cid bytes between is. no_whole bytes between is.string is.whole)
+      where
+        no_whole : (bytes : List ℕ) → IsBetween len code.number (whole.last + 1) bytes → IsString bytes → IsWhole maps.font.encoding bytes → ⊥
+        no_whole bytes (long, from, less) string = not_whole_by whole.are_whole (IsWhole maps.font.encoding bytes) none (are_whole bytes string long from (omega arith))
+
+    module _ (is : whole.are_whole ≡ true) (fits : whole.last < 256 ^ len) (further : ℕ) (in_whole : code.number + further ≤ whole.last) (rank : Rank) where
+      abbrev begin : Ranked
+      begin = record { code = code; rank = rank }
+
+      -- a code of the row
+      record IsRowCode (count : ℕ) (one : Candidate) : Type 0 where
+        pub string : IsString one.bytes
+        pub is_whole : IsWhole maps.font.encoding one.bytes
+        pub between : IsBetween len code.number (code.number + further + 1) one.bytes
+        pub number : big_endian one.bytes ≡ code.number + count
+        pub long : length one.bytes ≡ len
+
+      row_code : (count : ℕ) (one : Candidate) → count ≤ further → one ≡ candidate_of (ranked_after count begin) → IsRowCode count one
+      row_code count one within same =
+          let at = are_bytes_of code.len (code.number + count) (omega arith) in
+          let bytes = code_bytes (code_after count code) in
+          subst (IsRowCode count) (sym same) (record {
+            string = at.string;
+            is_whole = whole_by whole.are_whole (IsWhole maps.font.encoding bytes) is (are_whole bytes at.string at.count (omega (arith, at.writes)) (omega (arith, at.writes)));
+            between = (at.count, omega (arith, at.writes), omega (arith, at.writes));
+            number = at.writes;
+            long = at.count;
+          })
+
+      -- its bytes are the only ones
+      its_code : (one : Candidate) → IsString one.bytes → IsBetween len code.number (code.number + further + 1) one.bytes → one.rank ≡ rank → one ≡ candidate_of (ranked_after (big_endian one.bytes - code.number) begin)
+      its_code one string (long, from, less) ranked =
+          let count = big_endian one.bytes - code.number in
+          let at = are_bytes_of code.len (code.number + count) (omega arith) in
+          let (some, few) = fits_length code.len in
+          let same : one.bytes ≡ code_bytes (code_after count code) = one_string (code_bytes (code_after count code)) one.bytes at.string string (omega (arith, at.count)) (omega (arith, at.count)) (omega (arith, at.count)) (omega (arith, at.writes)) in
+          λ i. record { bytes = same i; rank = ranked i }
+
+    -- ---- texts of the ToUnicode CMap
+    module _ (is : whole.are_whole ≡ true) (fits : whole.last < 256 ^ len) (its : Text) (last further : ℕ) (in_whole : code.number + further ≤ whole.last) (in_last : code.number + further ≤ last)
+        (texts : HasTexts maps.font.to_unicode code.number last its) (shown : AreShown maps len code.number last) where
+      abbrev stated_begin : Ranked
+      stated_begin = begin is fits further in_whole Stated
+
+      stated_of : (text : List ℕ) (one : Candidate) → IsFurther its stated_begin further text one → IsBetween len code.number (code.number + further + 1) one.bytes × IsStatedOne maps text one
+      stated_of text one at =
+          let within = at.within in
+          let row = row_code is fits further in_whole Stated at.count one at.within at.is_code in (
+            row.between,
+            (
+              ap (λ (c : Candidate). c.rank) at.is_code,
+              record {
+                string = row.string;
+                whole = row.is_whole;
+                has = record { its = text_after its at.count; is_text = ap (text_in maps.font.to_unicode) row.number ∙ texts at.count (omega arith); characters = sym at.is_text };
+                shown = subst (λ n. IsShown maps n (length one.bytes)) (sym row.number) (subst (IsShown maps (code.number + at.count)) (sym row.long) (shown at.count (omega arith)));
+              },
+            ),
+          )
+
+      of_stated : (text : List ℕ) (one : Candidate) → IsBetween len code.number (code.number + further + 1) one.bytes → IsStatedOne maps text one → IsFurther its stated_begin further text one
+      of_stated text one (long, from, less) (rank, has) =
+          let count = big_endian one.bytes - code.number in
+          let at : code.number + count ≡ big_endian one.bytes = omega arith in
+          let same = same_Some has.has.its (text_after its count) (sym has.has.is_text ∙ ap (text_in maps.font.to_unicode) (sym at) ∙ texts count (omega arith)) in
+          record {
+            count = count;
+            within = omega arith;
+            is_text = sym has.has.characters ∙ ap characters_of same;
+            is_code = its_code is fits further in_whole Stated one has.string (long, from, less) rank;
+          }
+
+      pub texts_gathered : (old new : Gathered) → new.cids.items ≡ old.cids.items → AreRunsByFront new.texts → AddsTexts old.texts new.texts its stated_begin further → AreGathered maps len code.number old → AreGathered maps len (code.number + further + 1) new
+      texts_gathered old new same runs adds are = record {
+        texts = runs;
+        cids = subst (λ cids. All IsCodeRun cids) (sym same) are.cids;
+        stated = λ text. more_gathered maps.font.encoding (IsStatedOne maps text) (real_stated text) len code.number (code.number + further + 1) (omega arith) (GivesText old.texts text) (IsFurther its stated_begin further text) (GivesText new.texts text)
+            (adds text) (λ one. (stated_of text one, λ (between, has). of_stated text one between has)) (are.stated text);
+        silent = λ cid. none_more maps.font.encoding (IsSilentOne maps cid) (real_silent cid) len code.number (code.number + further + 1) (omega arith) (λ one. Any (Gives cid one) new.cids.items) (λ one between has. not_silent cid one between has)
+            (subst (λ cids. AreJust len code.number (IsSilentOne maps cid) (λ one. Any (Gives cid one) cids)) (sym same) (are.silent cid));
+      }
+        where
+          not_silent : (cid : ℕ) (one : Candidate) → IsBetween len code.number (code.number + further + 1) one.bytes → IsSilentOne maps cid one → ⊥
+          not_silent cid one (long, from, less) (rank, has) =
+              let at : code.number + (big_endian one.bytes - code.number) ≡ big_endian one.bytes = omega arith in
+              none-some (text_after its (big_endian one.bytes - code.number)) (sym has.silent ∙ ap (text_in maps.font.to_unicode) (sym at) ∙ texts (big_endian one.bytes - code.number) (omega arith))
+
+    -- ---- glyphs, where it has no texts
+    module _ (is : whole.are_whole ≡ true) (fits : whole.last < 256 ^ len) (cid last further : ℕ) (in_whole : code.number + further ≤ whole.last) (in_last : code.number + further ≤ last)
+        (none : HasNoTexts maps.font.to_unicode code.number last) (glyphs : HaveGlyphs maps len code.number last (CountOn cid)) (run : CodeRun) (first : run.first ≡ begin is fits further in_whole Collection) (start : run.range.start ≡ cid) (end : run.range.end ≡ cid + further) where
+      silent_of : (its : ℕ) (one : Candidate) → Gives its one run → IsBetween len code.number (code.number + further + 1) one.bytes × IsSilentOne maps its one
+      silent_of its one (from, to, is_one) =
+          let count = its - run.range.start in
+          let within : count ≤ further = omega arith in
+          let same : one ≡ candidate_of (ranked_after count (begin is fits further in_whole Collection)) = is_one ∙ ap (λ ranked. candidate_of (ranked_after count ranked)) first in
+          let row = row_code is fits further in_whole Collection count one within same in
+          let at : cid + count ≡ its = omega arith in (
+            row.between,
+            (
+              ap (λ (c : Candidate). c.rank) same,
+              record {
+                string = row.string;
+                whole = row.is_whole;
+                silent = none (big_endian one.bytes) (omega (arith, row.number)) (omega (arith, row.number));
+                glyph = ap (glyph_of maps (big_endian one.bytes)) row.long ∙ ap (λ n. glyph_of maps n len) row.number ∙ glyphs count (omega arith) ∙ ap Some at;
+              },
+            ),
+          )
+
+      of_silent : (its : ℕ) (one : Candidate) → IsBetween len code.number (code.number + further + 1) one.bytes → IsSilentOne maps its one → Gives its one run
+      of_silent its one (long, from, less) (rank, has) =
+          let count = big_endian one.bytes - code.number in
+          let at : code.number + count ≡ big_endian one.bytes = omega arith in
+          let key : its ≡ cid + count = same_Some its (cid + count) (sym has.glyph ∙ ap (glyph_of maps (big_endian one.bytes)) long ∙ ap (λ n. glyph_of maps n len) (sym at) ∙ glyphs count (omega arith)) in
+          let back : count ≡ its - run.range.start = omega (arith, key) in (
+            omega (arith, key),
+            omega (arith, key),
+            its_code is fits further in_whole Collection one has.string (long, from, less) rank ∙ ap (λ k. candidate_of (ranked_after k (begin is fits further in_whole Collection))) back ∙ ap (λ ranked. candidate_of (ranked_after (its - run.range.start) ranked)) (sym first),
+          )
+
+      any_more : (cids : List CodeRun) (its : ℕ) (one : Candidate) → Any (Gives its one) (cids ++ run ∷ []) ↔ (Any (Gives its one) cids ⊎ Gives its one run)
+      any_more cids its one = (any_split (Gives its one) cids run, λ either. elim either [ inl before ↦ any_kept (Gives its one) cids (run ∷ []) before | inr here ↦ Any-push (Gives its one) cids run here ])
+
+      pub cids_gathered : (old new : Gathered) → new.texts ≡ old.texts → new.cids.items ≡ old.cids.items ++ run ∷ [] → All IsCodeRun new.cids.items → AreGathered maps len code.number old → AreGathered maps len (code.number + further + 1) new
+      cids_gathered old new same items runs are = record {
+        texts = subst AreRunsByFront (sym same) are.texts;
+        cids = runs;
+        stated = λ text. none_more maps.font.encoding (IsStatedOne maps text) (real_stated text) len code.number (code.number + further + 1) (omega arith) (GivesText new.texts text) (λ one between has. not_stated text one between has)
+            (subst (λ texts. AreJust len code.number (IsStatedOne maps text) (GivesText texts text)) (sym same) (are.stated text));
+        silent = λ its. subst (λ cids. AreJust len (code.number + further + 1) (IsSilentOne maps its) (λ one. Any (Gives its one) cids)) (sym items)
+            (more_gathered maps.font.encoding (IsSilentOne maps its) (real_silent its) len code.number (code.number + further + 1) (omega arith) (λ one. Any (Gives its one) old.cids.items) (λ one. Gives its one run) (λ one. Any (Gives its one) (old.cids.items ++ run ∷ []))
+            (any_more old.cids.items its) (λ one. (silent_of its one, λ (between, has). of_silent its one between has)) (are.silent its));
+      }
+        where
+          not_stated : (text : List ℕ) (one : Candidate) → IsBetween len code.number (code.number + further + 1) one.bytes → IsStatedOne maps text one → ⊥
+          not_stated text one (long, from, less) (rank, has) = none-some has.has.its (sym (none (big_endian one.bytes) from (omega arith)) ∙ has.has.is_text)

@@ -1,34 +1,40 @@
 -- Codes gathered one after another.
 use Rattle.std.proofs.Common.{◌≡◌, ℕ, ◌+◌, ◌^◌, ◌<◌, ◌≤◌, ◌⊎◌, List, length, ap, inl, inr, arith}
+use Rattle.std.specs.Prelude.{◌↔◌}
 use Rattle.std.proofs.lemmas.Bool.{cases_lt}
 use Rattle.cmap_values.specs.BigEndian.{big_endian}
-use Rattle.cmap_unicode.specs.TextsOfCodes.{Font}
-use Rattle.cmap_encode.specs.Codes.{IsBefore, IsCodeOf}
-use Rattle.cmap_encode.specs.Encodings.{IsNotAfter, IsString}
-use Rattle.cmap_encode.specs.GatheredSeen.{IsGathered}
+use Rattle.cmap_layers.specs.Layers.{Layer}
+use Rattle.cmap_encode.specs.Codes.{IsBefore, IsBetween, IsWhole}
+use Rattle.cmap_encode.specs.Strings.{IsString}
+use Rattle.cmap_encode.specs.GatheredSeen.{AreJust}
+use Rattle.cmap_encode.specs.Ranks.{Candidate}
 use Rattle.cmap_encode.proofs.CodesRead.{whole_length}
 use Rattle.cmap_encode.proofs.Numbers.{number_below}
-use Rattle.cmap_encode.proofs.Order.{not_after_chain}
 
-module _ (font : Font) where
+-- a kind of whole codes
+module _ (layers : List Layer) (Kind : Candidate → Type 0) (real : (one : Candidate) → Kind one → IsString one.bytes × IsWhole layers one.bytes) where
   -- no code yet
-  pub none_gathered : (Given : List ℕ → List ℕ → Type 0) → ((text bytes : List ℕ) → Given text bytes → ⊥) → IsGathered font 1 0 Given
-  none_gathered Given none = record {
-    sound = λ text bytes given. absurd (none text bytes given);
-    complete = λ text bytes are before is. absurd (no_bytes bytes text before is);
-  }
+  pub none_gathered : (Given : Candidate → Type 0) → ((one : Candidate) → Given one → ⊥) → AreJust 1 0 Kind Given
+  none_gathered Given none one = (
+    λ given. absurd (none one given),
+    λ (before, is). absurd (no_bytes one before is),
+  )
     where
-      no_bytes : (bytes text : List ℕ) → IsBefore 1 0 bytes → IsCodeOf font text bytes → ⊥
-      no_bytes bytes text (inl shorter) is = omega (arith, (whole_length font.encoding bytes is.whole).0)
-      no_bytes bytes text (inr (long, less)) is = omega arith
+      no_bytes : (one : Candidate) → IsBefore 1 0 one.bytes → Kind one → ⊥
+      no_bytes one (inl shorter) is = omega (arith, (whole_length layers one.bytes (real one is).1).0)
+      no_bytes one (inr (long, less)) is = omega arith
 
   -- all codes of a length
-  pub length_gathered : (len limit : ℕ) (Given : List ℕ → List ℕ → Type 0) → 256 ^ len ≤ limit → IsGathered font len limit Given → IsGathered font (len + 1) 0 Given
-  length_gathered len limit Given all is = record {
-    sound = is.sound;
-    complete = λ text bytes are before code. is.complete text bytes are (old bytes are before) code;
-  }
+  pub length_gathered : (len limit : ℕ) (Given : Candidate → Type 0) → 256 ^ len ≤ limit → AreJust len limit Kind Given → AreJust (len + 1) 0 Kind Given
+  length_gathered len limit Given all are one = (
+    λ given. let (before, is) = (are one).0 given in (longer one.bytes before, is),
+    λ (before, is). (are one).1 (old one.bytes (real one is).0 before, is),
+  )
     where
+      longer : (bytes : List ℕ) → IsBefore len limit bytes → IsBefore (len + 1) 0 bytes
+      longer bytes (inl shorter) = inl (omega arith)
+      longer bytes (inr (long, less)) = inl (omega arith)
+
       old : (bytes : List ℕ) → IsString bytes → IsBefore (len + 1) 0 bytes → IsBefore len limit bytes
       old bytes are (inl shorter) =
           elim (cases_lt (length bytes) len) [
@@ -37,39 +43,40 @@ module _ (font : Font) where
           ]
       old bytes are (inr (long, less)) = absurd (omega arith)
 
-  -- codes from the limit on, below a further one
-  pub more_gathered : (len limit more : ℕ) (Given New : List ℕ → List ℕ → Type 0) → ((text bytes : List ℕ) → Given text bytes → New text bytes)
-      → ((text bytes : List ℕ) → New text bytes → Given text bytes ⊎ (IsString bytes × IsCodeOf font text bytes))
-      → ((text bytes : List ℕ) → IsString bytes → length bytes ≡ len → limit ≤ big_endian bytes → big_endian bytes < more → IsCodeOf font text bytes → (first : List ℕ) × New text first × IsNotAfter first bytes)
-      → IsGathered font len limit Given → IsGathered font len more New
-  more_gathered len limit more Given New kept only row is = record {
-    sound = λ text bytes new. elim (only text bytes new) [ inl given ↦ is.sound text bytes given | inr code ↦ code ];
-    complete = λ text bytes are before code. found text bytes are before code;
-  }
-    where
-      before_limit : (text bytes : List ℕ) → IsString bytes → IsBefore len limit bytes → IsCodeOf font text bytes → (first : List ℕ) × New text first × IsNotAfter first bytes
-      before_limit text bytes are before code = let (first, given, earlier) = is.complete text bytes are before code in (first, kept text first given, earlier)
+  module _ (len limit more : ℕ) (later : limit ≤ more) where
+    still_before : (bytes : List ℕ) → IsBefore len limit bytes → IsBefore len more bytes
+    still_before bytes (inl shorter) = inl shorter
+    still_before bytes (inr (long, less)) = inr (long, omega arith)
 
-      found : (text bytes : List ℕ) → IsString bytes → IsBefore len more bytes → IsCodeOf font text bytes → (first : List ℕ) × New text first × IsNotAfter first bytes
-      found text bytes are (inl shorter) code = before_limit text bytes are (inl shorter) code
-      found text bytes are (inr (long, less)) code =
-          elim (cases_lt (big_endian bytes) limit) [
-            | inl before ↦ before_limit text bytes are (inr (long, before)) code
-            | inr from ↦ row text bytes are long from less code
-          ]
+    before_more : (bytes : List ℕ) → IsBetween len limit more bytes → IsBefore len more bytes
+    before_more bytes (long, from, less) = inr (long, less)
 
-  -- codes of which none has a text
-  pub none_more : (len limit more : ℕ) (Given : List ℕ → List ℕ → Type 0) → ((text bytes : List ℕ) → IsString bytes → length bytes ≡ len → limit ≤ big_endian bytes → big_endian bytes < more → IsCodeOf font text bytes → ⊥)
-      → IsGathered font len limit Given → IsGathered font len more Given
-  none_more len limit more Given none = more_gathered len limit more Given Given (λ text bytes given. given) (λ text bytes given. inl given) (λ text bytes are long from less code. absurd (none text bytes are long from less code))
+    either_before : (bytes : List ℕ) → IsBefore len more bytes → IsBefore len limit bytes ⊎ IsBetween len limit more bytes
+    either_before bytes (inl shorter) = inl (inl shorter)
+    either_before bytes (inr (long, less)) = elim (cases_lt (big_endian bytes) limit) [ inl before ↦ inl (inr (long, before)) | inr from ↦ inr (long, from, less) ]
 
-  -- fewer codes, and for each of the others an earlier one
-  pub earlier_gathered : (len limit : ℕ) (Given New : List ℕ → List ℕ → Type 0) → ((text bytes : List ℕ) → New text bytes → IsString bytes × IsCodeOf font text bytes) → ((text bytes : List ℕ) → Given text bytes → (first : List ℕ) × New text first × IsNotAfter first bytes)
-      → IsGathered font len limit Given → IsGathered font len limit New
-  earlier_gathered len limit Given New sound earlier is = record {
-    sound = sound;
-    complete = λ text bytes are before code.
-        let (given, has, after) = is.complete text bytes are before code in
-        let (first, new, comes) = earlier text given has in
-        (first, new, not_after_chain first given bytes comes after);
-  }
+    -- codes from the limit on, below a further one
+    pub more_gathered : (Given Row New : Candidate → Type 0) → ((one : Candidate) → New one ↔ (Given one ⊎ Row one)) → ((one : Candidate) → Row one ↔ (IsBetween len limit more one.bytes × Kind one)) → AreJust len limit Kind Given → AreJust len more Kind New
+    more_gathered Given Row New grows row are one = (
+      λ new.
+          elim ((grows one).0 new) [
+            | inl given ↦ let (before, is) = (are one).0 given in (still_before one.bytes before, is)
+            | inr added ↦ let (between, is) = (row one).0 added in (before_more one.bytes between, is)
+          ],
+      λ (before, is).
+          elim (either_before one.bytes before) [
+            | inl old ↦ (grows one).1 (inl ((are one).1 (old, is)))
+            | inr between ↦ (grows one).1 (inr ((row one).1 (between, is)))
+          ],
+    )
+
+    -- codes of which none is of the kind
+    pub none_more : (Given : Candidate → Type 0) → ((one : Candidate) → IsBetween len limit more one.bytes → Kind one → ⊥) → AreJust len limit Kind Given → AreJust len more Kind Given
+    none_more Given none are one = (
+      λ given. let (before, is) = (are one).0 given in (still_before one.bytes before, is),
+      λ (before, is).
+          elim (either_before one.bytes before) [
+            | inl old ↦ (are one).1 (old, is)
+            | inr between ↦ absurd (none one between is)
+          ],
+    )

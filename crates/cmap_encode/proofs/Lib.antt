@@ -15,9 +15,10 @@ pub mod Gathering
 pub mod RunsNumbered
 pub mod TextEnds
 pub mod TreeNodes
-pub mod TextsFound
 pub mod TextsOwned
 pub mod RunsAdded
 pub mod GatheredFound
 pub mod CidsAdded
 pub mod GatheredRows
+pub mod GlyphsFound
+pub mod ChosenBy

@@ -10,11 +10,11 @@ use Rattle.std.proofs.lemmas.Slice.Eq.{bytes_eq-Decides}
 use Rattle.cmap_tokens.specs.Texts.{Text, more, one}
 use Rattle.cmap_unicode.specs.Characters.{characters_of}
 use Rattle.cmap_unicode.specs.CountedTexts.{counted_on, text_after}
-use Rattle.cmap_encode.specs.Codes.{code_bytes}
-use Rattle.cmap_encode.specs.FirstsSeen.{Gives, code_after}
+use Rattle.cmap_encode.specs.FirstsSeen.{Gives}
+use Rattle.cmap_encode.specs.Ranks.{Candidate, candidate_of, ranked_after}
 use Rattle.cmap_encode.specs.RunsSeen.{AddsTexts, GivesText, IsFurther, runs_of}
-use Rattle.cmap_encode.specs.declared.code.Code.{Code}
 use Rattle.cmap_encode.specs.declared.firsts.CodeRun.{CodeRun}
+use Rattle.cmap_encode.specs.declared.rank.Ranked.{Ranked}
 use Rattle.cmap_encode.specs.declared.runs_by_front.RunsByFront.{RunsByFront}
 
 -- ---- an element of a list with one more
@@ -43,7 +43,7 @@ of_text (more cs) k = refl
 pub ends_so : (its : Text) (front : List ℕ) (last k : ℕ) → characters_of its ≡ front ++ last ∷ [] → characters_of (text_after its k) ≡ front ++ (last + k) ∷ []
 ends_so its front last k is = of_text its k ∙ ap (λ cs. counted_on cs k) is ∙ counted front last k
 
-module _ (old new : RunsByFront) (front : List ℕ) (key : ℕ) (its : Text) (code : Code) (run : CodeRun) (is : characters_of its ≡ front ++ key ∷ []) (start : run.range.start ≡ key) (first : run.code ≡ code) (filled : run.range.start ≤ run.range.end)
+module _ (old new : RunsByFront) (front : List ℕ) (key : ℕ) (its : Text) (begin : Ranked) (run : CodeRun) (is : characters_of its ≡ front ++ key ∷ []) (start : run.range.start ≡ key) (first : run.first ≡ begin) (filled : run.range.start ≤ run.range.end)
     (runs : (other : List ℕ) → runs_of new other ≡ (if bytes_eq other front then runs_of old other ++ run ∷ [] else runs_of old other)) where
   at_front : (other : List ℕ) → other ≡ front → runs_of new other ≡ runs_of old other ++ run ∷ []
   at_front other same = runs other ∙ ap (λ b. if b then runs_of old other ++ run ∷ [] else runs_of old other) ((bytes_eq-Decides other front).1 same)
@@ -51,51 +51,51 @@ module _ (old new : RunsByFront) (front : List ℕ) (key : ℕ) (its : Text) (co
   elsewhere : (other : List ℕ) → bytes_eq other front ≡ false → runs_of new other ≡ runs_of old other
   elsewhere other apart = runs other ∙ ap (λ b. if b then runs_of old other ++ run ∷ [] else runs_of old other) apart
 
-  by_run : (text bytes : List ℕ) (last : ℕ) → text ≡ front ++ last ∷ [] → Gives last bytes run → IsFurther its code (run.range.end - run.range.start) text bytes
-  by_run text bytes last text_is (from, to, bytes_is) =
+  by_run : (text : List ℕ) (candidate : Candidate) (last : ℕ) → text ≡ front ++ last ∷ [] → Gives last candidate run → IsFurther its begin (run.range.end - run.range.start) text candidate
+  by_run text candidate last text_is (from, to, is_one) =
       let sum : key + (last - run.range.start) ≡ last = omega arith in
       record {
         count = last - run.range.start;
         within = omega arith;
         is_text = text_is ∙ sym (ends_so its front key (last - run.range.start) is ∙ ap (λ n. front ++ n ∷ []) sum);
-        is_code = bytes_is ∙ ap (λ begin. code_bytes (code_after (last - run.range.start) begin)) first;
+        is_code = is_one ∙ ap (λ ranked. candidate_of (ranked_after (last - run.range.start) ranked)) first;
       }
 
-  given_by : (text bytes : List ℕ) → GivesText new text bytes → GivesText old text bytes ⊎ IsFurther its code (run.range.end - run.range.start) text bytes
-  given_by text bytes given =
+  given_by : (text : List ℕ) (candidate : Candidate) → GivesText new text candidate → GivesText old text candidate ⊎ IsFurther its begin (run.range.end - run.range.start) text candidate
+  given_by text candidate given =
       elim (cases_Bool (bytes_eq given.front front)) [
         | inl equal ↦
             let same : given.front ≡ front = (bytes_eq-Decides given.front front).0 equal in
-            elim (any_split (Gives given.last bytes) (runs_of old given.front) run (subst (Any (Gives given.last bytes)) (at_front given.front same) given.given)) [
+            elim (any_split (Gives given.last candidate) (runs_of old given.front) run (subst (Any (Gives given.last candidate)) (at_front given.front same) given.given)) [
               | inl before ↦ inl (record { front = given.front; last = given.last; is = given.is; given = before })
-              | inr here ↦ inr (by_run text bytes given.last (given.is ∙ ap (λ f. f ++ given.last ∷ []) same) here)
+              | inr here ↦ inr (by_run text candidate given.last (given.is ∙ ap (λ f. f ++ given.last ∷ []) same) here)
             ]
-        | inr apart ↦ inl (record { front = given.front; last = given.last; is = given.is; given = subst (Any (Gives given.last bytes)) (elsewhere given.front apart) given.given })
+        | inr apart ↦ inl (record { front = given.front; last = given.last; is = given.is; given = subst (Any (Gives given.last candidate)) (elsewhere given.front apart) given.given })
       ]
 
-  given_still : (text bytes : List ℕ) → GivesText old text bytes → GivesText new text bytes
-  given_still text bytes given = record {
+  given_still : (text : List ℕ) (candidate : Candidate) → GivesText old text candidate → GivesText new text candidate
+  given_still text candidate given = record {
     front = given.front;
     last = given.last;
     is = given.is;
     given =
         elim (cases_Bool (bytes_eq given.front front)) [
-          | inl equal ↦ subst (Any (Gives given.last bytes)) (sym (at_front given.front ((bytes_eq-Decides given.front front).0 equal))) (any_kept (Gives given.last bytes) (runs_of old given.front) (run ∷ []) given.given)
-          | inr apart ↦ subst (Any (Gives given.last bytes)) (sym (elsewhere given.front apart)) given.given
+          | inl equal ↦ subst (Any (Gives given.last candidate)) (sym (at_front given.front ((bytes_eq-Decides given.front front).0 equal))) (any_kept (Gives given.last candidate) (runs_of old given.front) (run ∷ []) given.given)
+          | inr apart ↦ subst (Any (Gives given.last candidate)) (sym (elsewhere given.front apart)) given.given
         ];
   }
 
-  given_further : (text bytes : List ℕ) → IsFurther its code (run.range.end - run.range.start) text bytes → GivesText new text bytes
-  given_further text bytes further =
+  given_further : (text : List ℕ) (candidate : Candidate) → IsFurther its begin (run.range.end - run.range.start) text candidate → GivesText new text candidate
+  given_further text candidate further =
       let within = further.within in
       let count : key + further.count - run.range.start ≡ further.count = omega arith in
       record {
         front = front;
         last = key + further.count;
         is = further.is_text ∙ ends_so its front key further.count is;
-        given = subst (Any (Gives (key + further.count) bytes)) (sym (at_front front refl)) (Any-push (Gives (key + further.count) bytes) (runs_of old front) run
-            (omega arith, omega arith, further.is_code ∙ sym (ap (λ begin. code_bytes (code_after (key + further.count - run.range.start) begin)) first ∙ ap (λ k. code_bytes (code_after k code)) count)));
+        given = subst (Any (Gives (key + further.count) candidate)) (sym (at_front front refl)) (Any-push (Gives (key + further.count) candidate) (runs_of old front) run
+            (omega arith, omega arith, further.is_code ∙ sym (ap (λ ranked. candidate_of (ranked_after (key + further.count - run.range.start) ranked)) first ∙ ap (λ k. candidate_of (ranked_after k begin)) count)));
       }
 
-  pub texts_added : AddsTexts old new its code (run.range.end - run.range.start)
-  texts_added text bytes = (given_by text bytes, λ either. elim either [ inl before ↦ given_still text bytes before | inr further ↦ given_further text bytes further ])
+  pub texts_added : AddsTexts old new its begin (run.range.end - run.range.start)
+  texts_added text candidate = (given_by text candidate, λ either. elim either [ inl before ↦ given_still text candidate before | inr further ↦ given_further text candidate further ])

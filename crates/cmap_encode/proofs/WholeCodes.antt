@@ -14,7 +14,7 @@ use Rattle.cmap_values.specs.Only.{HoldsOfNone}
 use Rattle.cmap_layers.specs.Layers.{Layer}
 use Rattle.cmap_layers.specs.StringCodes.{BeginsInside, IsShortestInside}
 use Rattle.cmap_encode.specs.Codes.{IsWhole}
-use Rattle.cmap_encode.specs.Encodings.{IsString}
+use Rattle.cmap_encode.specs.Strings.{IsString}
 use Rattle.cmap_encode.specs.Outside.{IsInside}
 use Rattle.cmap_encode.specs.WholeSeen.{HasFrontInside, IsFull, IsWholeNumber}
 use Rattle.cmap_encode.proofs.CodesOutside.{same_byte, whole_inside}

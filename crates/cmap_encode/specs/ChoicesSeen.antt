@@ -9,15 +9,13 @@ use Rattle.cmap_encode.specs.declared.choices.Choices.{Choices}
 use Rattle.cmap_encode.specs.declared.choices.Grade.{Grade}
 use Rattle.cmap_encode.specs.declared.choices.Grade.TheVariants as grade
 use Rattle.cmap_encode.specs.declared.code.Code.{Code}
-use Rattle.cmap_encode.specs.declared.code.Rank.{Rank}
-use Rattle.cmap_encode.specs.declared.code.Rank.TheVariants as rank
-use Rattle.cmap_encode.specs.declared.code.Ranked.{Ranked}
+use Rattle.cmap_encode.specs.declared.rank.Rank.{Rank}
+use Rattle.cmap_encode.specs.declared.rank.Rank.TheVariants as rank
+use Rattle.cmap_encode.specs.declared.rank.Ranked.{Ranked}
 use Rattle.cmap_encode.specs.declared.index.Index.{Index}
 
 abbrev pub grade_of : Rank → Grade
 grade_of rank.Stated = grade.Stated
-grade_of rank.OwnForm = grade.Canonical
-grade_of rank.Canonical = grade.Canonical
 grade_of rank.Collection = grade.Collection
 
 -- the code of a text, as what stands for it

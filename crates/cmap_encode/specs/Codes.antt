@@ -1,5 +1,5 @@
 -- Private aid: the codes of a text, by their bytes.
-use Rattle.std.specs.Prelude.{◌≡◌, ℕ, ◌-◌, ◌*◌, ◌^◌, ◌<◌, ◌⊎◌, List, length, drop, Option, Some, MatchOption}
+use Rattle.std.specs.Prelude.{◌≡◌, ℕ, ◌-◌, ◌*◌, ◌^◌, ◌<◌, ◌≤◌, ◌⊎◌, List, length, drop, Some}
 use Rattle.std.specs.Int.{to_be_bytes, w32}
 use Rattle.cmap_tokens.specs.Texts.{Text}
 use Rattle.cmap_values.specs.BigEndian.{big_endian}
@@ -8,7 +8,7 @@ use Rattle.cmap_layers.specs.Layers.{Layer}
 use Rattle.cmap_layers.specs.StringCodes.{IsShortestInside}
 use Rattle.cmap_unicode.specs.Characters.{characters_of}
 use Rattle.cmap_unicode.specs.TextsOfCodes.{Font, IsTextOf}
-use Rattle.cmap_encode.specs.Encodings.{IsNotAfter, IsString}
+use Rattle.cmap_encode.specs.Strings.{IsString}
 use Rattle.cmap_encode.specs.declared.code.Code.{Code}
 
 -- the bytes of a code of this length, the high one first
@@ -33,12 +33,10 @@ pub record IsCodeOf (font : Font) (text bytes : List ℕ) : Type 0 where
   pub is_text : IsTextOf font (big_endian bytes) (length bytes) (Some its)
   pub characters : characters_of its ≡ text
 
--- of these codes, it is the first that has the text; or none has it
-abbrev pub IsFirstAmong : (List ℕ → Type 0) → Font → List ℕ → Option (List ℕ) → Type 0
-IsFirstAmong Among font text found = MatchOption found
-    ((bytes : List ℕ) → IsString bytes → Among bytes → IsCodeOf font text bytes → ⊥)
-    (λ bytes. IsString bytes × Among bytes × IsCodeOf font text bytes × ((other : List ℕ) → IsString other → Among other → IsCodeOf font text other → IsNotAfter bytes other))
-
 -- the codes that are shorter, and those as long with a number below a limit
 abbrev pub IsBefore : ℕ → ℕ → List ℕ → Type 0
 IsBefore len limit bytes = (length bytes < len) ⊎ ((length bytes ≡ len) × (big_endian bytes < limit))
+
+-- the codes of len bytes with a number from a first one on and below a limit
+abbrev pub IsBetween : ℕ → ℕ → ℕ → List ℕ → Type 0
+IsBetween len first limit bytes = (length bytes ≡ len) × (first ≤ big_endian bytes) × (big_endian bytes < limit)

@@ -1,11 +1,12 @@
 -- Texts encoded piece by piece, by what stands for the pieces.
-use Rattle.std.specs.Prelude.{◌≡◌, ℕ, ◌+◌, ◌<◌, ◌≤◌, ◌⊎◌, All, List, [], ◌∷◌, ◌++◌, drop, flat_map, length, take}
+use Rattle.std.specs.Prelude.{◌≡◌, ℕ, ◌+◌, ◌<◌, ◌≤◌, List, ◌++◌, Option, drop, false, flat_map, length, option_map, take}
 use Rattle.std.specs.Char.{encode_utf8}
+use Rattle.cmap_encode.specs.ChoicesSeen.{own_choice}
+use Rattle.cmap_encode.specs.Maps.{Maps}
 use Rattle.cmap_encode.specs.Pieces.{AreChoices, Choice, Choices, IsEncodable}
-
--- a string has bytes
-abbrev pub IsString : List ℕ → Type 0
-IsString string = All (λ byte. byte < 256) string
+use Rattle.cmap_encode.specs.StandsFor.{IsOwn}
+use Rattle.cmap_encode.specs.Standing.{standing}
+use Rattle.cmap_encode.specs.declared.rank.Ranked.{Ranked}
 
 -- the text falls into pieces, and the string is what stands for them, one after another
 pub record IsEncodingBy (choices : Choices) (text string : List ℕ) : Type 0 where
@@ -34,13 +35,33 @@ pub data IsLossyEncodingBy (choices : Choices) (missing : List ℕ) : List ℕ �
   stuck : (text prefix rest : List ℕ) (count : ℕ) → IsLongestEncodable choices text count → count < length text → IsEncodingBy choices (take count text) prefix
       → IsLossyEncodingBy choices missing (drop (count + 1) text) rest → IsLossyEncodingBy choices missing text (prefix ++ (missing ++ rest))
 
--- ---- which of two strings comes first
--- the first string is less at the first byte at which the two differ, or it is a prefix of the second
-abbrev pub IsAtMost : List ℕ → List ℕ → Type 0
-IsAtMost [] ys = Unit {0}
-IsAtMost (x ∷ xs) [] = ⊥
-IsAtMost (x ∷ xs) (y ∷ ys) = (x < y) ⊎ ((x ≡ y) × IsAtMost xs ys)
+-- ---- by the maps of a font
+-- it has the own code of the text, or the text has none
+pub record IsOwnChoice (maps : Maps) (text : List ℕ) (own : Option Choice) : Type 0 where
+  pub found : Option Ranked
+  pub is_own : IsOwn maps text found
+  pub is : own ≡ option_map own_choice found
 
--- it is shorter than the second, or as long and no greater
-abbrev pub IsNotAfter : List ℕ → List ℕ → Type 0
-IsNotAfter string other = (length string < length other) ⊎ ((length string ≡ length other) × IsAtMost string other)
+-- what stands for each text, by own codes
+pub record AreChoicesOf (maps : Maps) (choices : Choices) : Type 0 where
+  pub own : Choices
+  pub owns : (text : List ℕ) → IsOwnChoice maps text (own text)
+  pub are : choices ≡ standing own false
+
+-- the string is the encoding of the text
+pub record IsEncodingOf (maps : Maps) (text string : List ℕ) : Type 0 where
+  pub choices : Choices
+  pub are : AreChoicesOf maps choices
+  pub encoding : IsEncodingBy choices text string
+
+-- the text has no encoding; its longest prefix that has one ends at this offset, in bytes of UTF-8
+pub record IsStuckAt (maps : Maps) (text : List ℕ) (offset : ℕ) : Type 0 where
+  pub choices : Choices
+  pub are : AreChoicesOf maps choices
+  pub stuck : IsStuckBy choices text offset
+
+-- the string is the encoding of the text as far as it has one, with other bytes for the other characters
+pub record IsLossyEncodingOf (maps : Maps) (missing text string : List ℕ) : Type 0 where
+  pub choices : Choices
+  pub are : AreChoicesOf maps choices
+  pub encoding : IsLossyEncodingBy choices missing text string

@@ -1,62 +1,63 @@
--- Private aid: the codes that runs give to texts.
+-- Private aid: the codes that runs give to texts and to glyphs.
 use Rattle.std.specs.Prelude.{◌≡◌, ◌↔◌, ℕ, ◌+◌, ◌<◌, ◌≤◌, ◌⊎◌, List, All, Any, Option, None, Some, option_map}
 use Rattle.cmap_tokens.specs.Texts.{Text}
 use Rattle.cmap_layers.specs.Layers.{Layer}
-use Rattle.cmap_unicode.specs.Characters.{characters_of}
-use Rattle.cmap_unicode.specs.Cids.{declared_cid}
-use Rattle.cmap_unicode.specs.TextsOfCodes.{Font, text_in}
-use Rattle.cmap_encode.specs.Codes.{IsBefore, IsCodeOf, code_bytes}
-use Rattle.cmap_encode.specs.Encodings.{IsNotAfter, IsString}
+use Rattle.cmap_unicode.specs.CountedTexts.{text_after}
+use Rattle.cmap_unicode.specs.TextsOfCodes.{text_in}
+use Rattle.cmap_encode.specs.Codes.{IsBefore}
 use Rattle.cmap_encode.specs.FirstsSeen.{Gives, IsCodeRun, first_at}
+use Rattle.cmap_encode.specs.GlyphsSeen.{glyph_after}
+use Rattle.cmap_encode.specs.Maps.{Maps, glyph_of}
+use Rattle.cmap_encode.specs.Ranks.{Candidate, as_ranked}
 use Rattle.cmap_encode.specs.RunsSeen.{AreRunsByFront, GivesText}
+use Rattle.cmap_encode.specs.StandsFor.{HasText, IsShown, IsSilent, IsStated}
 use Rattle.cmap_encode.specs.declared.firsts.CodeRun.{CodeRun}
 use Rattle.cmap_encode.specs.declared.gathered.Gathered.{Gathered}
+use Rattle.cmap_encode.specs.declared.glyphs.Glyphs.{Glyphs}
+use Rattle.cmap_encode.specs.declared.rank.Rank.TheVariants.{Collection, Stated}
 use Rattle.cmap_encode.specs.declared.runs_by_front.RunsByFront.{RunsByFront}
 
--- the map of a character collection gives a CID this text
-pub record IsTextOfCid (collection : Option (List Layer)) (cid : ℕ) (text : List ℕ) : Type 0 where
-  pub its : Text
-  pub is_text : text_in collection cid ≡ Some its
-  pub characters : characters_of its ≡ text
+-- those of a kind before a limit are given, and no others
+abbrev pub AreJust : ℕ → ℕ → (Candidate → Type 0) → (Candidate → Type 0) → Type 0
+AreJust len limit Kind Given = (one : Candidate) → Given one ↔ (IsBefore len limit one.bytes × Kind one)
 
--- a run gives the code of these bytes to a CID that has the text
-pub record GivesByCid (collection : Option (List Layer)) (cids : List CodeRun) (text bytes : List ℕ) : Type 0 where
-  pub cid : ℕ
-  pub given : Any (Gives cid bytes) cids
-  pub has : IsTextOfCid collection cid text
+abbrev pub IsStatedOne : Maps → List ℕ → Candidate → Type 0
+IsStatedOne maps text one = (one.rank ≡ Stated) × IsStated maps text one.bytes
 
--- it is the first code of a CID that has the text, from a first CID on and below a limit
-pub record GivesFirst (collection : Option (List Layer)) (firsts : List CodeRun) (first limit : ℕ) (text bytes : List ℕ) : Type 0 where
-  pub cid : ℕ
-  pub from : first ≤ cid
-  pub below : cid < limit
-  pub given : option_map code_bytes (first_at firsts cid) ≡ Some bytes
-  pub has : IsTextOfCid collection cid text
+-- runs of silent codes by their glyphs all have the same rank
+abbrev pub IsSilentOne : Maps → ℕ → Candidate → Type 0
+IsSilentOne maps cid one = (one.rank ≡ Collection) × IsSilent maps cid one.bytes
 
--- the first codes of these CIDs are added
-abbrev pub AddsCids : Option (List Layer) → List CodeRun → ℕ → ℕ → RunsByFront → RunsByFront → Type 0
-AddsCids collection firsts first limit old new = (text bytes : List ℕ) → GivesText new text bytes ↔ (GivesText old text bytes ⊎ GivesFirst collection firsts first limit text bytes)
-
--- the code is given to the text, or to a CID that has it
-abbrev pub GivesCode : Option (List Layer) → RunsByFront → List CodeRun → List ℕ → List ℕ → Type 0
-GivesCode collection texts cids text bytes = GivesText texts text bytes ⊎ GivesByCid collection cids text bytes
-
--- each code that is given to a text has it; and to the text of each code before a limit that code or an earlier one is given
-pub record IsGathered (font : Font) (len limit : ℕ) (Given : List ℕ → List ℕ → Type 0) : Type 0 where
-  pub sound : (text bytes : List ℕ) → Given text bytes → IsString bytes × IsCodeOf font text bytes
-  pub complete : (text bytes : List ℕ) → IsString bytes → IsBefore len limit bytes → IsCodeOf font text bytes → (first : List ℕ) × Given text first × IsNotAfter first bytes
-
-pub record AreGathered (font : Font) (len limit : ℕ) (gathered : Gathered) : Type 0 where
+pub record AreGathered (maps : Maps) (len limit : ℕ) (gathered : Gathered) : Type 0 where
   pub texts : AreRunsByFront gathered.texts
   pub cids : All IsCodeRun gathered.cids.items
-  pub codes : IsGathered font len limit (GivesCode font.collection gathered.texts gathered.cids.items)
+  pub stated : (text : List ℕ) → AreJust len limit (IsStatedOne maps text) (GivesText gathered.texts text)
+  pub silent : (cid : ℕ) → AreJust len limit (IsSilentOne maps cid) (λ one. Any (Gives cid one) gathered.cids.items)
 
--- the map has no texts for codes from the first to the last one
+-- the map has texts for codes from the first to the last one, which count on from this one
+abbrev pub HasTexts : Option (List Layer) → ℕ → ℕ → Text → Type 0
+HasTexts map first last its = (count : ℕ) → first + count ≤ last → text_in map (first + count) ≡ Some (text_after its count)
+
+-- the map has no texts for them
 abbrev pub HasNoTexts : Option (List Layer) → ℕ → ℕ → Type 0
 HasNoTexts map first last = (code : ℕ) → first ≤ code → code ≤ last → text_in map code ≡ None
 
--- codes of len bytes from the first to the last one have these CIDs, and no text by themselves
-pub record HaveCids (font : Font) (len first last : ℕ) (cid_after : ℕ → ℕ) : Type 0 where
-  pub within : first ≤ last
-  pub silent : HasNoTexts font.to_unicode first last
-  pub declared : (count : ℕ) → first + count ≤ last → declared_cid font.encoding (first + count) len ≡ Some (cid_after count)
+-- codes of len bytes from the first to the last one have a glyph where they are declared
+abbrev pub AreShown : Maps → ℕ → ℕ → ℕ → Type 0
+AreShown maps len first last = (count : ℕ) → first + count ≤ last → IsShown maps (first + count) len
+
+-- they have these glyphs
+abbrev pub HaveGlyphs : Maps → ℕ → ℕ → ℕ → Glyphs → Type 0
+HaveGlyphs maps len first last glyphs = (count : ℕ) → first + count ≤ last → glyph_of maps (first + count) len ≡ glyph_after glyphs count
+
+-- it is the first code of a CID that has the text, from a first CID on and below a limit
+pub record GivesFirst (collection : Option (List Layer)) (firsts : List CodeRun) (first limit : ℕ) (text : List ℕ) (one : Candidate) : Type 0 where
+  pub cid : ℕ
+  pub from : first ≤ cid
+  pub below : cid < limit
+  pub given : option_map (as_ranked Collection) (first_at firsts cid) ≡ Some one
+  pub has : HasText collection cid text
+
+-- the first codes of these CIDs are added
+abbrev pub AddsCids : Option (List Layer) → List CodeRun → ℕ → ℕ → RunsByFront → RunsByFront → Type 0
+AddsCids collection firsts first limit old new = (text : List ℕ) (one : Candidate) → GivesText new text one ↔ (GivesText old text one ⊎ GivesFirst collection firsts first limit text one)

@@ -4,11 +4,11 @@ use Rattle.std.specs.Global.{Vec}
 use Rattle.cmap_tokens.specs.Texts.{Text}
 use Rattle.cmap_unicode.specs.Characters.{characters_of}
 use Rattle.cmap_unicode.specs.CountedTexts.{text_after}
-use Rattle.cmap_encode.specs.Codes.{code_bytes}
-use Rattle.cmap_encode.specs.FirstsSeen.{Gives, IsCodeRun, code_after}
+use Rattle.cmap_encode.specs.FirstsSeen.{Gives, IsCodeRun}
+use Rattle.cmap_encode.specs.Ranks.{Candidate, candidate_of, ranked_after}
 use Rattle.cmap_encode.specs.TreeSeen.{node_of, step_of}
-use Rattle.cmap_encode.specs.declared.code.Code.{Code}
 use Rattle.cmap_encode.specs.declared.firsts.CodeRun.{CodeRun}
+use Rattle.cmap_encode.specs.declared.rank.Ranked.{Ranked}
 use Rattle.cmap_encode.specs.declared.runs_by_front.RunsByFront.{RunsByFront}
 
 -- the index of the runs of a front: its node
@@ -23,11 +23,10 @@ items_of (Some runs) = runs.items
 abbrev pub runs_of : RunsByFront → List ℕ → List CodeRun
 runs_of all front = items_of (option_and_then (slice_get all.lists.items) (number_of all front))
 
--- fronts have an index of their own each, and no text is longer than is said
+-- fronts have an index of their own each
 pub record AreRunsByFront (all : RunsByFront) : Type 0 where
   pub within : (front : List ℕ) (number : ℕ) → number_of all front ≡ Some number → number < length all.lists.items
   pub apart : (front other : List ℕ) (number : ℕ) → number_of all front ≡ Some number → number_of all other ≡ Some number → front ≡ other
-  pub longest : (front : List ℕ) (number : ℕ) → number_of all front ≡ Some number → length front < all.longest
   pub inside : (node character next : ℕ) → step_of all.tree node character ≡ Some next → node < length all.lists.items
   pub runs : All (λ (list : Vec CodeRun). All IsCodeRun list.items) all.lists.items
 
@@ -36,25 +35,24 @@ pub record Numbers (old : RunsByFront) (front : List ℕ) (node : ℕ) (new : Ru
   pub are : AreRunsByFront new
   pub number : number_of new front ≡ Some node
   pub runs : (other : List ℕ) → runs_of new other ≡ runs_of old other
-  pub longest : new.longest ≡ old.longest
 
 abbrev pub HasNoRuns : RunsByFront → Type 0
 HasNoRuns all = (front : List ℕ) → runs_of all front ≡ []
 
--- a run gives the text the code of these bytes
-pub record GivesText (all : RunsByFront) (text bytes : List ℕ) : Type 0 where
+-- a run gives the text the code of these bytes, with this rank
+pub record GivesText (all : RunsByFront) (text : List ℕ) (one : Candidate) : Type 0 where
   pub front : List ℕ
   pub last : ℕ
   pub is : text ≡ front ++ last ∷ []
-  pub given : Any (Gives last bytes) (runs_of all front)
+  pub given : Any (Gives last one) (runs_of all front)
 
 -- the code so many codes after this one, for the text that counts on by as many
-pub record IsFurther (its : Text) (code : Code) (more : ℕ) (text bytes : List ℕ) : Type 0 where
+pub record IsFurther (its : Text) (first : Ranked) (more : ℕ) (text : List ℕ) (one : Candidate) : Type 0 where
   pub count : ℕ
   pub within : count ≤ more
   pub is_text : text ≡ characters_of (text_after its count)
-  pub is_code : bytes ≡ code_bytes (code_after count code)
+  pub is_code : one ≡ candidate_of (ranked_after count first)
 
 -- the codes from this one on for a text and those that count on from it are added
-abbrev pub AddsTexts : RunsByFront → RunsByFront → Text → Code → ℕ → Type 0
-AddsTexts old new its code more = (text bytes : List ℕ) → GivesText new text bytes ↔ (GivesText old text bytes ⊎ IsFurther its code more text bytes)
+abbrev pub AddsTexts : RunsByFront → RunsByFront → Text → Ranked → ℕ → Type 0
+AddsTexts old new its first more = (text : List ℕ) (one : Candidate) → GivesText new text one ↔ (GivesText old text one ⊎ IsFurther its first more text one)

@@ -6,7 +6,7 @@ use Rattle.cmap_values.specs.BigEndian.{big_endian}
 use Rattle.cmap_values.specs.Files.{Codespace}
 use Rattle.cmap_layers.specs.Layers.{Layer}
 use Rattle.cmap_encode.specs.Codes.{IsWhole}
-use Rattle.cmap_encode.specs.Encodings.{IsString}
+use Rattle.cmap_encode.specs.Strings.{IsString}
 use Rattle.cmap_encode.specs.Outside.{IsInside}
 use Rattle.cmap_encode.specs.declared.whole.WholeStretch.{WholeStretch}
 

@@ -1,4 +1,5 @@
-//! The codes of CIDs, by the texts that the map of a character collection gives these.
+//! The codes of CIDs, by the texts that the map of a character collection gives these: those of the last
+//! rank.
 
 ghost use Rattle.std.specs.Prelude.{◌^◌, ◌<◌, ◌≤◌, IfOk, OnOk};
 ghost use Rattle.std.specs.Option.{option_copied};
@@ -6,6 +7,7 @@ ghost use Rattle.cmap_encode.specs.GatheredSeen.{AddsCids};
 ghost use Rattle.cmap_encode.specs.RunsSeen.{AreRunsByFront};
 
 use crate::firsts::Firsts;
+use crate::rank::{Rank, Ranked};
 use crate::runs_by_front::RunsByFront;
 use cmap_layers::layers::Layers;
 use cmap_unicode::texts_in_row;
@@ -46,7 +48,7 @@ fn add_row(
         (λ next. AddsCids (option_copied collection.entry) cids.now first next texts.old texts.new) }
 {
     let stretch = cids.stretch(first);
-    let Some(code) = stretch.code else {
+    let Some(own) = stretch.first else {
         return Ok(u64::from(stretch.last) + 1);
     };
     let row = texts_in_row(alloc, collection, first)?;
@@ -54,6 +56,10 @@ fn add_row(
     let Some(text) = &row.text else {
         return Ok(u64::from(last) + 1);
     };
-    let further = texts.add_texts(alloc, text, code, last - first)?;
+    let begin = Ranked {
+        code: own.code,
+        rank: Rank::Collection,
+    };
+    let further = texts.add_texts(alloc, text, begin, last - first)?;
     Ok(u64::from(first) + u64::from(further) + 1)
 }

@@ -7,9 +7,10 @@ ghost use Rattle.cmap_encode.specs.Standing as standing;
 ghost use Rattle.cmap_encode.specs.TreeSeen.{step_of};
 
 use crate::alike::{alike_to, national_of};
-use crate::code::{Code, Rank, Ranked};
+use crate::code::Code;
 use crate::index::Index;
 use crate::letters::is_selector;
+use crate::rank::Ranked;
 use crate::tree::EMPTY;
 use std::alloc::AllocError;
 

@@ -4,10 +4,8 @@ ghost use Rattle.std.specs.Prelude.{◌≡◌, ◌++◌, MatchOption, OnOk, byte
 ghost use Rattle.cmap_values.specs.CodeLengths.{length_of};
 ghost use Rattle.cmap_values.specs.Only.{HoldsOfNone};
 ghost use Rattle.cmap_layers.specs.StringCodes.{BeginsInside, IsShortestInside};
-ghost use Rattle.cmap_encode.specs.ChoicesSeen.{choice_seen, grade_of, own_choice};
 ghost use Rattle.cmap_encode.specs.Codes.{code_bytes};
 
-use crate::choices::{Choice, Grade};
 use cmap_layers::layers::Layers;
 use cmap_values::code_length::CodeLength;
 use std::alloc::AllocError;
@@ -17,46 +15,6 @@ use std::alloc::AllocError;
 pub(crate) struct Code {
     pub(crate) number: u32,
     pub(crate) len: CodeLength,
-}
-
-/// How a code stands for a text, best first.
-#[derive(Clone, Copy, PartialEq, Eq)]
-pub(crate) enum Rank {
-    Stated,
-    OwnForm,
-    Canonical,
-    Collection,
-}
-
-/// A code with its rank.
-#[derive(Clone, Copy)]
-pub(crate) struct Ranked {
-    pub(crate) code: Code,
-    pub(crate) rank: Rank,
-}
-
-impl Ranked {
-    /// The code, as what stands for a text.
-    pub(crate) fn choice(self) -> Choice
-        ensures { choice_seen result ≡ own_choice self }
-    {
-        Choice {
-            code: Some(self.code),
-            grade: self.rank.grade(),
-        }
-    }
-}
-
-impl Rank {
-    fn grade(self) -> Grade
-        ensures { result ≡ grade_of self }
-    {
-        match self {
-            Rank::Stated => Grade::Stated,
-            Rank::OwnForm | Rank::Canonical => Grade::Canonical,
-            Rank::Collection => Grade::Collection,
-        }
-    }
 }
 
 impl Code {

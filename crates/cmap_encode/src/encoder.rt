@@ -3,10 +3,11 @@
 ghost use Rattle.std.specs.Prelude.{◌≡◌, ◌≤◌, IfOk, MatchOption, length};
 ghost use Rattle.std.specs.Str.{chars};
 ghost use Rattle.cmap_unicode.specs.Characters.{font_of};
-ghost use Rattle.cmap_unicode.specs.TextsOfCodes as texts;
 ghost use Rattle.cmap_values.specs.Outcomes.{Outcome, RefusesWith};
 ghost use Rattle.cmap_encode.specs.ChoicesSeen.{choices_of};
-ghost use Rattle.cmap_encode.specs.Encodings.{IsEncodingBy, IsLossyEncodingBy, IsStuckBy};
+ghost use Rattle.cmap_encode.specs.EncoderSeen.{IsEncoderOf};
+ghost use Rattle.cmap_encode.specs.Encodings.{IsEncodingBy, IsEncodingOf, IsLossyEncodingBy, IsLossyEncodingOf, IsStuckAt, IsStuckBy};
+ghost use Rattle.cmap_encode.specs.Maps.{Maps, maps_of};
 ghost use Rattle.cmap_encode.specs.Pieces.{IsEncodable};
 ghost use Rattle.cmap_encode.specs.Prefixes.{IsLongestAdded};
 
@@ -35,18 +36,48 @@ impl Encoder {
     /// The encoder of a font. It keeps one code for each text that a code of the font has.
     ///
     /// It fails only if memory runs out.
-    pub fn build(alloc: Global, font: &Extractor<'_>) -> Result<Encoder, AllocError> {
-        let index = Index::build(alloc, font)?;
-        Ok(Encoder {
-            choices: Choices {
-                index,
-                exact: false,
-            },
-        })
+    pub fn build(alloc: Global, font: &Extractor<'_>) -> Result<Encoder, AllocError>
+        ensures { IfOk result (IsEncoderOf (maps_of (font_of font.now))) }
+    {
+        let index = Index::build(alloc, &crate::maps::Maps::of(font))?;
+        let choices = Choices {
+            index,
+            exact: false,
+        };
+        Ok(Encoder { choices })
     }
 
-    /// The string of a text, piece by piece.
+    /// The string of a text: the codes that stand for its pieces, one after another. A text begins with its
+    /// first letter, a character and the marks after it, where a code stands for that and what comes after it
+    /// can be encoded; else with fewer characters of the letter, the most first, or else with more, the most
+    /// first. It is refused only where no pieces can be encoded so.
     pub fn encode(&self, alloc: Global, text: &str) -> Result<Vec<u8>, Fault<Unencodable>>
+        ensures { (maps : Maps) → IsEncoderOf maps self.now → Outcome
+            (λ string. IsEncodingOf maps (chars text.now) string.items)
+            (λ refused. IsStuckAt maps (chars text.now) refused.offset) result }
+    {
+        self.encoded(alloc, text)
+    }
+
+    /// The string of a text as far as it can be encoded: the longest prefix of the text that can be is encoded
+    /// as by `encode`, `missing` stands for the character after it, and what comes after that is encoded
+    /// likewise.
+    ///
+    /// It fails only if memory runs out.
+    pub fn encode_lossy(
+        &self,
+        alloc: Global,
+        text: &str,
+        missing: &[u8],
+    ) -> Result<Vec<u8>, AllocError>
+        ensures { (maps : Maps) → IsEncoderOf maps self.now → IfOk result
+            (λ string. IsLossyEncodingOf maps missing.now (chars text.now) string.items) }
+    {
+        self.encoded_lossy(alloc, text, missing)
+    }
+
+    /// The string of a text, by what stands for its pieces.
+    fn encoded(&self, alloc: Global, text: &str) -> Result<Vec<u8>, Fault<Unencodable>>
         ensures { Outcome
             (λ string. IsEncodingBy (choices_of self.now.choices) (chars text.now) string.items)
             (λ refused. IsStuckBy (choices_of self.now.choices) (chars text.now) refused.offset) result }
@@ -58,19 +89,15 @@ impl Encoder {
         }
     }
 
-    /// The string of a text as far as it can be encoded: the longest prefix of the text that falls into pieces
-    /// is encoded as by `encode`, `missing` stands for the character after it, and what comes after that is
-    /// encoded likewise.
-    ///
-    /// It fails only if memory runs out.
-    pub fn encode_lossy(
+    /// The same as far as it falls into pieces.
+    fn encoded_lossy(
         &self,
         alloc: Global,
         text: &str,
         missing: &[u8],
     ) -> Result<Vec<u8>, AllocError>
-        ensures { IfOk result
-            (λ string. IsLossyEncodingBy (choices_of self.now.choices) missing.now (chars text.now) string.items) }
+        ensures { IfOk result (λ string. IsLossyEncodingBy (choices_of self.now.choices) missing.now
+            (chars text.now) string.items) }
     {
         let characters = characters_of(alloc, text)?;
         let mut string = Vec::new(alloc);

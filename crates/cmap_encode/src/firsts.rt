@@ -3,22 +3,23 @@
 ghost use Rattle.std.specs.Prelude.{◌≡◌, ◌+◌, ◌^◌, ◌<◌, ◌≤◌, All, IfOk, IfSome, option_map};
 ghost use Rattle.std.specs.Option.{option_copied};
 ghost use Rattle.cmap_values.specs.CodeLengths.{length_of};
-ghost use Rattle.cmap_encode.specs.FirstsSeen.{AreFirsts, IsCodeRun, IsKeyStretch, code_at, first_at, rank_of};
+ghost use Rattle.cmap_encode.specs.FirstsSeen.{AreFirsts, IsCodeRun, IsKeyStretch, code_at, first_at, precedence_of};
 
 use crate::code::Code;
+use crate::rank::{LAST_PLACE, Ranked};
 use cmap_runs::runs::{Looks, Table};
 use cmap_values::range::{HasRange, Range};
 use std::alloc::{AllocError, Global};
 use std::marker::Model;
 
 /// Codes in a row for keys in a row: the first key has the first code, and each key after it the code
-/// after.
+/// after. All have the same rank.
 #[derive(Clone, Copy)]
 pub(crate) struct CodeRun {
     /// The keys.
     pub(crate) range: Range,
     /// The code of the first key.
-    pub(crate) code: Code,
+    pub(crate) first: Ranked,
 }
 
 impl HasRange for CodeRun {
@@ -33,44 +34,52 @@ impl HasRange for CodeRun {
 
 impl CodeRun {
     /// From a first key with its code on, keys for up to `more` codes after it, as far as there are keys.
-    pub(crate) fn from_key(key: u32, code: Code, more: u32) -> CodeRun
-        requires { code.number + more < 256 ^ length_of code.len }
+    pub(crate) fn from_key(key: u32, first: Ranked, more: u32) -> CodeRun
+        requires { first.code.number + more < 256 ^ length_of first.code.len }
         ensures run { IsCodeRun result }
         ensures key { result.range.start ≡ key }
-        ensures code { result.code ≡ code }
+        ensures first { result.first ≡ first }
         ensures more { (key ≤ result.range.end) × (result.range.end ≤ key + more) }
+        ensures all { key + more < 2 ^ 32 → result.range.end ≡ key + more }
     {
         let end = key.saturating_add(more);
         CodeRun {
             range: Range { start: key, end },
-            code,
+            first,
         }
     }
 
     /// The code of a key.
-    fn code_at(self, key: u32) -> Code
+    fn code_at(self, key: u32) -> Ranked
         requires run { IsCodeRun self }
         requires start { self.range.start ≤ key }
         requires end { key ≤ self.range.end }
         ensures { result ≡ code_at self key }
     {
-        Code {
-            number: self.code.number + (key - self.range.start),
-            len: self.code.len,
+        let number = self.first.code.number + (key - self.range.start);
+        Ranked {
+            code: Code {
+                number,
+                len: self.first.code.len,
+            },
+            rank: self.first.rank,
         }
     }
 
-    /// Of two runs, the one of the higher rank gives the earlier code to each key that both have. Where
-    /// codes are as long, their numbers differ by the same at each of these keys.
-    fn rank(self) -> u64
-        ensures { result ≡ rank_of self }
+    /// Of two runs, the one of the higher precedence gives the earlier code to each key that both have.
+    /// Where ranks are the same and codes as long, their numbers differ by the same at each of these keys.
+    fn precedence(self) -> u64
+        ensures { result ≡ precedence_of self }
     {
-        let shorter = u64::from(4 - self.code.len.count()) << 33;
-        shorter + (1 << 32) + u64::from(self.range.start) - u64::from(self.code.number)
+        let better = u64::from(LAST_PLACE - self.first.rank.place()) << 35;
+        let shorter = u64::from(4 - self.first.code.len.count()) << 33;
+        better + shorter + (1 << 32) + u64::from(self.range.start)
+            - u64::from(self.first.code.number)
     }
 }
 
-/// The first code of each key: the one of the fewest bytes, and of several the one of the least number.
+/// The first code of each key: the one of the best rank, of several the one of the fewest bytes, and of
+/// several of these the one of the least number.
 #[derive(Drop)]
 pub(crate) struct Firsts {
     table: Table<CodeRun>,
@@ -93,7 +102,7 @@ impl Model for Firsts {
 #[derive(Clone, Copy)]
 pub(crate) struct KeyStretch {
     /// The code of the first key.
-    pub(crate) code: Option<Code>,
+    pub(crate) first: Option<Ranked>,
     /// The last of the keys.
     pub(crate) last: u32,
 }
@@ -105,13 +114,13 @@ impl Firsts {
         ensures { IfOk result (AreFirsts runs.items) }
     {
         let mut runs = runs;
-        runs.sort_by_key(|run| run.rank())?;
+        runs.sort_by_key(|run| run.precedence())?;
         let table = Table::build(alloc, runs)?;
         Ok(Firsts { table })
     }
 
     /// The code of a key.
-    pub(crate) fn find(&self, key: u32) -> Option<Code>
+    pub(crate) fn find(&self, key: u32) -> Option<Ranked>
         ensures { result ≡ first_at self.now key }
     {
         let run = self.table.find(key, &mut Looks::new())?;
@@ -125,11 +134,11 @@ impl Firsts {
         let mut looks = Looks::new();
         match self.table.stretches(first, &mut looks).next(&mut looks) {
             Some(stretch) => KeyStretch {
-                code: code_of(stretch.declaration, first),
+                first: code_of(stretch.declaration, first),
                 last: stretch.last,
             },
             None => KeyStretch {
-                code: None,
+                first: None,
                 last: first,
             },
         }
@@ -137,7 +146,7 @@ impl Firsts {
 }
 
 /// The code of a key that the run contains, if there is a run.
-fn code_of(run: Option<&CodeRun>, key: u32) -> Option<Code>
+fn code_of(run: Option<&CodeRun>, key: u32) -> Option<Ranked>
     requires { IfSome run (λ run. IsCodeRun run.now × (run.now.range.start ≤ key) × (key ≤ run.now.range.end)) }
     ensures { result ≡ option_map (λ run. code_at run key) (option_copied run.entry) }
 {

@@ -1,43 +1,48 @@
-//! The whole codes of a font in runs: by their texts, or by their CIDs.
+//! The whole codes of a font in runs: by their texts, or by their glyphs.
 
-ghost use Rattle.std.specs.Prelude.{◌≡◌, ◌+◌, ◌<◌, ◌≤◌, ◌^◌, IfOk, OnOk};
+ghost use Rattle.std.specs.Prelude.{◌≡◌, ◌+◌, ◌-◌, ◌<◌, ◌≤◌, ◌^◌, IfOk, OnOk, length};
 ghost use Rattle.std.specs.Option.{option_copied};
-ghost use Rattle.cmap_unicode.specs.Characters.{font_of};
+ghost use Rattle.cmap_tokens.specs.TextSeen.{text_seen};
+ghost use Rattle.cmap_unicode.specs.Characters.{characters_of};
 ghost use Rattle.cmap_values.specs.CodeLengths.{length_of};
-ghost use Rattle.cmap_encode.specs.GatheredSeen.{AreGathered, HasNoTexts, HaveCids};
+ghost use Rattle.cmap_encode.specs.GatheredSeen.{AreGathered, AreShown, HasNoTexts, HasTexts, HaveGlyphs};
+ghost use Rattle.cmap_encode.specs.GlyphsSeen.{Fit};
+ghost use Rattle.cmap_encode.specs.Maps.{maps_seen};
 
 use crate::code::Code;
 use crate::firsts::CodeRun;
+use crate::glyphs::{Glyphs, glyph_stretch};
+use crate::maps::Maps;
+use crate::rank::{Rank, Ranked};
 use crate::runs_by_front::RunsByFront;
 use crate::whole::whole_stretch;
-use cmap_layers::stretches::Cids;
-use cmap_unicode::{Extractor, declared_stretch, texts_in_row};
+use cmap_tokens::utf16::BfString;
+use cmap_unicode::texts_in_row;
 use cmap_values::code_length::CodeLength;
-use cmap_values::names::Cid;
 use std::alloc::{AllocError, Global};
 
-/// The whole codes of a font that may have a text, in runs.
+/// The whole codes of a font that may stand for a text, in runs.
 #[derive(Drop)]
 pub(crate) struct Gathered {
     /// By the texts that the ToUnicode CMap has for them.
     pub(crate) texts: RunsByFront,
-    /// By their CIDs, where it has none.
+    /// By their glyphs, where it has none.
     pub(crate) cids: Vec<CodeRun>,
 }
 
 impl Gathered {
     /// All of a font.
-    pub(crate) fn build(alloc: Global, font: &Extractor<'_>) -> Result<Gathered, AllocError>
-        ensures { IfOk result (AreGathered (font_of font.now) 5 0) }
+    pub(crate) fn build(alloc: Global, maps: &Maps<'_>) -> Result<Gathered, AllocError>
+        ensures { IfOk result (AreGathered (maps_seen maps.now) 5 0) }
     {
         let mut gathered = Gathered {
             texts: RunsByFront::new(alloc)?,
             cids: Vec::new(alloc),
         };
-        gathered.add_codes(alloc, font, CodeLength::One)?;
-        gathered.add_codes(alloc, font, CodeLength::Two)?;
-        gathered.add_codes(alloc, font, CodeLength::Three)?;
-        gathered.add_codes(alloc, font, CodeLength::Four)?;
+        gathered.add_codes(alloc, maps, CodeLength::One)?;
+        gathered.add_codes(alloc, maps, CodeLength::Two)?;
+        gathered.add_codes(alloc, maps, CodeLength::Three)?;
+        gathered.add_codes(alloc, maps, CodeLength::Four)?;
         Ok(gathered)
     }
 
@@ -45,128 +50,109 @@ impl Gathered {
     fn add_codes(
         &mut self,
         alloc: Global,
-        font: &Extractor<'_>,
+        maps: &Maps<'_>,
         len: CodeLength,
     ) -> Result<(), AllocError>
-        requires { AreGathered (font_of font.now) (length_of len) 0 self.old }
-        ensures { OnOk result (AreGathered (font_of font.now) (length_of len + 1) 0 self.new) }
+        requires { AreGathered (maps_seen maps.now) (length_of len) 0 self.old }
+        ensures { OnOk result (AreGathered (maps_seen maps.now) (length_of len + 1) 0 self.new) }
     {
         let last = u64::from(len.last_code());
         let mut next: u64 = 0;
         while next <= last {
             let number = next as u32;
-            next = self.add_from(alloc, font, Code { number, len })?;
+            next = self.add_from(alloc, maps, Code { number, len })?;
         }
         Ok(())
     }
 
-    /// Adds a code, with codes after it that have texts or CIDs in a row with it, or passes over codes
-    /// that aren't whole or have none. It gives the number of the code with which to go on.
-    fn add_from(
-        &mut self,
-        alloc: Global,
-        font: &Extractor<'_>,
-        code: Code,
-    ) -> Result<u64, AllocError>
-        requires before { AreGathered (font_of font.now) (length_of code.len) code.number self.old }
+    /// Adds a code, with codes after it that have texts or glyphs in a row with it, or passes over codes
+    /// that aren't whole, that have neither, or that a notdef stands for. It gives the number of the code
+    /// with which to go on.
+    fn add_from(&mut self, alloc: Global, maps: &Maps<'_>, code: Code) -> Result<u64, AllocError>
+        requires before { AreGathered (maps_seen maps.now) (length_of code.len) code.number self.old }
         requires fits { code.number < 256 ^ length_of code.len }
         ensures more { IfOk result (λ next. code.number < next) }
         ensures are { IfOk result
-            (λ next. AreGathered (font_of font.now) (length_of code.len) next self.new) }
+            (λ next. AreGathered (maps_seen maps.now) (length_of code.len) next self.new) }
     {
-        let row = texts_in_row(alloc, font.to_unicode, code.number)?;
+        let row = texts_in_row(alloc, maps.font.to_unicode, code.number)?;
+        let stretch = glyph_stretch(maps.lower, maps.font.encoding.as_slice(), code);
+        let last = row.last.min(stretch.last);
         let Some(text) = &row.text else {
-            return self.add_cids(alloc, font, code, row.last);
+            return self.add_silent(alloc, maps, code, stretch.glyphs, last);
         };
-        let whole = whole_stretch(font.encoding, code);
+        if let Glyphs::Missing = stretch.glyphs {
+            return Ok(u64::from(stretch.last) + 1);
+        }
+        self.add_stated(alloc, maps, code, text, last)
+    }
+
+    /// The same for codes up to `last` whose texts count on from this one.
+    fn add_stated(
+        &mut self,
+        alloc: Global,
+        maps: &Maps<'_>,
+        code: Code,
+        text: &BfString,
+        last: u32,
+    ) -> Result<u64, AllocError>
+        requires before { AreGathered (maps_seen maps.now) (length_of code.len) code.number self.old }
+        requires fits { code.number < 256 ^ length_of code.len }
+        requires within { code.number ≤ last }
+        requires some { 0 < length (characters_of (text_seen text.now)) }
+        requires texts { HasTexts (option_copied maps.now.font.to_unicode) code.number last
+            (text_seen text.now) }
+        requires shown { AreShown (maps_seen maps.now) (length_of code.len) code.number last }
+        ensures more { IfOk result (λ next. code.number < next) }
+        ensures are { IfOk result
+            (λ next. AreGathered (maps_seen maps.now) (length_of code.len) next self.new) }
+    {
+        let whole = whole_stretch(maps.font.encoding, code);
         if !whole.are_whole {
             return Ok(u64::from(whole.last) + 1);
         }
-        let more = row.last.min(whole.last) - code.number;
-        let further = self.texts.add_texts(alloc, text, code, more)?;
+        let first = Ranked {
+            code,
+            rank: Rank::Stated,
+        };
+        let more = last.min(whole.last) - code.number;
+        let further = self.texts.add_texts(alloc, text, first, more)?;
         Ok(u64::from(code.number) + u64::from(further) + 1)
     }
 
-    /// The same by CIDs, where the ToUnicode CMap has no text for the codes up to `last`.
-    fn add_cids(
+    /// The same for codes up to `last` that have no texts by themselves, and these glyphs.
+    fn add_silent(
         &mut self,
         alloc: Global,
-        font: &Extractor<'_>,
+        maps: &Maps<'_>,
         code: Code,
+        glyphs: Glyphs,
         last: u32,
     ) -> Result<u64, AllocError>
-        requires before { AreGathered (font_of font.now) (length_of code.len) code.number self.old }
+        requires before { AreGathered (maps_seen maps.now) (length_of code.len) code.number self.old }
         requires fits { code.number < 256 ^ length_of code.len }
         requires within { code.number ≤ last }
-        requires none { HasNoTexts (option_copied font.now.to_unicode) code.number last }
+        requires none { HasNoTexts (option_copied maps.now.font.to_unicode) code.number last }
+        requires glyphs { HaveGlyphs (maps_seen maps.now) (length_of code.len) code.number last glyphs }
+        requires fit { Fit glyphs (last - code.number) }
         ensures more { IfOk result (λ next. code.number < next) }
         ensures are { IfOk result
-            (λ next. AreGathered (font_of font.now) (length_of code.len) next self.new) }
+            (λ next. AreGathered (maps_seen maps.now) (length_of code.len) next self.new) }
     {
-        let stretch = declared_stretch(font.encoding, code.number, code.len);
-        let last = last.min(stretch.last);
-        match stretch.cids {
-            Cids::Absent => Ok(u64::from(last) + 1),
-            Cids::Same(cid) => self.add_same(alloc, font, code, cid, last),
-            Cids::CountOn(cid) => self.add_counting(alloc, font, code, cid, last),
-        }
-    }
-
-    /// The same for codes up to `last` that have this CID. The first whole one stands for all.
-    fn add_same(
-        &mut self,
-        alloc: Global,
-        font: &Extractor<'_>,
-        code: Code,
-        cid: Cid,
-        last: u32,
-    ) -> Result<u64, AllocError>
-        requires before { AreGathered (font_of font.now) (length_of code.len) code.number self.old }
-        requires fits { code.number < 256 ^ length_of code.len }
-        requires cids { HaveCids (font_of font.now) (length_of code.len) code.number last (λ count. cid) }
-        ensures more { IfOk result (λ next. code.number < next) }
-        ensures are { IfOk result
-            (λ next. AreGathered (font_of font.now) (length_of code.len) next self.new) }
-    {
-        if texts_in_row(alloc, font.collection, cid)?.text.is_none() {
+        let Glyphs::CountOn(cid) = glyphs else {
             return Ok(u64::from(last) + 1);
-        }
-        let whole = whole_stretch(font.encoding, code);
+        };
+        let whole = whole_stretch(maps.font.encoding, code);
         if !whole.are_whole {
             return Ok(u64::from(whole.last) + 1);
         }
-        self.cids.push(CodeRun::from_key(cid, code, 0))?;
+        let first = Ranked {
+            code,
+            rank: Rank::Collection,
+        };
+        let last = last.min(whole.last);
+        self.cids
+            .push(CodeRun::from_key(cid, first, last - code.number))?;
         Ok(u64::from(last) + 1)
-    }
-
-    /// The same for codes up to `last` whose CIDs count on from this one.
-    fn add_counting(
-        &mut self,
-        alloc: Global,
-        font: &Extractor<'_>,
-        code: Code,
-        cid: Cid,
-        last: u32,
-    ) -> Result<u64, AllocError>
-        requires before { AreGathered (font_of font.now) (length_of code.len) code.number self.old }
-        requires fits { code.number < 256 ^ length_of code.len }
-        requires cids { HaveCids (font_of font.now) (length_of code.len) code.number last
-            (λ count. cid + count) }
-        ensures more { IfOk result (λ next. code.number < next) }
-        ensures are { IfOk result
-            (λ next. AreGathered (font_of font.now) (length_of code.len) next self.new) }
-    {
-        let row = texts_in_row(alloc, font.collection, cid)?;
-        if row.text.is_none() {
-            let more = (last - code.number).min(row.last - cid);
-            return Ok(u64::from(code.number) + u64::from(more) + 1);
-        }
-        let whole = whole_stretch(font.encoding, code);
-        if !whole.are_whole {
-            return Ok(u64::from(whole.last) + 1);
-        }
-        let run = CodeRun::from_key(cid, code, last.min(whole.last) - code.number);
-        self.cids.push(run)?;
-        Ok(u64::from(code.number) + u64::from(run.range.end - run.range.start) + 1)
     }
 }

@@ -1,46 +1,43 @@
-//! The first code of each text of a font.
+//! The code of each text of a font: the first of those that stand for it.
 
-ghost use Rattle.std.specs.Prelude.{◌≡◌, All, IfOk, option_and_then, option_map};
+ghost use Rattle.std.specs.Prelude.{◌≡◌, All, IfOk, option_and_then};
 ghost use Rattle.std.specs.List.{AllZip};
 ghost use Rattle.std.specs.Global.{Vec as List_of};
-ghost use Rattle.cmap_unicode.specs.Characters.{font_of};
-ghost use Rattle.cmap_encode.specs.Codes.{code_bytes};
 ghost use Rattle.cmap_encode.specs.FirstsSeen.{IsCodeRun};
 ghost use Rattle.cmap_encode.specs.IndexSeen.{AreFirstsOf, IsIndexOf, own_at};
+ghost use Rattle.cmap_encode.specs.Maps.{maps_seen};
 ghost use Rattle.cmap_encode.specs.TreeSeen.{step_of};
 
 use crate::by_cid::add_cids;
-use crate::code::{Rank, Ranked};
 use crate::firsts::{CodeRun, Firsts};
 use crate::gathered::Gathered;
+use crate::maps::Maps;
+use crate::rank::Ranked;
 use crate::tree::Tree;
-use cmap_unicode::Extractor;
 use std::alloc::{AllocError, Global};
 
-/// The first code of each text: the one of the fewest bytes, and of several the one of the least number.
+/// The first code of each text: the one of the best rank, of several the one of the fewest bytes, and of
+/// several of these the one of the least number.
 #[derive(Drop)]
 pub(crate) struct Index {
     /// Fronts, the characters of texts before the last one, as nodes.
     tree: Tree,
     /// The first code of each last character, for each node that a last character follows.
     firsts: Vec<Option<Box<Firsts>>>,
-    /// How many characters the longest text has, or 1.
-    pub(crate) longest: usize,
 }
 
 impl Index {
-    /// The index of a font. A code counts that lies in a codespace range, and none of whose fronts does.
-    pub(crate) fn build(alloc: Global, font: &Extractor<'_>) -> Result<Index, AllocError>
-        ensures { IfOk result (IsIndexOf (font_of font.now)) }
+    /// The index of a font. A code counts that lies in a codespace range, and none of whose prefixes does.
+    pub(crate) fn build(alloc: Global, maps: &Maps<'_>) -> Result<Index, AllocError>
+        ensures { IfOk result (IsIndexOf (maps_seen maps.now)) }
     {
-        let gathered = Gathered::build(alloc, font)?;
+        let gathered = Gathered::build(alloc, maps)?;
         let cids = Firsts::build(alloc, gathered.cids)?;
         let mut texts = gathered.texts;
-        add_cids(alloc, &mut texts, font.collection, &cids)?;
+        add_cids(alloc, &mut texts, maps.font.collection, &cids)?;
         Ok(Index {
             tree: texts.tree,
             firsts: firsts_of(alloc, texts.lists)?,
-            longest: texts.longest,
         })
     }
 
@@ -48,11 +45,7 @@ impl Index {
     pub(crate) fn find(&self, node: Option<usize>, last: char) -> Option<Ranked>
         ensures { result ≡ own_at self.now node last }
     {
-        let code = self.firsts.get(node?)?.as_ref()?.find(u32::from(last))?;
-        Some(Ranked {
-            code,
-            rank: Rank::Stated,
-        })
+        self.firsts.get(node?)?.as_ref()?.find(u32::from(last))
     }
 
     /// The node of the text of a node and one more character.

@@ -112,7 +112,10 @@ fn begun(
     ensures { IfOk result (λ after. WentOn choices.now character may_begin [] after.items) }
 {
     let mut after = Vec::new(alloc);
-    if may_begin && let Some(next) = choices.after(Some(EMPTY), character) {
+    if !may_begin {
+        return Ok(after);
+    }
+    if let Some(next) = choices.after(Some(EMPTY), character) {
         after.push(next)?;
     }
     Ok(after)

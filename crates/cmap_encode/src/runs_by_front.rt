@@ -8,8 +8,8 @@ ghost use Rattle.cmap_values.specs.CodeLengths.{length_of};
 ghost use Rattle.cmap_encode.specs.FirstsSeen.{IsCodeRun};
 ghost use Rattle.cmap_encode.specs.RunsSeen.{AddsTexts, AreRunsByFront, HasNoRuns, Numbers, number_of, runs_of};
 
-use crate::code::Code;
 use crate::firsts::CodeRun;
+use crate::rank::Ranked;
 use crate::tree::{EMPTY, Tree};
 use cmap_tokens::utf16::BfString;
 use std::alloc::{AllocError, Global};
@@ -22,8 +22,6 @@ pub(crate) struct RunsByFront {
     pub(crate) tree: Tree,
     /// The runs of each node.
     pub(crate) lists: Vec<Vec<CodeRun>>,
-    /// How many characters the longest text has, or 1.
-    pub(crate) longest: usize,
 }
 
 impl RunsByFront {
@@ -37,7 +35,6 @@ impl RunsByFront {
         Ok(RunsByFront {
             tree: Tree::new(alloc),
             lists,
-            longest: 1,
         })
     }
 
@@ -48,21 +45,21 @@ impl RunsByFront {
         &mut self,
         alloc: Global,
         text: &BfString,
-        code: Code,
+        first: Ranked,
         more: u32,
     ) -> Result<u32, AllocError>
         requires are { AreRunsByFront self.old }
         requires some { 0 < length (characters_of (text_seen text.now)) }
-        requires fits { code.number + more < 256 ^ length_of code.len }
+        requires fits { first.code.number + more < 256 ^ length_of first.code.len }
         ensures within { IfOk result (λ further. further ≤ more) }
         ensures are { OnOk result (AreRunsByFront self.new) }
-        ensures texts { IfOk result (AddsTexts self.old self.new (text_seen text.now) code) }
+        ensures texts { IfOk result (AddsTexts self.old self.new (text_seen text.now) first) }
     {
         let mut front = characters(alloc, text)?;
         let Some(last) = front.pop() else {
             return Ok(0);
         };
-        let run = CodeRun::from_key(u32::from(last), code, more);
+        let run = CodeRun::from_key(u32::from(last), first, more);
         self.add(alloc, &front, run)?;
         Ok(run.range.end - run.range.start)
     }
@@ -89,7 +86,6 @@ impl RunsByFront {
         ensures runs { OnOk result
             ((other : List ℕ) → runs_of self.new other ≡ runs_of self.old other) }
     {
-        self.longest = self.longest.max(front.len() + 1);
         let mut node = EMPTY;
         for character in front {
             node = self.number_after(alloc, node, *character)?;
@@ -106,7 +102,6 @@ impl RunsByFront {
     ) -> Result<usize, AllocError>
         requires { AreRunsByFront self.old }
         ensures { IfOk result (λ next. (front : List ℕ) → number_of self.old front ≡ Some node
-            → length front + 1 < self.old.longest
             → Numbers self.old (front ++ character ∷ []) next self.new) }
     {
         if let Some(next) = self.tree.step(node, character) {

@@ -5,7 +5,7 @@ ghost use Rattle.std.specs.Option.{option_copied};
 ghost use Rattle.cmap_values.specs.CodeLengths.{length_of};
 ghost use Rattle.cmap_values.specs.DeclarationsSeen.{cid_entry_seen, entries_seen};
 ghost use Rattle.cmap_layers.specs.declared.stretches.Cids.TheVariants.{Same};
-ghost use Rattle.cmap_layers.specs.LayersSeen.{layer_seen};
+ghost use Rattle.cmap_layers.specs.LayersSeen.{layer_seen, layers_seen};
 ghost use Rattle.cmap_layers.specs.Lookups.{last_cid};
 ghost use Rattle.cmap_unicode.specs.Cids.{declared_cid};
 ghost use Rattle.cmap_unicode.specs.LayersTried.{declared_in};
@@ -70,7 +70,13 @@ struct LayerStretch {
 pub fn declared_stretch(map: &Layers, first: u32, len: CodeLength) -> CidStretch
     ensures { AreDeclaredCids map.now (length_of len) first result }
 {
-    let layers = map.as_slice();
+    stretch_of_layers(map.as_slice(), first, len)
+}
+
+/// The same by layers in a row, the top one first: those of a map, or some of them.
+pub fn stretch_of_layers(layers: &[Layer], first: u32, len: CodeLength) -> CidStretch
+    ensures { AreDeclaredCids (layers_seen layers.now) (length_of len) first result }
+{
     let mut last = u32::MAX;
     for layer in layers {
         let stretch = stretch_in(layer, first, len);

@@ -29,7 +29,7 @@ returns-clause-adds c =
     let some = c.in_ok-further.ensures.within in
     let within = c.in_ok-row.ensures.texts.within in
     let stretch = c.stretch-stretch.ensures.within in
-    let added = row_added collection c.args.cids.now c.args.first further c.stretch-stretch.result c.in-Some.code c.in_ok-row.row c.in-Some-text.text c.stretch-stretch.ensures c.in-Some.is c.in_ok-row.ensures.texts c.in-Some-text.is c.in_ok-row.ensures.counts
+    let added = row_added collection c.args.cids.now c.args.first further c.stretch-stretch.result c.in-Some.own c.in_ok-row.row c.in-Some-text.text c.stretch-stretch.ensures c.in-Some.is c.in_ok-row.ensures.texts c.in-Some-text.is c.in_ok-row.ensures.counts
     (omega (arith, c.min-last.ensures)) (omega (arith, c.min-last.ensures)) c.args.texts.now c.add_texts.new.self c.in_ok-further.ensures.texts in
     let next : c.args.first + further + 1 ≡ c.from-2.result + c.from-3.result + 1 = omega (arith, c.from-2.ensures, c.from-3.ensures) in
     subst (λ n. AddsCids collection c.args.cids.now c.args.first n c.args.texts.now c.add_texts.new.self) next added

@@ -1,6 +1,6 @@
 use Rattle.std.proofs.Common.{rules, All, subst, sym}
 use Rattle.std.proofs.lemmas.List.Sorted.{All-permutation, IsNonDecreasingBy-from_sort_by_key}
-use Rattle.cmap_encode.specs.FirstsSeen.{AreFirsts, IsCodeRun, rank_of}
+use Rattle.cmap_encode.specs.FirstsSeen.{AreFirsts, IsCodeRun, precedence_of}
 use Rattle.cmap_encode.proofs.FirstsFound.{are_firsts}
 use Rattle.cmap_encode.proofs.firsts.Firsts.build.Goals as goal
 
@@ -11,4 +11,4 @@ pub returns : goal.returns
 returns c =
     subst (AreFirsts c.args.runs.items) (sym c.in_ok-table.ensures)
     (are_firsts _ _ (All-permutation IsCodeRun _ _ c.sort_by_key.ensures.permutation c.requires) c.sort_by_key.ensures.permutation
-    (IsNonDecreasingBy-from_sort_by_key rank_of _ c.in_ok-sort_by_key.ensures.sorted (λ a r q k. search rules)))
+    (IsNonDecreasingBy-from_sort_by_key precedence_of _ c.in_ok-sort_by_key.ensures.sorted (λ a r q k. search rules)))

@@ -1,36 +1,51 @@
-use Rattle.std.proofs.Common.{◌≡◌, ◌+◌, sym, ap, subst, ◌∙◌, arith}
+use Rattle.std.proofs.Common.{◌≡◌, ◌+◌, ◌-◌, sym, ap, subst, ◌∙◌, arith}
 use Rattle.std.specs.Prelude.{option_map}
 use Rattle.std.specs.Option.{option_copied}
 use Rattle.cmap_tokens.specs.TextSeen.{text_seen}
-use Rattle.cmap_unicode.specs.Characters.{font_of}
+use Rattle.cmap_layers.specs.LayersSeen.{layers_seen}
+use Rattle.cmap_unicode.specs.Given.{given}
 use Rattle.cmap_unicode.specs.TextsOfCodes.{text_in}
 use Rattle.cmap_unicode.proofs.TextsFilled.{text_filled}
 use Rattle.cmap_values.specs.CodeLengths.{length_of}
-use Rattle.cmap_encode.specs.GatheredSeen.{GivesCode, IsGathered}
-use Rattle.cmap_encode.proofs.CidsAdded.{no_text_in_row}
-use Rattle.cmap_encode.proofs.GatheredRows.{is_so, texts_gathered}
+use Rattle.cmap_encode.specs.GatheredSeen.{AreGathered}
+use Rattle.cmap_encode.specs.Glyphs.{glyph_by}
+use Rattle.cmap_encode.specs.GlyphsSeen.{AreGlyphs, Fit}
+use Rattle.cmap_encode.specs.Maps.{maps_seen}
+use Rattle.cmap_encode.proofs.CidsAdded.{no_text_in_row, text_in_row}
+use Rattle.cmap_encode.proofs.GatheredRows.{missing_over}
+use Rattle.cmap_encode.proofs.GlyphsFound.{fewer_fit, shown_so}
 use Rattle.cmap_encode.proofs.gathered.Gathered.add_from.Goals as goal
 
-pub add_cids-requires-clause-none : goal.add_cids-requires-clause-none
-add_cids-requires-clause-none c = λ code. no_text_in_row (text_in (option_copied c.args.font.now.to_unicode)) c.args.code.number code c.in_ok-row.row c.in_ok-row.ensures.texts c.in_default.is
+pub add_silent-requires-clause-none : goal.add_silent-requires-clause-none
+add_silent-requires-clause-none c = λ code from to. no_text_in_row (text_in (option_copied c.args.maps.now.font.to_unicode)) c.args.code.number code c.in_ok-row.row c.in_ok-row.ensures.texts c.in_default.is from (omega (arith, c.min-last.ensures))
 
-pub add_texts-requires-clause-some : goal.add_texts-requires-clause-some
-add_texts-requires-clause-some c =
-    text_filled (option_copied c.args.font.now.to_unicode) c.args.code.number (text_seen c.in-Some.text) (sym c.in_ok-row.ensures.texts.text ∙ ap (option_map text_seen) c.in-Some.is)
+pub add_silent-requires-clause-glyphs : goal.add_silent-requires-clause-glyphs
+add_silent-requires-clause-glyphs c =
+    let maps = c.args.maps.now in let len = length_of c.args.code.len in
+    let are = subst (λ all. AreGlyphs (λ n. glyph_by (layers_seen maps.lower.now) all n len) (λ n. given all n len) c.args.code.number c.glyph_stretch-stretch.result) c.as_slice.ensures.layers c.glyph_stretch-stretch.ensures in
+    λ count within. are.glyphs count (omega (arith, c.min-last.ensures))
 
-pub returns-clause-are : goal.returns-clause-are
-returns-clause-are c =
-    let font = font_of c.args.font.now in let code = c.args.code in let len = length_of code.len in let old = c.args.self.now in
-    let row = c.in_ok-row.row in let further = c.in_ok-further.further in
-    let whole = c.whole_stretch-whole.result in let are = c.whole_stretch-whole.ensures in
-    let is = is_so whole.are_whole c.if-not-whole.false in
-    let some = c.in_ok-further.ensures.within in
-    let within = c.in_ok-row.ensures.texts.within in
-    let begins = are.within in
-    let next : code.number + further + 1 ≡ c.from-2.result + c.from-3.result + 1 = omega (arith, c.from-2.ensures, c.from-3.ensures) in
-    record {
-      texts = c.in_ok-further.ensures.are;
-      cids = c.requires.before.cids;
-      codes = subst (λ n. IsGathered font len n (GivesCode font.collection c.add_texts.new.self old.cids.items)) next
-          (texts_gathered font code whole are.whole is (are.fits is) row c.in-Some.text further c.in_ok-row.ensures.texts c.in-Some.is c.in_ok-row.ensures.counts (omega (arith, c.min.ensures)) (omega (arith, c.min.ensures)) old.texts c.add_texts.new.self old.cids.items c.in_ok-further.ensures.texts c.requires.before.codes);
-    }
+pub add_silent-requires-clause-fit : goal.add_silent-requires-clause-fit
+add_silent-requires-clause-fit c =
+    let stretch = c.glyph_stretch-stretch.result in
+    fewer_fit stretch.glyphs (stretch.last - c.args.code.number) (c.min-last.result - c.args.code.number) (omega (arith, c.min-last.ensures)) c.glyph_stretch-stretch.ensures.fit
+
+pub add_stated-requires-clause-some : goal.add_stated-requires-clause-some
+add_stated-requires-clause-some c =
+    text_filled (option_copied c.args.maps.now.font.to_unicode) c.args.code.number (text_seen c.in-Some.text) (sym c.in_ok-row.ensures.texts.text ∙ ap (option_map text_seen) c.in-Some.is)
+
+pub add_stated-requires-clause-texts : goal.add_stated-requires-clause-texts
+add_stated-requires-clause-texts c = λ count within.
+    text_in_row (text_in (option_copied c.args.maps.now.font.to_unicode)) c.args.code.number count c.in_ok-row.row c.in-Some.text c.in_ok-row.ensures.texts c.in-Some.is c.in_ok-row.ensures.counts (omega (arith, c.min-last.ensures))
+
+pub add_stated-requires-clause-shown : goal.add_stated-requires-clause-shown
+add_stated-requires-clause-shown c =
+    let maps = c.args.maps.now in let len = length_of c.args.code.len in
+    let are = subst (λ all. AreGlyphs (λ n. glyph_by (layers_seen maps.lower.now) all n len) (λ n. given all n len) c.args.code.number c.glyph_stretch-stretch.result) c.as_slice.ensures.layers c.glyph_stretch-stretch.ensures in
+    λ count within. shown_so _ _ c.args.code.number c.glyph_stretch-stretch.result are c.in_default-glyphs.not-Missing count (omega (arith, c.min-last.ensures))
+
+pub returns-in-Missing-clause-are : goal.returns-in-Missing-clause-are
+returns-in-Missing-clause-are c =
+    let maps = c.args.maps.now in let len = length_of c.args.code.len in
+    let are = subst (λ all. AreGlyphs (λ n. glyph_by (layers_seen maps.lower.now) all n len) (λ n. given all n len) c.args.code.number c.glyph_stretch-stretch.result) c.as_slice.ensures.layers c.glyph_stretch-stretch.ensures in
+    subst (λ last. AreGathered (maps_seen maps) len (last + 1) c.args.self.now) (sym c.from.ensures) (missing_over (maps_seen maps) len c.args.code.number c.glyph_stretch-stretch.result c.args.self.now are c.in-Missing.is c.requires.before)

@@ -26,7 +26,6 @@ returns-clause-are c =
     record {
       within = λ front other has. subst (λ n. other < n) (sym count) (is.within front other has);
       apart = is.apart;
-      longest = is.longest;
       inside = λ node character next leads. subst (λ n. node < n) (sym count) (is.inside node character next leads);
       runs = All-set AreRuns old number c.push.new.self added is.runs;
     }

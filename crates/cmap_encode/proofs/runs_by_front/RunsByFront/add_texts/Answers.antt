@@ -13,5 +13,5 @@ returns-clause-texts c =
     let front = c.deref.result.now in
     let run = c.from_key-run.result in
     let ends : characters_of its ≡ front ++ c.from.result ∷ [] = sym c.in_ok-front.ensures ∙ c.in-Some.ensures.items ∙ ap (λ last. c.pop.new.self.items ++ last ∷ []) (sym c.from.ensures) ∙ ap (λ cs. cs ++ c.from.result ∷ []) (sym c.deref.ensures.value) in
-    texts_added c.args.self.now c.add.new.self front c.from.result its c.args.code run ends c.from_key-run.ensures.key c.from_key-run.ensures.code
+    texts_added c.args.self.now c.add.new.self front c.from.result its c.args.first run ends c.from_key-run.ensures.key c.from_key-run.ensures.first
     (let more = c.from_key-run.ensures.more in omega (arith, c.from_key-run.ensures.key)) c.in_ok-add.ensures.runs

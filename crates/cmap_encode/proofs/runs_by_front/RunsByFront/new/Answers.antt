@@ -19,7 +19,6 @@ returns-clause-are c =
     record {
       within = λ front number has. let zero_is = (only front number has).1 in omega (arith, ap (λ (l : List (Vec CodeRun)). length l) items);
       apart = λ front other number has also. (only front number has).0 ∙ sym (only other number also).0;
-      longest = λ front number has. omega (arith, ap (λ (l : List ℕ). length l) (only front number has).0);
       inside = λ node character next leads. absurd (none-some next (sym (c.new-2.ensures node character) ∙ leads));
       runs = All-same AreRuns c.push.new.self.items _ items (All-push AreRuns [] c.new.result (All-nil AreRuns) (subst (All IsCodeRun) (sym c.new.ensures.items) (All-nil IsCodeRun)));
     }

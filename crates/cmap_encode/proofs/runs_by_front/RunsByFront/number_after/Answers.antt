@@ -13,15 +13,14 @@ use Rattle.cmap_encode.proofs.TreeNodes.{none_at, one_further, put_step, steps_i
 use Rattle.cmap_encode.proofs.runs_by_front.RunsByFront.number_after.Goals as goal
 
 pub returns-in-Some : goal.returns-in-Some
-returns-in-Some c = λ front at short. record {
+returns-in-Some c = λ front at. record {
   are = c.requires;
   number = one_further (step_of c.args.self.now.tree) (Some 0) front c.args.character ∙ ap (option_and_then (λ n. step_of c.args.self.now.tree n c.args.character)) at ∙ sym c.step.ensures ∙ c.in-Some.is;
   runs = λ other. refl;
-  longest = refl;
 }
 
 pub returns : goal.returns
-returns c = λ front at short.
+returns c = λ front at.
     let old = c.args.self.now in
     let are = c.requires in
     let lists = old.lists.items in
@@ -42,16 +41,10 @@ returns c = λ front at short.
       are = record {
         within = λ text number has. subst (λ n. number < n) (sym grown) (more_within numbers lists are.within are.apart new full none_before put text number has);
         apart = more_apart numbers lists are.within are.apart new full none_before put;
-        longest = λ text number has.
-            elim (one_of numbers lists are.within are.apart new full none_before put text number has) [
-              | inl first ↦ let same = ap (λ (l : List ℕ). length l) first.0 in omega (arith, length-append front (c.args.character ∷ []))
-              | inr before ↦ are.longest text number before
-            ];
         inside = λ node character next leads. subst (λ n. node < n) (sym grown) (steps_inside steps more (length lists) c.args.node c.args.character front are.inside are.apart at (are.within front c.args.node at) none puts node character next leads);
         runs = All-same AreRuns c.push.new.self.items _ c.in_ok-push.ensures.items (All-push AreRuns lists c.new.result are.runs (subst (All IsCodeRun) (sym c.new.ensures.items) (All-nil IsCodeRun)));
       };
       number = put full ∙ ap (λ b. if b then Some (length lists) else numbers full) ((bytes_eq-Decides full full).1 refl) ∙ ap Some (sym count);
       runs = λ other. ap (λ all. runs_at numbers lists are.within are.apart new all other) c.in_ok-push.ensures.items
           ∙ same_runs numbers lists are.within are.apart new full none_before put c.new.result c.new.ensures.items other;
-      longest = refl;
     }

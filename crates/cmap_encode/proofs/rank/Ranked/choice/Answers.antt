@@ -1,5 +1,5 @@
 use Rattle.std.proofs.Common.{◌≡◌, refl}
-use Rattle.cmap_encode.proofs.code.Ranked.choice.Goals as goal
+use Rattle.cmap_encode.proofs.rank.Ranked.choice.Goals as goal
 
 pub returns : goal.returns
 returns c = rw c.grade.ensures refl

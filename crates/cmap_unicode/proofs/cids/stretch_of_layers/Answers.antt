@@ -1,4 +1,4 @@
-use Rattle.std.proofs.Common.{◌+◌, ◌-◌, None, Some, ap, drop, ◌∙◌, sym, arith}
+use Rattle.std.proofs.Common.{◌+◌, ◌-◌, None, Some, ap, drop, ◌∙◌, arith}
 use Rattle.std.proofs.lemmas.List.{drop_all}
 use Rattle.cmap_values.specs.CodeLengths.{length_of}
 use Rattle.cmap_layers.specs.declared.stretches.Cids.TheVariants.{Absent}
@@ -7,14 +7,14 @@ use Rattle.cmap_layers.proofs.LayersSearched.{drop_next}
 use Rattle.cmap_unicode.specs.Given.{given}
 use Rattle.cmap_unicode.specs.Given.{given_after}
 use Rattle.cmap_unicode.proofs.DeclaredStretches.{declared_cids, fewer_fit, layer_gives}
-use Rattle.cmap_unicode.proofs.cids.declared_stretch.Goals as goal
+use Rattle.cmap_unicode.proofs.cids.stretch_of_layers.Goals as goal
 
 pub loop-layer-preserved : goal.loop-layer-preserved
 loop-layer-preserved c = let len = length_of c.args.len in record {
   within = omega arith;
   passed = λ code le lt.
-      let next = ap layers_seen (drop_next c.as_slice-layers.result.now c.loop-layer.layer-index c.layer-item.result c.loop-layer-test.true c.layer-item.is) in
-      let below = layers_seen (drop (c.loop-layer.layer-index + 1) c.as_slice-layers.result.now) in
+      let next = ap layers_seen (drop_next c.args.layers.now c.loop-layer.layer-index c.layer-item.result c.loop-layer-test.true c.layer-item.is) in
+      let below = layers_seen (drop (c.loop-layer.layer-index + 1) c.args.layers.now) in
       let none = rw c.in_default.is at (c.stretch_in-stretch.ensures.cids code le (omega arith)) in
       c.loop-layer.invariant.passed code le (omega arith) ∙ ap (λ rest. given rest code len) next ∙ layer_gives (layer_seen c.layer-item.result) below code len None none;
 }
@@ -22,22 +22,19 @@ loop-layer-preserved c = let len = length_of c.args.len in record {
 pub returns-in-Some : goal.returns-in-Some
 returns-in-Some c =
     let len = length_of c.args.len in let cids = c.in-Some.cids in let first = c.args.first in
-    let layers = c.as_slice-layers.result.now in let same = c.as_slice-layers.ensures.layers in
+    let layers = c.args.layers.now in
     let next = ap layers_seen (drop_next layers c.loop-layer.layer-index c.layer-item.result c.loop-layer-test.true c.layer-item.is) in
     let below = layers_seen (drop (c.loop-layer.layer-index + 1) layers) in
-    declared_cids c.args.map.now c.args.len first (record { cids = cids; last = c.min-last.result }) (omega arith)
+    declared_cids (layers_seen layers) c.args.len first (record { cids = cids; last = c.min-last.result }) (omega arith)
     (λ code le lt.
     let some = rw c.in-Some.is at (c.stretch_in-stretch.ensures.cids code le (omega arith)) in
-    ap (λ layers. given layers code len) (sym same)
-    ∙ c.loop-layer.invariant.passed code le (omega arith) ∙ ap (λ rest. given rest code len) next
+    c.loop-layer.invariant.passed code le (omega arith) ∙ ap (λ rest. given rest code len) next
     ∙ layer_gives (layer_seen c.layer-item.result) below code len (Some (given_after cids (code - first))) some)
     (fewer_fit cids (c.stretch_in-stretch.result.last - first) (c.min-last.result - first) (omega arith) (rw c.in-Some.is at c.stretch_in-stretch.ensures.fit))
 
 pub returns : goal.returns
 returns c =
-    let len = length_of c.args.len in let layers = c.as_slice-layers.result.now in let same = c.as_slice-layers.ensures.layers in
-    declared_cids c.args.map.now c.args.len c.args.first (record { cids = Absent; last = c.loop-layer.last }) c.loop-layer.invariant.within
-    (λ code le lt.
-    ap (λ layers. given layers code len) (sym same)
-    ∙ c.loop-layer.invariant.passed code le lt ∙ ap (λ rest. given (layers_seen rest) code len) (drop_all c.loop-layer.layer-index layers (omega arith)))
+    let len = length_of c.args.len in let layers = c.args.layers.now in
+    declared_cids (layers_seen layers) c.args.len c.args.first (record { cids = Absent; last = c.loop-layer.last }) c.loop-layer.invariant.within
+    (λ code le lt. c.loop-layer.invariant.passed code le lt ∙ ap (λ rest. given (layers_seen rest) code len) (drop_all c.loop-layer.layer-index layers (omega arith)))
     tt

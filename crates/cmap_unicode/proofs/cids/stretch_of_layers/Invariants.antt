@@ -2,7 +2,7 @@ use Rattle.std.proofs.Common.{◌≡◌, ℕ, ◌≤◌, drop}
 use Rattle.cmap_values.specs.CodeLengths.{length_of}
 use Rattle.cmap_layers.specs.LayersSeen.{layers_seen}
 use Rattle.cmap_unicode.specs.Given.{given}
-use Rattle.cmap_unicode.proofs.cids.declared_stretch.Given as goal
+use Rattle.cmap_unicode.proofs.cids.stretch_of_layers.Given as goal
 
 -- no layer so far declares anything for any of the codes
 abbrev pub invariant-loop-layer : goal.invariant-loop-layer

@@ -1,0 +1,54 @@
+-- The codes that stand for a text, by rank, and the first of them.
+use Rattle.std.specs.Prelude.{◌≡◌, ℕ, ◌⊎◌, List, length, Option, None, Some, IsSome, option_map}
+use Rattle.cmap_tokens.specs.Texts.{Text}
+use Rattle.cmap_values.specs.BigEndian.{big_endian}
+use Rattle.cmap_layers.specs.Layers.{Layer}
+use Rattle.cmap_unicode.specs.Characters.{characters_of}
+use Rattle.cmap_unicode.specs.Given.{given}
+use Rattle.cmap_unicode.specs.TextsOfCodes.{text_in}
+use Rattle.cmap_encode.specs.Codes.{IsWhole}
+use Rattle.cmap_encode.specs.Strings.{IsString}
+use Rattle.cmap_encode.specs.Maps.{Maps, glyph_of}
+use Rattle.cmap_encode.specs.Ranks.{Candidate, IsFirstAmong, candidate_of}
+use Rattle.cmap_encode.specs.declared.rank.Rank.{Rank}
+use Rattle.cmap_encode.specs.declared.rank.Rank.TheVariants.{Stated, Collection}
+use Rattle.cmap_encode.specs.declared.rank.Ranked.{Ranked}
+
+-- a map gives a code or a CID this text
+pub record HasText (map : Option (List Layer)) (code : ℕ) (text : List ℕ) : Type 0 where
+  pub its : Text
+  pub is_text : text_in map code ≡ Some its
+  pub characters : characters_of its ≡ text
+
+-- a code that is declared has a glyph
+abbrev pub IsShown : Maps → ℕ → ℕ → Type 0
+IsShown maps code len = (given maps.font.encoding code len ≡ None) ⊎ IsSome (glyph_of maps code len)
+
+-- the ToUnicode CMap has the text for the code of these bytes, which no notdef stands for
+pub record IsStated (maps : Maps) (text bytes : List ℕ) : Type 0 where
+  pub string : IsString bytes
+  pub whole : IsWhole maps.font.encoding bytes
+  pub has : HasText maps.font.to_unicode (big_endian bytes) text
+  pub shown : IsShown maps (big_endian bytes) (length bytes)
+
+-- the ToUnicode CMap has no text for the code of these bytes, whose glyph is this one
+pub record IsSilent (maps : Maps) (cid : ℕ) (bytes : List ℕ) : Type 0 where
+  pub string : IsString bytes
+  pub whole : IsWhole maps.font.encoding bytes
+  pub silent : text_in maps.font.to_unicode (big_endian bytes) ≡ None
+  pub glyph : glyph_of maps (big_endian bytes) (length bytes) ≡ Some cid
+
+-- it has none, and the collection's map has the text for the glyph of the code
+pub record IsCollected (maps : Maps) (text bytes : List ℕ) : Type 0 where
+  pub cid : ℕ
+  pub silent : IsSilent maps cid bytes
+  pub has : HasText maps.font.collection cid text
+
+-- the code of these bytes stands for the text with this rank
+abbrev pub StandsFor : Maps → List ℕ → List ℕ → Rank → Type 0
+StandsFor maps text bytes Stated = IsStated maps text bytes
+StandsFor maps text bytes Collection = IsCollected maps text bytes
+
+-- it is the first of the codes that stand for the text, by rank, then by the number of bytes, then by the bytes; or none does
+abbrev pub IsOwn : Maps → List ℕ → Option Ranked → Type 0
+IsOwn maps text found = IsFirstAmong (λ one. StandsFor maps text one.bytes one.rank) (option_map candidate_of found)

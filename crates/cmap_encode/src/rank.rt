@@ -1,0 +1,62 @@
+//! Codes by how well they stand for a text.
+
+ghost use Rattle.std.specs.Prelude.{◌≡◌, ◌≤◌};
+ghost use Rattle.cmap_encode.specs.ChoicesSeen.{choice_seen, grade_of, own_choice};
+ghost use Rattle.cmap_encode.specs.Ranks.{place_of};
+
+use crate::choices::{Choice, Grade};
+use crate::code::Code;
+
+/// How a code stands for a text, the best rank first.
+#[derive(Clone, Copy, PartialEq, Eq)]
+pub(crate) enum Rank {
+    /// The ToUnicode CMap has the text for the code.
+    Stated,
+    /// The collection's map has the text for the CID of the code.
+    Collection,
+}
+
+/// The place of the last rank.
+pub(crate) const LAST_PLACE: u8 = 1;
+
+impl Rank {
+    /// Its place: 0 for the best rank.
+    pub(crate) fn place(self) -> u8
+        ensures place { result ≡ place_of self }
+        ensures last { result ≤ LAST_PLACE }
+    {
+        match self {
+            Rank::Stated => 0,
+            Rank::Collection => 1,
+        }
+    }
+
+    /// The grade of the codes of the rank.
+    fn grade(self) -> Grade
+        ensures { result ≡ grade_of self }
+    {
+        match self {
+            Rank::Stated => Grade::Stated,
+            Rank::Collection => Grade::Collection,
+        }
+    }
+}
+
+/// A code that stands for a text.
+#[derive(Clone, Copy)]
+pub(crate) struct Ranked {
+    pub(crate) code: Code,
+    pub(crate) rank: Rank,
+}
+
+impl Ranked {
+    /// The code, as what stands for the text.
+    pub(crate) fn choice(self) -> Choice
+        ensures { choice_seen result ≡ own_choice self }
+    {
+        Choice {
+            code: Some(self.code),
+            grade: self.rank.grade(),
+        }
+    }
+}
