@@ -20,3 +20,6 @@ pub mod GatheredFound
 pub mod CidsAdded
 pub mod GatheredRows
 pub mod GlyphsFound
+pub mod FormCodes
+pub mod SilentRows
+pub mod CharactersAdded

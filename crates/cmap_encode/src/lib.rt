@@ -1,11 +1,13 @@
 //! Strings of a font that show a text, by the layers of its CMaps.
 #![tactic(auto)]
 
+mod by_character;
 mod by_cid;
 mod code;
 mod encoder;
 mod firsts;
 mod fronts;
+mod forms;
 mod gathered;
 mod glyphs;
 mod index;
@@ -13,6 +15,7 @@ mod maps;
 mod outside;
 mod rank;
 mod runs_by_front;
+mod silent;
 mod tree;
 mod ways;
 mod whole;
