@@ -1,5 +1,5 @@
 -- What goes to C of an encoder that was built, and of a string that was made.
-use Rattle.std.proofs.Common.{◌≡◌, ℕ, List, Option, None, Some, Result, Ok, Err, inl, inr, subst}
+use Rattle.std.proofs.Common.{◌≡◌, ℕ, List, Option, None, Some, Result, Ok, Err, false, inl, inr, subst}
 use Rattle.std.specs.Prelude.{IfOk}
 use Rattle.std.specs.Result.{MatchResult}
 use Rattle.std.specs.Global.{Vec}
@@ -12,7 +12,8 @@ use Rattle.cmap_layers.specs.Layers.{Layer}
 use Rattle.cmap_handles.specs.Statuses.{number}
 use Rattle.cmap_handles.specs.declared.status.Status.TheVariants.{Done, NoMemory}
 use Rattle.cmap_unicode.specs.TextsOfCodes.{Font}
-use Rattle.cmap_encode.specs.EncoderSeen.{IsEncoderOf}
+use Rattle.cmap_encode.specs.EncoderSeen.{IsEncoderFor}
+use Rattle.cmap_encode.specs.Maps.{Maps}
 use Rattle.cmap_encode.specs.declared.encoder.Encoder.{Encoder}
 use Rattle.cmap_encode.specs.declared.encoder.Unencodable.{Unencodable}
 use Rattle.cmap_c_encoder.specs.Encoded.{EndsAs, IsBuilt, IsLossyStringOf, IsRefusedAt, IsStringOf, PutsLossyString, PutsString}
@@ -24,21 +25,21 @@ of_font P encoding texts to_unicode texts_of_cids collection same also holds =
     subst (λ given. P (record { encoding = encoding; to_unicode = to_unicode; collection = given })) also (subst (λ given. P (record { encoding = encoding; to_unicode = given; collection = texts_of_cids })) same holds)
 
 -- an encoder that was built is kept
-pub built : {B : Type 0} (value : B → Encoder) (made : Result B AllocError) (font : Font) (status : ℕ) (now : Option Encoder) → IfOk made (λ b. IsEncoderOf font (value b))
+pub built : {B : Type 0} (value : B → Encoder) (made : Result B AllocError) (font : Font) (status : ℕ) (now : Option Encoder) → IfOk made (λ b. IsEncoderFor font None false (value b))
     → MatchResult made (λ b. (status ≡ number Done) × (now ≡ Some (value b))) (λ _. (status ≡ number NoMemory) × (now ≡ None)) → IsBuilt font now status
 built value (Ok b) font status now is kept = inl (value b, is, kept.1, kept.0)
 built value (Err e) font status now is kept = inr (kept.1, kept.0)
 
 -- a string that was made is put, or the text is refused
-pub string_put : (font : Font) (text : List ℕ) (made : Result (Vec ℕ) (Fault Unencodable)) (old new : List ℕ) (old_needed needed old_offset offset status : ℕ)
-    → Outcome (λ string. IsStringOf font text string.items) (λ refused. IsRefusedAt font text refused.offset) made → EndsAs made old new old_needed needed old_offset offset status
-    → PutsString font text old new old_needed needed old_offset offset status
-string_put font text (Ok string) old new old_needed needed old_offset offset status is ends = inl (string.items, is.0, ends.0, ends.1)
-string_put font text (Err (fault.Refused refused)) old new old_needed needed old_offset offset status is ends = inr (inl (ends.0.0, rw ends.0.1 is.1), ends.1, ends.2)
-string_put font text (Err fault.Memory) old new old_needed needed old_offset offset status is ends = inr (inr ends.0, ends.1, ends.2)
+pub string_put : (maps : Maps) (text : List ℕ) (made : Result (Vec ℕ) (Fault Unencodable)) (old new : List ℕ) (old_needed needed old_offset offset status : ℕ)
+    → Outcome (λ string. IsStringOf maps text string.items) (λ refused. IsRefusedAt maps text refused.offset) made → EndsAs made old new old_needed needed old_offset offset status
+    → PutsString maps text old new old_needed needed old_offset offset status
+string_put maps text (Ok string) old new old_needed needed old_offset offset status is ends = inl (string.items, is.0, ends.0, ends.1)
+string_put maps text (Err (fault.Refused refused)) old new old_needed needed old_offset offset status is ends = inr (inl (ends.0.0, rw ends.0.1 is.1), ends.1, ends.2)
+string_put maps text (Err fault.Memory) old new old_needed needed old_offset offset status is ends = inr (inr ends.0, ends.1, ends.2)
 
-pub lossy_put : (font : Font) (missing text : List ℕ) (made : Result (Vec ℕ) (Fault Unencodable)) (old new : List ℕ) (old_needed needed old_offset offset status : ℕ)
-    → Outcome (λ string. IsLossyStringOf font missing text string.items) (λ _. IsUtf8 text → ⊥) made → EndsAs made old new old_needed needed old_offset offset status → PutsLossyString font missing text old new old_needed needed status
-lossy_put font missing text (Ok string) old new old_needed needed old_offset offset status is ends = inl (string.items, is.0, ends.0)
-lossy_put font missing text (Err (fault.Refused refused)) old new old_needed needed old_offset offset status is ends = inr (inl (ends.0.0, is.1), ends.1, ends.2)
-lossy_put font missing text (Err fault.Memory) old new old_needed needed old_offset offset status is ends = inr (inr ends.0.0, ends.1, ends.2)
+pub lossy_put : (maps : Maps) (missing text : List ℕ) (made : Result (Vec ℕ) (Fault Unencodable)) (old new : List ℕ) (old_needed needed old_offset offset status : ℕ)
+    → Outcome (λ string. IsLossyStringOf maps missing text string.items) (λ _. IsUtf8 text → ⊥) made → EndsAs made old new old_needed needed old_offset offset status → PutsLossyString maps missing text old new old_needed needed status
+lossy_put maps missing text (Ok string) old new old_needed needed old_offset offset status is ends = inl (string.items, is.0, ends.0)
+lossy_put maps missing text (Err (fault.Refused refused)) old new old_needed needed old_offset offset status is ends = inr (inl (ends.0.0, is.1), ends.1, ends.2)
+lossy_put maps missing text (Err fault.Memory) old new old_needed needed old_offset offset status is ends = inr (inr ends.0.0, ends.1, ends.2)

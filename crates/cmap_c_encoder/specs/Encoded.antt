@@ -1,5 +1,5 @@
 -- The encoder of a font, and the string of a text, as C gets them.
-use Rattle.std.specs.Prelude.{◌≡◌, ◌⊎◌, ℕ, List, Option, Some, None, Result}
+use Rattle.std.specs.Prelude.{◌≡◌, ◌⊎◌, ℕ, List, Option, Some, None, Result, false}
 use Rattle.std.specs.Result.{MatchResult}
 use Rattle.std.specs.Global.{Vec}
 use Rattle.std.specs.Str.{IsUtf8, IsValidUpTo, chars}
@@ -9,39 +9,40 @@ use Rattle.cmap_handles.specs.Rooms.{IsPut}
 use Rattle.cmap_handles.specs.Statuses.{number}
 use Rattle.cmap_handles.specs.declared.status.Status.TheVariants.{Done, NoMemory, Refused}
 use Rattle.cmap_unicode.specs.TextsOfCodes.{Font}
-use Rattle.cmap_encode.specs.EncoderSeen.{IsEncoderOf}
+use Rattle.cmap_encode.specs.EncoderSeen.{IsEncoderFor}
 use Rattle.cmap_encode.specs.Encodings.{IsEncodingOf, IsLossyEncodingOf, IsStuckAt}
+use Rattle.cmap_encode.specs.Maps.{Maps}
 use Rattle.cmap_encode.specs.declared.encoder.Encoder.{Encoder}
 use Rattle.cmap_encode.specs.declared.encoder.Unencodable.{Unencodable}
 
 -- an encoder of the font is there, or memory ran out and there is none
 abbrev pub IsBuilt : Font → Option Encoder → ℕ → Type 0
-IsBuilt font built status = ((encoder : Encoder) × IsEncoderOf font encoder × (built ≡ Some encoder) × (status ≡ number Done))
+IsBuilt font built status = ((encoder : Encoder) × IsEncoderFor font None false encoder × (built ≡ Some encoder) × (status ≡ number Done))
     ⊎ ((built ≡ None) × (status ≡ number NoMemory))
 
--- the text is UTF-8, and of the strings that show it this one comes first
-abbrev pub IsStringOf : Font → List ℕ → List ℕ → Type 0
-IsStringOf font text string = IsUtf8 text × IsEncodingOf font (chars text) string
+-- the text is UTF-8, and this string is its encoding
+abbrev pub IsStringOf : Maps → List ℕ → List ℕ → Type 0
+IsStringOf maps text string = IsUtf8 text × IsEncodingOf maps (chars text) string
 
--- the text is UTF-8 and no string shows it, and of the fronts that strings show, the longest ends here; or it isn't, and the longest front that is ends here
-abbrev pub IsRefusedAt : Font → List ℕ → ℕ → Type 0
-IsRefusedAt font text offset = (IsUtf8 text × IsStuckAt font (chars text) offset) ⊎ IsValidUpTo text offset
+-- the text is UTF-8 and has no encoding, and its longest prefix that has one ends here; or it isn't UTF-8, and its longest prefix that is ends here
+abbrev pub IsRefusedAt : Maps → List ℕ → ℕ → Type 0
+IsRefusedAt maps text offset = (IsUtf8 text × IsStuckAt maps (chars text) offset) ⊎ IsValidUpTo text offset
 
 -- the string of the text goes to the room; or where the text is refused goes to the offset; or memory ran out. What isn't named here stays
-abbrev pub PutsString : Font → List ℕ → List ℕ → List ℕ → ℕ → ℕ → ℕ → ℕ → ℕ → Type 0
-PutsString font text old new old_needed needed old_offset offset status =
-    ((string : List ℕ) × IsStringOf font text string × IsPut string old new needed status × (offset ≡ old_offset))
-    ⊎ (((((status ≡ number Refused) × IsRefusedAt font text offset) ⊎ ((status ≡ number NoMemory) × (offset ≡ old_offset))))
+abbrev pub PutsString : Maps → List ℕ → List ℕ → List ℕ → ℕ → ℕ → ℕ → ℕ → ℕ → Type 0
+PutsString maps text old new old_needed needed old_offset offset status =
+    ((string : List ℕ) × IsStringOf maps text string × IsPut string old new needed status × (offset ≡ old_offset))
+    ⊎ (((((status ≡ number Refused) × IsRefusedAt maps text offset) ⊎ ((status ≡ number NoMemory) × (offset ≡ old_offset))))
     × (new ≡ old) × (needed ≡ old_needed))
 
--- the text is UTF-8, and the string shows it as far as strings do, with other bytes for the other characters
-abbrev pub IsLossyStringOf : Font → List ℕ → List ℕ → List ℕ → Type 0
-IsLossyStringOf font missing text string = IsUtf8 text × IsLossyEncodingOf font missing (chars text) string
+-- the text is UTF-8, and the string is its encoding as far as it has one, with other bytes for the other characters
+abbrev pub IsLossyStringOf : Maps → List ℕ → List ℕ → List ℕ → Type 0
+IsLossyStringOf maps missing text string = IsUtf8 text × IsLossyEncodingOf maps missing (chars text) string
 
 -- such a string goes to the room; or the text isn't UTF-8, or memory ran out, and nothing is written
-abbrev pub PutsLossyString : Font → List ℕ → List ℕ → List ℕ → List ℕ → ℕ → ℕ → ℕ → Type 0
-PutsLossyString font missing text old new old_needed needed status =
-    ((string : List ℕ) × IsLossyStringOf font missing text string × IsPut string old new needed status)
+abbrev pub PutsLossyString : Maps → List ℕ → List ℕ → List ℕ → List ℕ → ℕ → ℕ → ℕ → Type 0
+PutsLossyString maps missing text old new old_needed needed status =
+    ((string : List ℕ) × IsLossyStringOf maps missing text string × IsPut string old new needed status)
     ⊎ ((((status ≡ number Refused) × (IsUtf8 text → ⊥)) ⊎ (status ≡ number NoMemory)) × (new ≡ old) × (needed ≡ old_needed))
 
 -- ---- private aid: of a string that was made

@@ -1,11 +1,11 @@
 //! Encoders of fonts, for C.
 
-ghost use Rattle.std.specs.Prelude.{◌≡◌, None, IfOk, MatchOption};
+ghost use Rattle.std.specs.Prelude.{◌≡◌, None, IfOk, MatchOption, false};
 ghost use Rattle.std.specs.Option.{option_copied};
 ghost use Rattle.cmap_handles.specs.Statuses.{number};
 ghost use Rattle.cmap_handles.specs.declared.status.Status.TheVariants.{Absent};
 ghost use Rattle.cmap_unicode.specs.Characters.{font_of};
-ghost use Rattle.cmap_encode.specs.EncoderSeen.{IsEncoderOf};
+ghost use Rattle.cmap_encode.specs.EncoderSeen.{IsEncoderFor};
 ghost use Rattle.cmap_c_encoder.specs.Encoded.{IsBuilt};
 
 use crate::handle::EncoderHandle;
@@ -65,7 +65,7 @@ fn font<'m>(
 
 /// The encoder of a font, which several handles may have.
 fn built(alloc: Global, font: &Extractor<'_>) -> Result<Box<Shared<Encoder>>, AllocError>
-    ensures { IfOk result (λ built. IsEncoderOf (font_of font.now) built.value) }
+    ensures { IfOk result (λ built. IsEncoderFor (font_of font.now) None false built.value) }
 {
     let encoder = Encoder::build(alloc, font)?;
     Shared::new(alloc, encoder)

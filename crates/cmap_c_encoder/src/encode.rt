@@ -4,9 +4,9 @@ ghost use Rattle.std.specs.Prelude.{◌≡◌, MatchOption};
 ghost use Rattle.std.specs.Str.{IsUtf8, IsValidUpTo};
 ghost use Rattle.cmap_handles.specs.Statuses.{number};
 ghost use Rattle.cmap_handles.specs.declared.status.Status.TheVariants.{Absent};
-ghost use Rattle.cmap_unicode.specs.TextsOfCodes.{Font};
 ghost use Rattle.cmap_values.specs.Outcomes.{Outcome};
 ghost use Rattle.cmap_encode.specs.EncoderSeen.{IsEncoderOf};
+ghost use Rattle.cmap_encode.specs.Maps.{Maps};
 ghost use Rattle.cmap_c_encoder.specs.Encoded.{EndsAs, IsLossyStringOf, IsRefusedAt, IsStringOf, PutsLossyString, PutsString};
 
 use crate::handle::EncoderHandle;
@@ -16,7 +16,7 @@ use cmap_handles::status::Status;
 use cmap_values::fault::Fault;
 use std::alloc::Global;
 
-/// The string that shows a text in UTF-8.
+/// The encoding of a text in UTF-8.
 #[unsafe(no_mangle)]
 pub extern "C" fn hayro_cmap_encode(
     encoder: &mut EncoderHandle,
@@ -29,7 +29,7 @@ pub extern "C" fn hayro_cmap_encode(
     ensures same { encoder.new.slot.encoder ≡ encoder.old.slot.encoder }
     ensures string { MatchOption encoder.old.slot.encoder
         ((result ≡ number Absent) × (room.new ≡ room.old) × (needed.new ≡ needed.old) × (offset.new ≡ offset.old))
-        (λ given. (font : Font) → IsEncoderOf font given → PutsString font text.now
+        (λ given. (maps : Maps) → IsEncoderOf maps given → PutsString maps text.now
         room.old room.new needed.old needed.new offset.old offset.new result) }
 {
     let Some(encoder) = encoder.encoder() else {
@@ -38,7 +38,7 @@ pub extern "C" fn hayro_cmap_encode(
     put_string(string_of(alloc, encoder, text), room, needed, offset)
 }
 
-/// The same with bytes in the place of each character that no string shows.
+/// The same with bytes in the place of each character that has no encoding.
 #[unsafe(no_mangle)]
 pub extern "C" fn hayro_cmap_encode_lossy(
     encoder: &mut EncoderHandle,
@@ -51,7 +51,7 @@ pub extern "C" fn hayro_cmap_encode_lossy(
     ensures same { encoder.new.slot.encoder ≡ encoder.old.slot.encoder }
     ensures string { MatchOption encoder.old.slot.encoder
         ((result ≡ number Absent) × (room.new ≡ room.old) × (needed.new ≡ needed.old))
-        (λ given. (font : Font) → IsEncoderOf font given → PutsLossyString font missing.now text.now
+        (λ given. (maps : Maps) → IsEncoderOf maps given → PutsLossyString maps missing.now text.now
         room.old room.new needed.old needed.new result) }
 {
     let Some(encoder) = encoder.encoder() else {
@@ -65,24 +65,24 @@ pub extern "C" fn hayro_cmap_encode_lossy(
     )
 }
 
-/// The string that shows a text in UTF-8; refused where there is none.
+/// The encoding of a text in UTF-8; refused where there is none.
 fn string_of(alloc: Global, encoder: &Encoder, text: &[u8]) -> Result<Vec<u8>, Fault<Unencodable>>
-    ensures { (font : Font) → IsEncoderOf font encoder.now → Outcome
-        (λ string. IsStringOf font text.now string.items)
-        (λ refused. IsRefusedAt font text.now refused.offset) result }
+    ensures { (maps : Maps) → IsEncoderOf maps encoder.now → Outcome
+        (λ string. IsStringOf maps text.now string.items)
+        (λ refused. IsRefusedAt maps text.now refused.offset) result }
 {
     encoder.encode(alloc, utf8(text)?)
 }
 
-/// The same with bytes in the place of each character that no string shows.
+/// The same with bytes in the place of each character that has no encoding.
 fn lossy_string_of(
     alloc: Global,
     encoder: &Encoder,
     text: &[u8],
     missing: &[u8],
 ) -> Result<Vec<u8>, Fault<Unencodable>>
-    ensures { (font : Font) → IsEncoderOf font encoder.now → Outcome
-        (λ string. IsLossyStringOf font missing.now text.now string.items)
+    ensures { (maps : Maps) → IsEncoderOf maps encoder.now → Outcome
+        (λ string. IsLossyStringOf maps missing.now text.now string.items)
         (λ _. IsUtf8 text.now → ⊥) result }
 {
     Ok(encoder.encode_lossy(alloc, utf8(text)?, missing)?)

@@ -18,7 +18,7 @@ use Rattle.cmap_encode.specs.StandsFor.{IsOwn}
 use Rattle.cmap_encode.specs.declared.encoder.Encoder.{Encoder}
 use Rattle.cmap_encode.specs.declared.encoder.Unencodable.{Unencodable}
 use Rattle.cmap_encode.specs.declared.rank.Rank.{Rank}
-use Rattle.cmap_encode.specs.declared.rank.Rank.TheVariants.{Stated, Collection}
+use Rattle.cmap_encode.specs.declared.rank.Rank.TheVariants.{Stated, OwnForm, Canonical, Collection}
 use Rattle.cmap_encode.specs.declared.rank.Ranked.{Ranked}
 use Rattle.cmap_encode.proofs.LossyShown.{one_lossy_encoding_by}
 use Rattle.cmap_encode.proofs.Order.{not_after_both}
@@ -46,8 +46,20 @@ module _ (maps : Maps) (encoder : Encoder) (is : IsEncoderOf maps encoder) where
 -- ---- a font has one choice for each text
 order_places : (rank other : Rank) → place_of rank ≡ place_of other → rank ≡ other
 order_places Stated Stated same = refl
+order_places Stated OwnForm same = absurd (omega (arith, same))
+order_places Stated Canonical same = absurd (omega (arith, same))
 order_places Stated Collection same = absurd (omega (arith, same))
+order_places OwnForm Stated same = absurd (omega (arith, same))
+order_places OwnForm OwnForm same = refl
+order_places OwnForm Canonical same = absurd (omega (arith, same))
+order_places OwnForm Collection same = absurd (omega (arith, same))
+order_places Canonical Stated same = absurd (omega (arith, same))
+order_places Canonical OwnForm same = absurd (omega (arith, same))
+order_places Canonical Canonical same = refl
+order_places Canonical Collection same = absurd (omega (arith, same))
 order_places Collection Stated same = absurd (omega (arith, same))
+order_places Collection OwnForm same = absurd (omega (arith, same))
+order_places Collection Canonical same = absurd (omega (arith, same))
 order_places Collection Collection same = refl
 
 one_first : (one other : Candidate) → IsNoLater one other → IsNoLater other one → one ≡ other
@@ -59,7 +71,7 @@ one_first one other (inr (same, before)) (inr (_, after)) =
     let ranks = order_places one.rank other.rank same in
     λ i. record { bytes = bytes i; rank = ranks i }
 
-choice_by : Candidate → Choice
+abbrev choice_by : Candidate → Choice
 choice_by candidate = record { bytes = candidate.bytes; grade = grade_of candidate.rank }
 
 same_own : (maps : Maps) (text : List ℕ) (found other : Option Ranked) → IsOwn maps text found → IsOwn maps text other → option_map own_choice found ≡ option_map own_choice other
@@ -72,7 +84,7 @@ same_own maps text (Some found) (Some other) is also =
 one_choices_of : (maps : Maps) (choices other : Choices) → AreChoicesOf maps choices → AreChoicesOf maps other → choices ≡ other
 one_choices_of maps choices other is also =
     let own : is.own ≡ also.own = λ i text. (let a = is.owns text in let b = also.owns text in a.is ∙ same_own maps text a.found b.found a.is_own b.is_own ∙ sym b.is) i in
-    is.are ∙ ap (λ o. standing o false) own ∙ sym also.are
+    is.are ∙ ap (λ o. standing o maps.exact) own ∙ sym also.are
 
 pub one_encoding : (maps : Maps) (text string other : List ℕ) → IsEncodingOf maps text string → IsEncodingOf maps text other → string ≡ other
 one_encoding maps text string other is also =

@@ -19,7 +19,7 @@ use Rattle.cmap_encode.specs.FirstsSeen.{AreFirsts, Gives, IsCodeRun, IsFirstGiv
 use Rattle.cmap_encode.specs.Ranks.{Candidate, IsNoLater, candidate_of, place_of}
 use Rattle.cmap_encode.specs.declared.firsts.CodeRun.{CodeRun}
 use Rattle.cmap_encode.specs.declared.rank.Rank.{Rank}
-use Rattle.cmap_encode.specs.declared.rank.Rank.TheVariants.{Stated, Collection}
+use Rattle.cmap_encode.specs.declared.rank.Rank.TheVariants.{Stated, OwnForm, Canonical, Collection}
 use Rattle.cmap_encode.specs.declared.rank.Ranked.{Ranked}
 use Rattle.cmap_encode.proofs.Numbers.{are_bytes_of, code_count, code_string, lesser_first}
 use Rattle.cmap_encode.proofs.Order.{not_after_itself}
@@ -34,8 +34,10 @@ below_length Two number fits = (omega arith, omega arith, omega arith)
 below_length Three number fits = (omega arith, omega arith, omega arith)
 below_length Four number fits = (omega arith, omega arith, omega arith)
 
-few_places : (rank : Rank) → place_of rank ≤ 1
+few_places : (rank : Rank) → place_of rank ≤ 3
 few_places Stated = omega arith
+few_places OwnForm = omega arith
+few_places Canonical = omega arith
 few_places Collection = omega arith
 
 pub higher_first : (first other : CodeRun) (key : ℕ) → IsCodeRun first → IsCodeRun other → first.range.start ≤ key → key ≤ first.range.end → other.range.start ≤ key → key ≤ other.range.end → precedence_of other ≤ precedence_of first

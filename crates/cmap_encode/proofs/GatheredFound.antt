@@ -1,26 +1,30 @@
 -- The first code of a text, of those that runs give.
-use Rattle.std.proofs.Common.{◌≡◌, ℕ, zero, suc, ◌<◌, ◌≤◌, List, [], ◌∷◌, ◌++◌, length, ◌^◌, take, ◌-◌, Option, Some, None, refl, sym, ap, ◌∙◌, subst, inl, inr, arith, length-append}
-use Rattle.std.specs.Prelude.{All, Any, IsSomeAnd, MatchOption, option_and_then, option_map, slice_get}
+use Rattle.std.proofs.Common.{◌≡◌, ℕ, zero, suc, ◌<◌, ◌⊎◌, List, [], ◌∷◌, ◌++◌, length, ◌^◌, take, ◌-◌, Option, Some, None, refl, sym, ap, ◌∙◌, subst, inl, inr, arith, length-append}
+use Rattle.std.specs.Prelude.{◌↔◌, Any, IsSomeAnd, MatchOption, option_and_then, option_map, slice_get}
 use Rattle.std.specs.Global.{Box, Vec}
 use Rattle.std.specs.List.{AllZip}
+use Rattle.std.proofs.lemmas.Bool.{cases_lt}
 use Rattle.std.proofs.lemmas.Option.{none-some, same_Some}
 use Rattle.std.proofs.lemmas.Slice.Zip.{AllZip-left}
+use Rattle.cmap_values.specs.CodeLengths.{length_of}
 use Rattle.cmap_encode.specs.Codes.{IsBefore, IsWhole}
 use Rattle.cmap_encode.specs.FirstsSeen.{AreFirsts, Gives, IsCodeRun, IsFirstGiven, first_at}
-use Rattle.cmap_encode.specs.GatheredSeen.{AddsCids, AreGathered}
+use Rattle.cmap_encode.specs.GatheredSeen.{AddsAllGlyphs, AddsCids, AddsGlyphs, AreGathered, GivesCharacter}
+use Rattle.cmap_encode.specs.Glyphs.{glyph_by}
 use Rattle.cmap_encode.specs.IndexSeen.{AreFirstsOf, IsIndexOf, first_in, own_after, own_at, own_in}
-use Rattle.cmap_encode.specs.Maps.{Maps}
-use Rattle.cmap_encode.specs.Ranks.{Candidate, IsFirstAmong, IsNoLater, as_ranked, candidate_of}
+use Rattle.cmap_encode.specs.Maps.{Maps, Unicode}
+use Rattle.cmap_encode.specs.Ranks.{Candidate, IsFirstAmong, IsNoLater, as_ranked, candidate_of, place_of}
 use Rattle.cmap_encode.specs.RunsSeen.{AreRunsByFront, GivesText, items_of, number_of, runs_of}
-use Rattle.cmap_encode.specs.StandsFor.{HasText, IsCollected, StandsFor}
+use Rattle.cmap_encode.specs.StandsFor.{HasGlyph, IsCanonical, IsSilent, StandsFor}
 use Rattle.cmap_encode.specs.declared.firsts.CodeRun.{CodeRun}
 use Rattle.cmap_encode.specs.declared.gathered.Gathered.{Gathered}
 use Rattle.cmap_encode.specs.declared.index.Index.{Index}
 use Rattle.cmap_encode.specs.declared.rank.Rank.{Rank}
-use Rattle.cmap_encode.specs.declared.rank.Rank.TheVariants.{Collection, Stated}
+use Rattle.cmap_encode.specs.declared.rank.Rank.TheVariants.{Canonical, Collection, OwnForm, Stated}
 use Rattle.cmap_encode.specs.declared.rank.Ranked.{Ranked}
 use Rattle.cmap_encode.specs.declared.runs_by_front.RunsByFront.{RunsByFront}
 use Rattle.cmap_encode.proofs.CodesRead.{whole_length}
+use Rattle.cmap_encode.proofs.FormCodes.{none_above}
 use Rattle.cmap_encode.proofs.Order.{not_after_chain, not_after_itself}
 use Rattle.cmap_encode.proofs.TextEnds.{front_taken, last_got, same_end, text_ends}
 
@@ -103,43 +107,122 @@ module _ (all : RunsByFront) (firsts : Vec (Option (Box (List CodeRun)))) (are :
       ]
 
 -- ---- the codes that stand for a text
-module _ (maps : Maps) (gathered : Gathered) (new : RunsByFront) (firsts : List CodeRun) (all : AreGathered maps 5 0 gathered) (are : AreFirsts gathered.cids.items firsts) (adds : AddsCids maps.font.collection firsts 0 (2 ^ 32) gathered.texts new) where
+module _ (maps : Maps) (gathered : Gathered) (new last : RunsByFront) (firsts : List CodeRun) (all : AreGathered maps 5 0 gathered) (are : AreFirsts gathered.cids.items firsts) (adds : AddsCids maps.font.collection firsts 0 (2 ^ 32) gathered.texts new)
+    (adds_last : AddsAllGlyphs maps firsts new last) where
   short : (bytes : List ℕ) → IsWhole maps.font.encoding bytes → IsBefore 5 0 bytes
   short bytes whole = let few = (whole_length maps.font.encoding bytes whole).1 in inl (omega arith)
 
-  stands_collected : (text : List ℕ) (cid : ℕ) (first : Option Ranked) (one : Candidate) → first_at firsts cid ≡ first → option_map (as_ranked Collection) first ≡ Some one → IsFirstGiven gathered.cids.items cid (option_map candidate_of first)
-      → HasText maps.font.collection cid text → StandsFor maps text one.bytes one.rank
-  stands_collected text cid None one at given is has = absurd (none-some one given)
-  stands_collected text cid (Some first) one at given (among, least) has =
-      let same : as_ranked Collection first ≡ one = same_Some (as_ranked Collection first) one given in
-      let (before, (rank, silent)) = (all.silent cid (candidate_of first)).0 among in
-      subst (λ (c : Candidate). StandsFor maps text c.bytes c.rank) same (record { cid = cid; silent = silent; has = has })
-
-  sound_texts : (text : List ℕ) (one : Candidate) → GivesText new text one → StandsFor maps text one.bytes one.rank
-  sound_texts text one given =
-      elim ((adds text one).0 given) [
-        | inl before ↦ let (limit, (rank, is)) = (all.stated text one).0 before in subst (StandsFor maps text one.bytes) (sym rank) is
-        | inr found ↦ stands_collected text found.cid (first_at firsts found.cid) one refl found.given (are found.cid) found.has
-      ]
+  -- ---- the first code of a glyph
+  first_silent : (cid : ℕ) (rank : Rank) (first : Option Ranked) (one : Candidate) → option_map (as_ranked rank) first ≡ Some one → IsFirstGiven gathered.cids.items cid (option_map candidate_of first) → (one.rank ≡ rank) × IsSilent maps cid one.bytes
+  first_silent cid rank None one given is = absurd (none-some one given)
+  first_silent cid rank (Some first) one given (among, least) =
+      let same : as_ranked rank first ≡ one = same_Some (as_ranked rank first) one given in
+      let (before, (its, silent)) = (all.silent cid (candidate_of first)).0 among in
+      (ap (λ (c : Candidate). c.rank) (sym same), subst (λ (c : Candidate). IsSilent maps cid c.bytes) same silent)
 
   key_below : (cid : ℕ) (one : Candidate) → Any (Gives cid one) gathered.cids.items → cid < 2 ^ 32
   key_below cid one (k, run, within, at, (from, to, is)) = let keys = (subst IsCodeRun at (all.cids k run within)).keys in omega arith
 
-  first_collected : (text bytes : List ℕ) (is : IsCollected maps text bytes) (found : Option Ranked) → first_at firsts is.cid ≡ found → IsFirstGiven gathered.cids.items is.cid (option_map candidate_of found)
-      → (first : Candidate) × GivesText new text first × IsNoLater first (record { bytes = bytes; rank = Collection })
-  first_collected text bytes is None at none = absurd (none (record { bytes = bytes; rank = Collection }) ((all.silent is.cid (record { bytes = bytes; rank = Collection })).1 (short bytes is.silent.whole, (refl, is.silent))))
-  first_collected text bytes is (Some first) at (among, least) =
+  -- it comes no later than another code of the glyph
+  first_before : (cid : ℕ) (bytes : List ℕ) (rank : Rank) → IsSilent maps cid bytes → (found : Option Ranked) → first_at firsts cid ≡ found → IsFirstGiven gathered.cids.items cid (option_map candidate_of found)
+      → (first : Candidate) × (option_map (as_ranked rank) (first_at firsts cid) ≡ Some first) × IsNoLater first (record { bytes = bytes; rank = rank }) × (cid < 2 ^ 32)
+  first_before cid bytes rank silent None at none = absurd (none (record { bytes = bytes; rank = Collection }) ((all.silent cid (record { bytes = bytes; rank = Collection })).1 (short bytes silent.whole, (refl, silent))))
+  first_before cid bytes rank silent (Some first) at (among, least) =
       let one : Candidate = record { bytes = bytes; rank = Collection } in
-      let given = (all.silent is.cid one).1 (short bytes is.silent.whole, (refl, is.silent)) in
-      let (before, (rank, silent)) = (all.silent is.cid (candidate_of first)).0 among in
-      let same : candidate_of first ≡ as_ranked Collection first = λ i. record { bytes = (candidate_of first).bytes; rank = rank i } in
-      (as_ranked Collection first, (adds text (as_ranked Collection first)).1 (inr (record { cid = is.cid; from = omega arith; below = key_below is.cid one given; given = ap (option_map (as_ranked Collection)) at; has = is.has })), subst (λ c. IsNoLater c one) same (least one given))
+      let given = (all.silent cid one).1 (short bytes silent.whole, (refl, silent)) in
+      let (before, (its, is)) = (all.silent cid (candidate_of first)).0 among in
+      (as_ranked rank first, ap (option_map (as_ranked rank)) at, other_rank first bytes rank its (least one given), key_below cid one given)
+    where
+      other_rank : (first : Ranked) (bytes : List ℕ) (rank : Rank) → first.rank ≡ Collection → IsNoLater (candidate_of first) (record { bytes = bytes; rank = Collection }) → IsNoLater (as_ranked rank first) (record { bytes = bytes; rank = rank })
+      other_rank first bytes rank its (inl less) = absurd (omega (arith, ap place_of its))
+      other_rank first bytes rank its (inr (same, earlier)) = inr (refl, earlier)
 
-  first_text : (text bytes : List ℕ) (rank : Rank) → StandsFor maps text bytes rank → (first : Candidate) × GivesText new text first × IsNoLater first (record { bytes = bytes; rank = rank })
+  -- ---- by the map from Unicode
+  abbrev GivenByUnicode : List ℕ → Candidate → Type 0
+  GivenByUnicode text one = (unicode : Unicode) × (maps.unicode ≡ Some unicode) × GivesCharacter maps unicode firsts 0 0x110000 text one
+
+  last_adds : (text : List ℕ) (one : Candidate) → GivesText last text one ↔ (GivesText new text one ⊎ GivenByUnicode text one)
+  last_adds text one = by_unicode maps.unicode refl adds_last
+    where
+      by_unicode : (found : Option Unicode) → maps.unicode ≡ found → MatchOption found (last ≡ new) (λ unicode. AddsGlyphs maps unicode firsts 0 0x110000 new last) → GivesText last text one ↔ (GivesText new text one ⊎ GivenByUnicode text one)
+      by_unicode None is same = (
+        λ given. inl (subst (λ texts. GivesText texts text one) same given),
+        λ either. elim either [ inl given ↦ subst (λ texts. GivesText texts text one) (sym same) given | inr (unicode, some, given) ↦ absurd (none-some unicode (sym is ∙ some)) ],
+      )
+      by_unicode (Some unicode) is added = (
+        λ given. elim ((added text one).0 given) [ inl before ↦ inl before | inr character ↦ inr (unicode, is, character) ],
+        λ either.
+            elim either [
+              | inl before ↦ (added text one).1 (inl before)
+              | inr (its, some, character) ↦ (added text one).1 (inr (subst (λ u. GivesCharacter maps u firsts 0 0x110000 text one) (same_Some its unicode (sym some ∙ is)) character))
+            ],
+      )
+
+  sound_unicode : (text : List ℕ) (one : Candidate) → GivenByUnicode text one → StandsFor maps text one.bytes one.rank
+  sound_unicode text one (unicode, some, given) =
+      elim given.chosen [
+        | inl chosen ↦
+            let (rank, silent) = first_silent given.cid Canonical (first_at firsts given.cid) one chosen (are given.cid) in
+            subst (StandsFor maps text one.bytes) (sym rank) (canonical silent)
+        | inr (rank, silent, code) ↦ subst (StandsFor maps text one.bytes) (sym rank) (record { canonical = canonical silent; is_code = code })
+      ]
+    where
+      canonical : IsSilent maps given.cid one.bytes → IsCanonical maps text one.bytes
+      canonical silent = record { unicode = unicode; has = some; character = given.character; is_text = given.is_text; cid = given.cid; glyph = given.glyph; silent = silent }
+
+  -- ---- all that are given stand for the text
+  sound_texts : (text : List ℕ) (one : Candidate) → GivesText last text one → StandsFor maps text one.bytes one.rank
+  sound_texts text one given =
+      elim ((last_adds text one).0 given) [
+        | inl before ↦
+            elim ((adds text one).0 before) [
+              | inl stated ↦ let (limit, (rank, is)) = (all.stated text one).0 stated in subst (StandsFor maps text one.bytes) (sym rank) is
+              | inr found ↦
+                  let (rank, silent) = first_silent found.cid Collection (first_at firsts found.cid) one found.given (are found.cid) in
+                  subst (StandsFor maps text one.bytes) (sym rank) (record { cid = found.cid; silent = silent; has = found.has })
+            ]
+        | inr by_unicode ↦ sound_unicode text one by_unicode
+      ]
+
+  -- ---- and for each that stands for it one is given that comes no later
+  character_below : (unicode : Unicode) (character cid : ℕ) → HasGlyph maps unicode character cid → character < 0x110000
+  character_below unicode character cid has =
+      elim (cases_lt character 0x110000) [
+        | inl less ↦ less
+        | inr above ↦ absurd (none-some cid (sym (ap (option_and_then (λ code. glyph_by unicode.lower unicode.all code.number (length_of code.len))) (none_above unicode.form character above)) ∙ has.glyph))
+      ]
+
+  first_text : (text bytes : List ℕ) (rank : Rank) → StandsFor maps text bytes rank → (first : Candidate) × GivesText last text first × IsNoLater first (record { bytes = bytes; rank = rank })
   first_text text bytes Stated is =
       let one : Candidate = record { bytes = bytes; rank = Stated } in
-      (one, (adds text one).1 (inl ((all.stated text one).1 (short bytes is.whole, (refl, is)))), no_later_itself one)
-  first_text text bytes Collection is = first_collected text bytes is (first_at firsts is.cid) refl (are is.cid)
+      (one, (last_adds text one).1 (inl ((adds text one).1 (inl ((all.stated text one).1 (short bytes is.whole, (refl, is)))))), no_later_itself one)
+  first_text text bytes OwnForm is =
+      let one : Candidate = record { bytes = bytes; rank = OwnForm } in let canonical = is.canonical in
+      let given : GivesCharacter maps canonical.unicode firsts 0 0x110000 text one = record {
+        character = canonical.character;
+        from = omega arith;
+        below = character_below canonical.unicode canonical.character canonical.cid canonical.glyph;
+        is_text = canonical.is_text;
+        cid = canonical.cid;
+        glyph = canonical.glyph;
+        chosen = inr (refl, canonical.silent, is.is_code);
+      } in
+      (one, (last_adds text one).1 (inr (canonical.unicode, canonical.has, given)), no_later_itself one)
+  first_text text bytes Canonical is =
+      let (first, chosen, earlier, below) = first_before is.cid bytes Canonical is.silent (first_at firsts is.cid) refl (are is.cid) in
+      let given : GivesCharacter maps is.unicode firsts 0 0x110000 text first = record {
+        character = is.character;
+        from = omega arith;
+        below = character_below is.unicode is.character is.cid is.glyph;
+        is_text = is.is_text;
+        cid = is.cid;
+        glyph = is.glyph;
+        chosen = inl chosen;
+      } in
+      (first, (last_adds text first).1 (inr (is.unicode, is.has, given)), earlier)
+  first_text text bytes Collection is =
+      let (first, chosen, earlier, below) = first_before is.cid bytes Collection is.silent (first_at firsts is.cid) refl (are is.cid) in
+      (first, (last_adds text first).1 (inl ((adds text first).1 (inr (record { cid = is.cid; from = omega arith; below = below; given = chosen; has = is.has })))), earlier)
 
-  pub texts_found : (index : Index) → ((text : List ℕ) → IsFirstAmong (GivesText new text) (option_map candidate_of (own_in index text))) → IsIndexOf maps index
-  texts_found index first = λ text. first_of_more (GivesText new text) (λ one. StandsFor maps text one.bytes one.rank) (sound_texts text) (λ one is. first_text text one.bytes one.rank is) (option_map candidate_of (own_in index text)) (first text)
+  pub texts_found : (index : Index) → ((text : List ℕ) → IsFirstAmong (GivesText last text) (option_map candidate_of (own_in index text))) → IsIndexOf maps index
+  texts_found index first = λ text. first_of_more (GivesText last text) (λ one. StandsFor maps text one.bytes one.rank) (sound_texts text) (λ one is. first_text text one.bytes one.rank is) (option_map candidate_of (own_in index text)) (first text)

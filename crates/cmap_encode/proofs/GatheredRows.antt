@@ -31,17 +31,16 @@ use Rattle.cmap_encode.specs.declared.glyphs.GlyphStretch.{GlyphStretch}
 use Rattle.cmap_encode.specs.declared.rank.Rank.{Rank}
 use Rattle.cmap_encode.specs.declared.rank.Rank.TheVariants.{Collection, Stated}
 use Rattle.cmap_encode.specs.declared.rank.Ranked.{Ranked}
-use Rattle.cmap_encode.specs.declared.runs_by_front.RunsByFront.{RunsByFront}
 use Rattle.cmap_encode.specs.declared.whole.WholeStretch.{WholeStretch}
 use Rattle.cmap_encode.proofs.Gathering.{length_gathered, more_gathered, none_gathered, none_more}
-use Rattle.cmap_encode.proofs.Numbers.{AreBytesOf, are_bytes_of, fits_length, one_string}
+use Rattle.cmap_encode.proofs.Numbers.{are_bytes_of, fits_length, one_string}
 use Rattle.cmap_encode.proofs.RunsAdded.{any_kept, any_split}
 
-whole_by : (b : Bool) (Whole : Type 0) → b ≡ true → MatchBool b Whole (Whole → ⊥) → Whole
+pub whole_by : (b : Bool) (Whole : Type 0) → b ≡ true → MatchBool b Whole (Whole → ⊥) → Whole
 whole_by true Whole is whole = whole
 whole_by false Whole is whole = cc
 
-not_whole_by : (b : Bool) (Whole : Type 0) → b ≡ false → MatchBool b Whole (Whole → ⊥) → Whole → ⊥
+pub not_whole_by : (b : Bool) (Whole : Type 0) → b ≡ false → MatchBool b Whole (Whole → ⊥) → Whole → ⊥
 not_whole_by true Whole is whole = cc
 not_whole_by false Whole is whole = whole
 

@@ -22,3 +22,6 @@ pub mod CidsAdded
 pub mod GatheredRows
 pub mod GlyphsFound
 pub mod ChosenBy
+pub mod FormCodes
+pub mod SilentRows
+pub mod CharactersAdded

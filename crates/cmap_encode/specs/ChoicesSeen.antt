@@ -16,6 +16,8 @@ use Rattle.cmap_encode.specs.declared.index.Index.{Index}
 
 abbrev pub grade_of : Rank → Grade
 grade_of rank.Stated = grade.Stated
+grade_of rank.OwnForm = grade.Canonical
+grade_of rank.Canonical = grade.Canonical
 grade_of rank.Collection = grade.Collection
 
 -- the code of a text, as what stands for it

@@ -8,7 +8,6 @@ use Rattle.cmap_layers.specs.Layers.{Layer}
 use Rattle.cmap_layers.specs.StringCodes.{IsShortestInside}
 use Rattle.cmap_unicode.specs.Characters.{characters_of}
 use Rattle.cmap_unicode.specs.TextsOfCodes.{Font, IsTextOf}
-use Rattle.cmap_encode.specs.Strings.{IsString}
 use Rattle.cmap_encode.specs.declared.code.Code.{Code}
 
 -- the bytes of a code of this length, the high one first

@@ -1,5 +1,5 @@
 -- Texts encoded piece by piece, by what stands for the pieces.
-use Rattle.std.specs.Prelude.{◌≡◌, ℕ, ◌+◌, ◌<◌, ◌≤◌, List, ◌++◌, Option, drop, false, flat_map, length, option_map, take}
+use Rattle.std.specs.Prelude.{◌≡◌, ℕ, ◌+◌, ◌<◌, ◌≤◌, List, ◌++◌, Option, drop, flat_map, length, option_map, take}
 use Rattle.std.specs.Char.{encode_utf8}
 use Rattle.cmap_encode.specs.ChoicesSeen.{own_choice}
 use Rattle.cmap_encode.specs.Maps.{Maps}
@@ -46,7 +46,7 @@ pub record IsOwnChoice (maps : Maps) (text : List ℕ) (own : Option Choice) : T
 pub record AreChoicesOf (maps : Maps) (choices : Choices) : Type 0 where
   pub own : Choices
   pub owns : (text : List ℕ) → IsOwnChoice maps text (own text)
-  pub are : choices ≡ standing own false
+  pub are : choices ≡ standing own maps.exact
 
 -- the string is the encoding of the text
 pub record IsEncodingOf (maps : Maps) (text string : List ℕ) : Type 0 where

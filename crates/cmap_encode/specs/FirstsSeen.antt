@@ -41,4 +41,4 @@ pub record IsKeyStretch (firsts : List CodeRun) (first : ℕ) (stretch : KeyStre
 
 -- the higher, the earlier are the codes that it gives
 abbrev pub precedence_of : CodeRun → ℕ
-precedence_of run = 2 ^ 35 * (1 - place_of run.first.rank) + 2 ^ 33 * (4 - length_of run.first.code.len) + (2 ^ 32 + run.range.start - run.first.code.number)
+precedence_of run = 2 ^ 35 * (3 - place_of run.first.rank) + 2 ^ 33 * (4 - length_of run.first.code.len) + (2 ^ 32 + run.range.start - run.first.code.number)

@@ -1,20 +1,23 @@
 -- Private aid: the codes that runs give to texts and to glyphs.
-use Rattle.std.specs.Prelude.{◌≡◌, ◌↔◌, ℕ, ◌+◌, ◌<◌, ◌≤◌, ◌⊎◌, List, All, Any, Option, None, Some, option_map}
+use Rattle.std.specs.Prelude.{◌≡◌, ◌↔◌, ℕ, ◌+◌, ◌<◌, ◌≤◌, ◌⊎◌, List, [], ◌∷◌, All, Any, Option, None, Some, MatchOption, option_map}
 use Rattle.cmap_tokens.specs.Texts.{Text}
 use Rattle.cmap_layers.specs.Layers.{Layer}
 use Rattle.cmap_unicode.specs.CountedTexts.{text_after}
 use Rattle.cmap_unicode.specs.TextsOfCodes.{text_in}
-use Rattle.cmap_encode.specs.Codes.{IsBefore}
+use Rattle.cmap_encode.specs.Codes.{IsBefore, code_bytes}
 use Rattle.cmap_encode.specs.FirstsSeen.{Gives, IsCodeRun, first_at}
+use Rattle.cmap_encode.specs.Forms.{code_in}
 use Rattle.cmap_encode.specs.GlyphsSeen.{glyph_after}
-use Rattle.cmap_encode.specs.Maps.{Maps, glyph_of}
+use Rattle.cmap_encode.specs.Maps.{Maps, Unicode, glyph_of}
 use Rattle.cmap_encode.specs.Ranks.{Candidate, as_ranked}
 use Rattle.cmap_encode.specs.RunsSeen.{AreRunsByFront, GivesText}
-use Rattle.cmap_encode.specs.StandsFor.{HasText, IsShown, IsSilent, IsStated}
+use Rattle.cmap_encode.specs.StandsFor.{HasGlyph, HasText, IsShown, IsSilent, IsStated}
+use Rattle.cmap_encode.specs.declared.code.Code.{Code}
 use Rattle.cmap_encode.specs.declared.firsts.CodeRun.{CodeRun}
 use Rattle.cmap_encode.specs.declared.gathered.Gathered.{Gathered}
 use Rattle.cmap_encode.specs.declared.glyphs.Glyphs.{Glyphs}
-use Rattle.cmap_encode.specs.declared.rank.Rank.TheVariants.{Collection, Stated}
+use Rattle.cmap_encode.specs.declared.rank.Rank.TheVariants.{Canonical, Collection, OwnForm, Stated}
+use Rattle.cmap_encode.specs.declared.rank.Ranked.{Ranked}
 use Rattle.cmap_encode.specs.declared.runs_by_front.RunsByFront.{RunsByFront}
 
 -- those of a kind before a limit are given, and no others
@@ -61,3 +64,25 @@ pub record GivesFirst (collection : Option (List Layer)) (firsts : List CodeRun)
 -- the first codes of these CIDs are added
 abbrev pub AddsCids : Option (List Layer) → List CodeRun → ℕ → ℕ → RunsByFront → RunsByFront → Type 0
 AddsCids collection firsts first limit old new = (text : List ℕ) (one : Candidate) → GivesText new text one ↔ (GivesText old text one ⊎ GivesFirst collection firsts first limit text one)
+
+-- a code for a character, from a first one on and below a limit, by its glyph: the first code of the glyph, or the code of the character in the form of the map from Unicode
+pub record GivesCharacter (maps : Maps) (unicode : Unicode) (firsts : List CodeRun) (first limit : ℕ) (text : List ℕ) (one : Candidate) : Type 0 where
+  pub character : ℕ
+  pub from : first ≤ character
+  pub below : character < limit
+  pub is_text : text ≡ character ∷ []
+  pub cid : ℕ
+  pub glyph : HasGlyph maps unicode character cid
+  pub chosen : (option_map (as_ranked Canonical) (first_at firsts cid) ≡ Some one) ⊎ ((one.rank ≡ OwnForm) × IsSilent maps cid one.bytes × (option_map code_bytes (code_in unicode.form character) ≡ Some one.bytes))
+
+-- the codes for these characters are added
+abbrev pub AddsGlyphs : Maps → Unicode → List CodeRun → ℕ → ℕ → RunsByFront → RunsByFront → Type 0
+AddsGlyphs maps unicode firsts first limit old new = (text : List ℕ) (one : Candidate) → GivesText new text one ↔ (GivesText old text one ⊎ GivesCharacter maps unicode firsts first limit text one)
+
+-- for all characters, if there is a map from Unicode
+abbrev pub AddsAllGlyphs : Maps → List CodeRun → RunsByFront → RunsByFront → Type 0
+AddsAllGlyphs maps firsts old new = MatchOption maps.unicode (new ≡ old) (λ unicode. AddsGlyphs maps unicode firsts 0 0x110000 old new)
+
+-- of a code in a form: the code itself, where its glyph is this one
+abbrev pub IsOwnFormOf : Code → Option ℕ → ℕ → Option Ranked → Type 0
+IsOwnFormOf code silent cid found = MatchOption found (silent ≡ Some cid → ⊥) (λ ranked. (silent ≡ Some cid) × (ranked ≡ record { code = code; rank = OwnForm }))

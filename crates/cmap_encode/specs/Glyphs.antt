@@ -1,5 +1,5 @@
 -- The CID by which a code is chosen: its glyph, which is no notdef.
-use Rattle.std.specs.Prelude.{ℕ, zero, suc, ◌+◌, ◌<◌, nat_lt, ◌&&◌, ◌||◌, Bool, true, false, List, [], ◌∷◌, length, Option, None, Some, option_and_then, if◌then◌else◌}
+use Rattle.std.specs.Prelude.{ℕ, zero, suc, nat_lt, ◌||◌, Bool, true, false, List, [], ◌∷◌, length, Option, None, Some, option_and_then, if◌then◌else◌}
 use Rattle.std.specs.Option.{option_or}
 use Rattle.cmap_values.specs.Files.{Mode, horizontal, vertical}
 use Rattle.cmap_layers.specs.Layers.{Layer}

@@ -1,9 +1,19 @@
 -- Private aid: the glyphs of codes in a row.
-use Rattle.std.specs.Prelude.{◌≡◌, ℕ, ◌+◌, ◌-◌, ◌^◌, ◌<◌, ◌≤◌, Option, None, Some, IsSome}
+use Rattle.std.specs.Prelude.{◌≡◌, ◌↔◌, ℕ, ◌+◌, ◌-◌, ◌^◌, ◌<◌, ◌≤◌, List, length, Option, None, Some, IfSome, IsSome, option_map}
+use Rattle.cmap_values.specs.BigEndian.{big_endian}
+use Rattle.cmap_values.specs.CodeLengths.{length_of}
 use Rattle.cmap_unicode.specs.Given.{Given}
+use Rattle.cmap_encode.specs.Strings.{IsString}
+use Rattle.cmap_encode.specs.Forms.{HaveCodes}
+use Rattle.cmap_encode.specs.Maps.{Maps}
+use Rattle.cmap_encode.specs.StandsFor.{IsSilent}
+use Rattle.cmap_encode.specs.declared.by_character.GlyphRow.{GlyphRow}
+use Rattle.cmap_encode.specs.declared.code.Code.{Code}
+use Rattle.cmap_encode.specs.declared.forms.Form.{Form}
 use Rattle.cmap_encode.specs.declared.glyphs.Glyphs.{Glyphs}
 use Rattle.cmap_encode.specs.declared.glyphs.Glyphs.TheVariants.{CountOn, Missing, Undeclared}
 use Rattle.cmap_encode.specs.declared.glyphs.GlyphStretch.{GlyphStretch}
+use Rattle.cmap_encode.specs.declared.silent.SilentStretch.{SilentStretch}
 
 abbrev pub glyph_after : Glyphs → ℕ → Option ℕ
 glyph_after (CountOn cid) k = Some (cid + k)
@@ -28,3 +38,17 @@ pub record AreGlyphs (glyph : ℕ → Option ℕ) (said : ℕ → Option Given) 
   pub glyphs : (count : ℕ) → first + count ≤ stretch.last → glyph (first + count) ≡ glyph_after stretch.glyphs count
   pub declared : (count : ℕ) → first + count ≤ stretch.last → IsDeclaredSo stretch.glyphs (said (first + count))
   pub fit : Fit stretch.glyphs (stretch.last - first)
+
+-- codes from this one to the last one are silent with glyphs that count on from the first, or none is
+pub record AreSilent (maps : Maps) (code : Code) (stretch : SilentStretch) : Type 0 where
+  pub within : code.number ≤ stretch.last
+  pub fits : IfSome stretch.cid (λ cid. stretch.last < 256 ^ length_of code.len)
+  pub silent : (count cid : ℕ) (bytes : List ℕ) → code.number + count ≤ stretch.last → IsString bytes → length bytes ≡ length_of code.len → big_endian bytes ≡ code.number + count
+      → IsSilent maps cid bytes ↔ (option_map (λ first. first + count) stretch.cid ≡ Some cid)
+
+-- characters in a row have codes that count on, and glyphs that do, or none has
+pub record AreOfCharacters (form : Form) (Has : ℕ → ℕ → Type 0) (first : ℕ) (row : GlyphRow) : Type 0 where
+  pub within : first + row.more ≤ 0x10FFFF
+  pub codes : HaveCodes form first (first + row.more) row.code
+  pub fits : IfSome row.code (λ code. code.number + row.more < 256 ^ length_of code.len)
+  pub glyphs : (count cid : ℕ) → count ≤ row.more → Has (first + count) cid ↔ (option_map (λ glyph. glyph + count) row.cid ≡ Some cid)

@@ -4,7 +4,7 @@ use Rattle.cmap_encode.specs.Codes.{code_bytes}
 use Rattle.cmap_encode.specs.Strings.{IsNotAfter}
 use Rattle.cmap_encode.specs.declared.code.Code.{Code}
 use Rattle.cmap_encode.specs.declared.rank.Rank.{Rank}
-use Rattle.cmap_encode.specs.declared.rank.Rank.TheVariants.{Stated, Collection}
+use Rattle.cmap_encode.specs.declared.rank.Rank.TheVariants.{Stated, OwnForm, Canonical, Collection}
 use Rattle.cmap_encode.specs.declared.rank.Ranked.{Ranked}
 
 -- the bytes of a code, with a rank
@@ -22,7 +22,9 @@ as_ranked rank ranked = record { bytes = code_bytes ranked.code; rank = rank }
 -- the best rank has the place 0
 abbrev pub place_of : Rank → ℕ
 place_of Stated = 0
-place_of Collection = 1
+place_of OwnForm = 1
+place_of Canonical = 2
+place_of Collection = 3
 
 -- the first candidate has a better rank than the second, or the same rank and bytes that come no later
 abbrev pub IsNoLater : Candidate → Candidate → Type 0

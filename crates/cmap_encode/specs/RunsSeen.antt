@@ -1,7 +1,7 @@
 -- Private aid: runs of codes by their texts, or by CIDs.
-use Rattle.std.specs.Prelude.{◌≡◌, ◌↔◌, ℕ, ◌<◌, ◌≤◌, ◌⊎◌, List, [], ◌∷◌, ◌++◌, All, Any, Option, Some, None, length, option_and_then, slice_get}
+use Rattle.std.specs.Prelude.{◌≡◌, ◌↔◌, ℕ, ◌<◌, ◌≤◌, ◌⊎◌, List, [], ◌∷◌, ◌++◌, All, Any, Option, Some, None, MatchOption, length, option_and_then, slice_get}
 use Rattle.std.specs.Global.{Vec}
-use Rattle.cmap_tokens.specs.Texts.{Text}
+use Rattle.cmap_tokens.specs.Texts.{Text, one}
 use Rattle.cmap_unicode.specs.Characters.{characters_of}
 use Rattle.cmap_unicode.specs.CountedTexts.{text_after}
 use Rattle.cmap_encode.specs.FirstsSeen.{Gives, IsCodeRun}
@@ -40,19 +40,23 @@ abbrev pub HasNoRuns : RunsByFront → Type 0
 HasNoRuns all = (front : List ℕ) → runs_of all front ≡ []
 
 -- a run gives the text the code of these bytes, with this rank
-pub record GivesText (all : RunsByFront) (text : List ℕ) (one : Candidate) : Type 0 where
+pub record GivesText (all : RunsByFront) (text : List ℕ) (candidate : Candidate) : Type 0 where
   pub front : List ℕ
   pub last : ℕ
   pub is : text ≡ front ++ last ∷ []
-  pub given : Any (Gives last one) (runs_of all front)
+  pub given : Any (Gives last candidate) (runs_of all front)
 
 -- the code so many codes after this one, for the text that counts on by as many
-pub record IsFurther (its : Text) (first : Ranked) (more : ℕ) (text : List ℕ) (one : Candidate) : Type 0 where
+pub record IsFurther (its : Text) (first : Ranked) (more : ℕ) (text : List ℕ) (candidate : Candidate) : Type 0 where
   pub count : ℕ
   pub within : count ≤ more
   pub is_text : text ≡ characters_of (text_after its count)
-  pub is_code : one ≡ candidate_of (ranked_after count first)
+  pub is_code : candidate ≡ candidate_of (ranked_after count first)
 
 -- the codes from this one on for a text and those that count on from it are added
 abbrev pub AddsTexts : RunsByFront → RunsByFront → Text → Ranked → ℕ → Type 0
-AddsTexts old new its first more = (text : List ℕ) (one : Candidate) → GivesText new text one ↔ (GivesText old text one ⊎ IsFurther its first more text one)
+AddsTexts old new its first more = (text : List ℕ) (candidate : Candidate) → GivesText new text candidate ↔ (GivesText old text candidate ⊎ IsFurther its first more text candidate)
+
+-- the codes from this one on, if there is one, for a character and those after it are added
+abbrev pub AddsCharacters : RunsByFront → RunsByFront → ℕ → Option Ranked → ℕ → Type 0
+AddsCharacters old new character first more = (text : List ℕ) (candidate : Candidate) → GivesText new text candidate ↔ (GivesText old text candidate ⊎ MatchOption first ⊥ (λ ranked. IsFurther (one character) ranked more text candidate))

@@ -1,17 +1,18 @@
 -- The codes that stand for a text, by rank, and the first of them.
-use Rattle.std.specs.Prelude.{◌≡◌, ℕ, ◌⊎◌, List, length, Option, None, Some, IsSome, option_map}
-use Rattle.cmap_tokens.specs.Texts.{Text}
+use Rattle.std.specs.Prelude.{◌≡◌, ℕ, ◌⊎◌, List, [], ◌∷◌, length, Option, None, Some, IsSome, IsTrue, option_map}
+use Rattle.cmap_tokens.specs.Texts.{Text, one}
 use Rattle.cmap_values.specs.BigEndian.{big_endian}
 use Rattle.cmap_layers.specs.Layers.{Layer}
 use Rattle.cmap_unicode.specs.Characters.{characters_of}
 use Rattle.cmap_unicode.specs.Given.{given}
 use Rattle.cmap_unicode.specs.TextsOfCodes.{text_in}
-use Rattle.cmap_encode.specs.Codes.{IsWhole}
+use Rattle.cmap_encode.specs.Codes.{IsWhole, code_bytes}
 use Rattle.cmap_encode.specs.Strings.{IsString}
-use Rattle.cmap_encode.specs.Maps.{Maps, glyph_of}
-use Rattle.cmap_encode.specs.Ranks.{Candidate, IsFirstAmong, candidate_of}
+use Rattle.cmap_encode.specs.Forms.{code_in}
+use Rattle.cmap_encode.specs.Maps.{Maps, Unicode, glyph_of, glyph_of_character}
+use Rattle.cmap_encode.specs.Ranks.{IsFirstAmong, candidate_of}
 use Rattle.cmap_encode.specs.declared.rank.Rank.{Rank}
-use Rattle.cmap_encode.specs.declared.rank.Rank.TheVariants.{Stated, Collection}
+use Rattle.cmap_encode.specs.declared.rank.Rank.TheVariants.{Stated, OwnForm, Canonical, Collection}
 use Rattle.cmap_encode.specs.declared.rank.Ranked.{Ranked}
 
 -- a map gives a code or a CID this text
@@ -38,6 +39,26 @@ pub record IsSilent (maps : Maps) (cid : ℕ) (bytes : List ℕ) : Type 0 where
   pub silent : text_in maps.font.to_unicode (big_endian bytes) ≡ None
   pub glyph : glyph_of maps (big_endian bytes) (length bytes) ≡ Some cid
 
+-- the map from Unicode gives the character this glyph; where only codes count that read back, the collection's map has the character as its text
+pub record HasGlyph (maps : Maps) (unicode : Unicode) (character cid : ℕ) : Type 0 where
+  pub glyph : glyph_of_character unicode character ≡ Some cid
+  pub exact : IsTrue maps.exact → text_in maps.font.collection cid ≡ Some (one character)
+
+-- the text is one character, and the map from Unicode gives it the glyph of the code
+pub record IsCanonical (maps : Maps) (text bytes : List ℕ) : Type 0 where
+  pub unicode : Unicode
+  pub has : maps.unicode ≡ Some unicode
+  pub character : ℕ
+  pub is_text : text ≡ character ∷ []
+  pub cid : ℕ
+  pub glyph : HasGlyph maps unicode character cid
+  pub silent : IsSilent maps cid bytes
+
+-- and the code is that of the character in the form of the map
+pub record IsOwnForm (maps : Maps) (text bytes : List ℕ) : Type 0 where
+  pub canonical : IsCanonical maps text bytes
+  pub is_code : option_map code_bytes (code_in canonical.unicode.form canonical.character) ≡ Some bytes
+
 -- it has none, and the collection's map has the text for the glyph of the code
 pub record IsCollected (maps : Maps) (text bytes : List ℕ) : Type 0 where
   pub cid : ℕ
@@ -47,8 +68,10 @@ pub record IsCollected (maps : Maps) (text bytes : List ℕ) : Type 0 where
 -- the code of these bytes stands for the text with this rank
 abbrev pub StandsFor : Maps → List ℕ → List ℕ → Rank → Type 0
 StandsFor maps text bytes Stated = IsStated maps text bytes
+StandsFor maps text bytes OwnForm = IsOwnForm maps text bytes
+StandsFor maps text bytes Canonical = IsCanonical maps text bytes
 StandsFor maps text bytes Collection = IsCollected maps text bytes
 
 -- it is the first of the codes that stand for the text, by rank, then by the number of bytes, then by the bytes; or none does
 abbrev pub IsOwn : Maps → List ℕ → Option Ranked → Type 0
-IsOwn maps text found = IsFirstAmong (λ one. StandsFor maps text one.bytes one.rank) (option_map candidate_of found)
+IsOwn maps text found = IsFirstAmong (λ candidate. StandsFor maps text candidate.bytes candidate.rank) (option_map candidate_of found)

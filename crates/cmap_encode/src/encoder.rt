@@ -1,20 +1,23 @@
 //! Strings that show a text.
 
-ghost use Rattle.std.specs.Prelude.{◌≡◌, ◌≤◌, IfOk, MatchOption, length};
+ghost use Rattle.std.specs.Prelude.{◌≡◌, ◌≤◌, None, IfOk, MatchOption, false, length};
+ghost use Rattle.std.specs.Option.{option_copied};
 ghost use Rattle.std.specs.Str.{chars};
 ghost use Rattle.cmap_unicode.specs.Characters.{font_of};
 ghost use Rattle.cmap_values.specs.Outcomes.{Outcome, RefusesWith};
 ghost use Rattle.cmap_encode.specs.ChoicesSeen.{choices_of};
-ghost use Rattle.cmap_encode.specs.EncoderSeen.{IsEncoderOf};
+ghost use Rattle.cmap_encode.specs.EncoderSeen.{IsEncoderFor, IsEncoderOf};
 ghost use Rattle.cmap_encode.specs.Encodings.{IsEncodingBy, IsEncodingOf, IsLossyEncodingBy, IsLossyEncodingOf, IsStuckAt, IsStuckBy};
-ghost use Rattle.cmap_encode.specs.Maps.{Maps, maps_of};
+ghost use Rattle.cmap_encode.specs.Maps as maps;
 ghost use Rattle.cmap_encode.specs.Pieces.{IsEncodable};
 ghost use Rattle.cmap_encode.specs.Prefixes.{IsLongestAdded};
 
 use crate::choices::Choices;
 use crate::index::Index;
+use crate::maps::Maps;
 use crate::prefixes::{longest_prefix, stuck_at};
 use crate::ways::{all_ways, string_of};
+use cmap_layers::layers::Layers;
 use cmap_unicode::Extractor;
 use cmap_values::fault::Fault;
 use std::alloc::{AllocError, Global};
@@ -37,13 +40,27 @@ impl Encoder {
     ///
     /// It fails only if memory runs out.
     pub fn build(alloc: Global, font: &Extractor<'_>) -> Result<Encoder, AllocError>
-        ensures { IfOk result (IsEncoderOf (maps_of (font_of font.now))) }
+        ensures { IfOk result (IsEncoderFor (font_of font.now) None false) }
     {
-        let index = Index::build(alloc, &crate::maps::Maps::of(font))?;
-        let choices = Choices {
-            index,
-            exact: false,
-        };
+        Encoder::build_with(alloc, font, None, false)
+    }
+
+    /// The encoder of a font, with the map of its character collection from Unicode, as `UniJIS-UTF16-H`, which
+    /// chooses the glyphs of characters. Where it is `exact`, only codes are chosen that are read as the piece for
+    /// which they stand.
+    ///
+    /// It fails only if memory runs out.
+    pub fn build_with(
+        alloc: Global,
+        font: &Extractor<'_>,
+        unicode: Option<&Layers>,
+        exact: bool,
+    ) -> Result<Encoder, AllocError>
+        ensures { IfOk result
+            (IsEncoderFor (font_of font.now) (option_copied unicode.entry) exact) }
+    {
+        let index = Index::build(alloc, &Maps::of(font, unicode, exact))?;
+        let choices = Choices { index, exact };
         Ok(Encoder { choices })
     }
 
@@ -52,7 +69,7 @@ impl Encoder {
     /// can be encoded; else with fewer characters of the letter, the most first, or else with more, the most
     /// first. It is refused only where no pieces can be encoded so.
     pub fn encode(&self, alloc: Global, text: &str) -> Result<Vec<u8>, Fault<Unencodable>>
-        ensures { (maps : Maps) → IsEncoderOf maps self.now → Outcome
+        ensures { (maps : maps.Maps) → IsEncoderOf maps self.now → Outcome
             (λ string. IsEncodingOf maps (chars text.now) string.items)
             (λ refused. IsStuckAt maps (chars text.now) refused.offset) result }
     {
@@ -70,7 +87,7 @@ impl Encoder {
         text: &str,
         missing: &[u8],
     ) -> Result<Vec<u8>, AllocError>
-        ensures { (maps : Maps) → IsEncoderOf maps self.now → IfOk result
+        ensures { (maps : maps.Maps) → IsEncoderOf maps self.now → IfOk result
             (λ string. IsLossyEncodingOf maps missing.now (chars text.now) string.items) }
     {
         self.encoded_lossy(alloc, text, missing)

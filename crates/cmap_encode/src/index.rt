@@ -8,6 +8,7 @@ ghost use Rattle.cmap_encode.specs.IndexSeen.{AreFirstsOf, IsIndexOf, own_at};
 ghost use Rattle.cmap_encode.specs.Maps.{maps_seen};
 ghost use Rattle.cmap_encode.specs.TreeSeen.{step_of};
 
+use crate::by_character::add_characters;
 use crate::by_cid::add_cids;
 use crate::firsts::{CodeRun, Firsts};
 use crate::gathered::Gathered;
@@ -35,6 +36,7 @@ impl Index {
         let cids = Firsts::build(alloc, gathered.cids)?;
         let mut texts = gathered.texts;
         add_cids(alloc, &mut texts, maps.font.collection, &cids)?;
+        add_characters(alloc, &mut texts, maps, &cids)?;
         Ok(Index {
             tree: texts.tree,
             firsts: firsts_of(alloc, texts.lists)?,

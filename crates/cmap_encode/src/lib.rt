@@ -2,11 +2,13 @@
 #![tactic(auto)]
 
 mod alike;
+mod by_character;
 mod by_cid;
 mod choices;
 mod code;
 mod encoder;
 mod firsts;
+mod forms;
 mod gathered;
 mod glyphs;
 mod index;
@@ -16,6 +18,7 @@ mod outside;
 mod prefixes;
 mod rank;
 mod runs_by_front;
+mod silent;
 mod tree;
 mod ways;
 mod whole;

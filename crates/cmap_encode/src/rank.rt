@@ -12,12 +12,17 @@ use crate::code::Code;
 pub(crate) enum Rank {
     /// The ToUnicode CMap has the text for the code.
     Stated,
+    /// The map from Unicode has the glyph of the code for the character that is the text, and the code is
+    /// that of the character in the form of this map.
+    OwnForm,
+    /// The map from Unicode has the glyph of the code for the character that is the text.
+    Canonical,
     /// The collection's map has the text for the CID of the code.
     Collection,
 }
 
 /// The place of the last rank.
-pub(crate) const LAST_PLACE: u8 = 1;
+pub(crate) const LAST_PLACE: u8 = 3;
 
 impl Rank {
     /// Its place: 0 for the best rank.
@@ -27,7 +32,9 @@ impl Rank {
     {
         match self {
             Rank::Stated => 0,
-            Rank::Collection => 1,
+            Rank::OwnForm => 1,
+            Rank::Canonical => 2,
+            Rank::Collection => 3,
         }
     }
 
@@ -37,6 +44,7 @@ impl Rank {
     {
         match self {
             Rank::Stated => Grade::Stated,
+            Rank::OwnForm | Rank::Canonical => Grade::Canonical,
             Rank::Collection => Grade::Collection,
         }
     }

@@ -1,12 +1,12 @@
 //! Runs of codes by their texts: the characters before the last one, and the last one as a key.
 
-ghost use Rattle.std.specs.Prelude.{◌≡◌, ◌+◌, ◌<◌, ◌≤◌, ◌^◌, ◌++◌, ◌∷◌, [], ℕ, List, Some, IfOk, OnOk, length, if◌then◌else◌};
+ghost use Rattle.std.specs.Prelude.{◌≡◌, ◌+◌, ◌<◌, ◌≤◌, ◌^◌, ◌++◌, ◌∷◌, [], ℕ, List, Some, IfOk, IfSome, OnOk, length, if◌then◌else◌};
 ghost use Rattle.std.specs.Str.{bytes_eq};
 ghost use Rattle.cmap_tokens.specs.TextSeen.{text_seen};
 ghost use Rattle.cmap_unicode.specs.Characters.{characters_of};
 ghost use Rattle.cmap_values.specs.CodeLengths.{length_of};
 ghost use Rattle.cmap_encode.specs.FirstsSeen.{IsCodeRun};
-ghost use Rattle.cmap_encode.specs.RunsSeen.{AddsTexts, AreRunsByFront, HasNoRuns, Numbers, number_of, runs_of};
+ghost use Rattle.cmap_encode.specs.RunsSeen.{AddsCharacters, AddsTexts, AreRunsByFront, HasNoRuns, Numbers, number_of, runs_of};
 
 use crate::firsts::CodeRun;
 use crate::rank::Ranked;
@@ -62,6 +62,30 @@ impl RunsByFront {
         let run = CodeRun::from_key(u32::from(last), first, more);
         self.add(alloc, &front, run)?;
         Ok(run.range.end - run.range.start)
+    }
+
+    /// Adds codes in a row for characters in a row, as texts of their own: the first code, if there is one,
+    /// for this character, and `more` codes after it for the characters after this one.
+    pub(crate) fn add_characters(
+        &mut self,
+        alloc: Global,
+        character: u32,
+        first: Option<Ranked>,
+        more: u32,
+    ) -> Result<(), AllocError>
+        requires are { AreRunsByFront self.old }
+        requires keys { character + more < 2 ^ 32 }
+        requires fits { IfSome first
+            (λ ranked. ranked.code.number + more < 256 ^ length_of ranked.code.len) }
+        ensures are { OnOk result (AreRunsByFront self.new) }
+        ensures texts { OnOk result (AddsCharacters self.old self.new character first more) }
+    {
+        let Some(first) = first else {
+            return Ok(());
+        };
+        let run = CodeRun::from_key(character, first, more);
+        self.add(alloc, &[], run)?;
+        Ok(())
     }
 
     /// Adds a run to those of a front.

@@ -1,4 +1,4 @@
-use Rattle.std.proofs.Common.{◌≡◌, false, drop}
+use Rattle.std.proofs.Common.{◌≡◌, drop}
 use Rattle.cmap_layers.specs.LayersSeen.{layers_seen}
 use Rattle.cmap_encode.specs.Glyphs.{lower_from, lower_of}
 use Rattle.cmap_encode.proofs.glyphs.lower_layers.Given as goal

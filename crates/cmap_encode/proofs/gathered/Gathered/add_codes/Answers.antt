@@ -1,6 +1,5 @@
-use Rattle.std.proofs.Common.{◌≡◌, ◌^◌, ◌≤◌, arith}
+use Rattle.std.proofs.Common.{arith}
 use Rattle.cmap_values.specs.CodeLengths.{length_of}
-use Rattle.cmap_values.specs.declared.code_length.CodeLength.{CodeLength}
 use Rattle.cmap_encode.specs.Maps.{maps_seen}
 use Rattle.cmap_encode.proofs.GatheredRows.{all_gathered}
 use Rattle.cmap_encode.proofs.gathered.Gathered.add_codes.Goals as goal

@@ -1,4 +1,4 @@
-use Rattle.std.proofs.Common.{◌≡◌, ◌+◌, ◌-◌, sym, ap, subst, ◌∙◌, arith}
+use Rattle.std.proofs.Common.{◌+◌, ◌-◌, sym, ap, subst, ◌∙◌, arith}
 use Rattle.std.specs.Prelude.{option_map}
 use Rattle.std.specs.Option.{option_copied}
 use Rattle.cmap_tokens.specs.TextSeen.{text_seen}
@@ -9,7 +9,7 @@ use Rattle.cmap_unicode.proofs.TextsFilled.{text_filled}
 use Rattle.cmap_values.specs.CodeLengths.{length_of}
 use Rattle.cmap_encode.specs.GatheredSeen.{AreGathered}
 use Rattle.cmap_encode.specs.Glyphs.{glyph_by}
-use Rattle.cmap_encode.specs.GlyphsSeen.{AreGlyphs, Fit}
+use Rattle.cmap_encode.specs.GlyphsSeen.{AreGlyphs}
 use Rattle.cmap_encode.specs.Maps.{maps_seen}
 use Rattle.cmap_encode.proofs.CidsAdded.{no_text_in_row, text_in_row}
 use Rattle.cmap_encode.proofs.GatheredRows.{missing_over}

@@ -1,10 +1,9 @@
-use Rattle.std.proofs.Common.{◌≡◌, ◌+◌, ◌-◌, refl, sym, ap, subst, arith}
+use Rattle.std.proofs.Common.{◌≡◌, ◌+◌, ◌-◌, refl, sym, subst, arith}
 use Rattle.std.specs.Prelude.{All}
 use Rattle.std.proofs.lemmas.List.Elements.{All-push}
 use Rattle.cmap_values.specs.CodeLengths.{length_of}
 use Rattle.cmap_encode.specs.FirstsSeen.{IsCodeRun}
 use Rattle.cmap_encode.specs.GatheredSeen.{AreGathered, HaveGlyphs}
-use Rattle.cmap_encode.specs.GlyphsSeen.{Fit}
 use Rattle.cmap_encode.specs.Maps.{maps_seen}
 use Rattle.cmap_encode.proofs.GatheredRows.{cids_gathered, is_false, is_so, passed_over, silent_over}
 use Rattle.cmap_encode.proofs.GlyphsFound.{no_glyph_after}

@@ -1,4 +1,4 @@
-use Rattle.std.proofs.Common.{◌≡◌, ◌+◌, refl, sym, ap, subst, ◌∙◌, arith}
+use Rattle.std.proofs.Common.{◌≡◌, ◌+◌, refl, sym, subst, arith}
 use Rattle.cmap_tokens.specs.TextSeen.{text_seen}
 use Rattle.cmap_values.specs.CodeLengths.{length_of}
 use Rattle.cmap_encode.specs.GatheredSeen.{AreGathered}

@@ -1,4 +1,4 @@
-use Rattle.std.proofs.Common.{◌≡◌, ◌+◌, ◌<◌, ℕ, List, [], ◌∷◌, ◌++◌, Some, None, refl, sym, ap, subst, ◌∙◌, arith, inl, inr, length-append}
+use Rattle.std.proofs.Common.{◌≡◌, ◌+◌, ◌<◌, ℕ, List, [], ◌∷◌, ◌++◌, Some, None, refl, sym, ap, subst, ◌∙◌, length-append}
 use Rattle.std.specs.Prelude.{All, if◌then◌else◌, length, option_and_then}
 use Rattle.std.specs.Global.{Vec}
 use Rattle.std.specs.Str.{bytes_eq}
@@ -8,7 +8,7 @@ use Rattle.cmap_encode.specs.FirstsSeen.{IsCodeRun}
 use Rattle.cmap_encode.specs.RunsSeen.{number_of}
 use Rattle.cmap_encode.specs.TreeSeen.{PutsStep, node_of, step_of}
 use Rattle.cmap_encode.specs.declared.firsts.CodeRun.{CodeRun}
-use Rattle.cmap_encode.proofs.RunsNumbered.{more_apart, more_within, one_of, runs_at, same_runs}
+use Rattle.cmap_encode.proofs.RunsNumbered.{more_apart, more_within, runs_at, same_runs}
 use Rattle.cmap_encode.proofs.TreeNodes.{none_at, one_further, put_step, steps_inside}
 use Rattle.cmap_encode.proofs.runs_by_front.RunsByFront.number_after.Goals as goal
 

@@ -1,0 +1,183 @@
+//! The codes of characters, by the glyphs that a map from Unicode gives these.
+
+ghost use Rattle.std.specs.Prelude.{◌≡◌, ◌↔◌, ◌+◌, ◌<◌, ◌≤◌, ℕ, IfOk, OnOk, IsTrue, Some, option_map};
+ghost use Rattle.cmap_tokens.specs.Texts.{one};
+ghost use Rattle.cmap_tokens.specs.TextSeen.{text_seen};
+ghost use Rattle.cmap_encode.specs.GatheredSeen.{AddsAllGlyphs, AddsGlyphs, IsOwnFormOf};
+ghost use Rattle.cmap_encode.specs.GlyphsSeen.{AreOfCharacters, glyph_after};
+ghost use Rattle.cmap_encode.specs.Maps.{glyph_of_character, maps_seen, unicode_seen};
+ghost use Rattle.cmap_encode.specs.RunsSeen.{AreRunsByFront};
+ghost use Rattle.cmap_encode.specs.StandsFor.{HasGlyph};
+
+use crate::code::Code;
+use crate::firsts::Firsts;
+use crate::forms::LAST_CHARACTER;
+use crate::glyphs::{Glyphs, glyph_stretch};
+use crate::maps::{Maps, Unicode};
+use crate::rank::{Rank, Ranked};
+use crate::runs_by_front::RunsByFront;
+use crate::silent::silent_stretch;
+use cmap_tokens::utf16::BfString;
+use cmap_unicode::texts_in_row;
+use cmap_values::names::Cid;
+use std::alloc::{AllocError, Global};
+
+/// Characters in a row, with codes that count on in the form of a map from Unicode, and glyphs that do.
+#[derive(Clone, Copy)]
+pub(crate) struct GlyphRow {
+    /// The code of the first character.
+    pub(crate) code: Option<Code>,
+    /// Its glyph.
+    pub(crate) cid: Option<Cid>,
+    /// How many characters come after the first.
+    pub(crate) more: u32,
+}
+
+/// Adds the codes of characters by the map from Unicode, if there is one: for each character the first code
+/// of its glyph, and its code in the form of the map, if that has the same glyph in the font.
+pub(crate) fn add_characters(
+    alloc: Global,
+    texts: &mut RunsByFront,
+    maps: &Maps<'_>,
+    cids: &Firsts,
+) -> Result<(), AllocError>
+    requires { AreRunsByFront texts.old }
+    ensures are { OnOk result (AreRunsByFront texts.new) }
+    ensures adds { OnOk result (AddsAllGlyphs (maps_seen maps.now) cids.now texts.old texts.new) }
+{
+    let Some(unicode) = &maps.unicode else {
+        return Ok(());
+    };
+    let mut next = 0;
+    while next <= LAST_CHARACTER {
+        next = add_row(alloc, texts, maps, unicode, cids, next)?;
+    }
+    Ok(())
+}
+
+/// Adds the codes of characters from `first` on whose codes and glyphs count on. It gives the character
+/// with which to go on.
+fn add_row(
+    alloc: Global,
+    texts: &mut RunsByFront,
+    maps: &Maps<'_>,
+    unicode: &Unicode<'_>,
+    cids: &Firsts,
+    first: u32,
+) -> Result<u32, AllocError>
+    requires are { AreRunsByFront texts.old }
+    requires first { first ≤ LAST_CHARACTER }
+    ensures more { IfOk result (λ next. (first < next) × (next ≤ LAST_CHARACTER + 1)) }
+    ensures are { OnOk result (AreRunsByFront texts.new) }
+    ensures adds { IfOk result (λ next. AddsGlyphs (maps_seen maps.now) (unicode_seen unicode.now)
+        cids.now first next texts.old texts.new) }
+{
+    let row = read_back(alloc, maps, unicode, first, glyph_row(unicode, first))?;
+    let Some(code) = row.code else {
+        return Ok(first + row.more + 1);
+    };
+    let Some(cid) = row.cid else {
+        return Ok(first + row.more + 1);
+    };
+    let own = cids.stretch(cid);
+    let silent = silent_stretch(alloc, maps, code)?;
+    let more = row.more.min(own.last - cid).min(silent.last - code.number);
+    texts.add_characters(alloc, first, canonical(own.first), more)?;
+    texts.add_characters(alloc, first, own_form(code, silent.cid, cid), more)?;
+    Ok(first + more + 1)
+}
+
+/// The code with the rank of those that are chosen by their glyph.
+fn canonical(own: Option<Ranked>) -> Option<Ranked>
+    ensures { result ≡ option_map (λ ranked. record { code = ranked.code; rank = Rank.Canonical }) own }
+{
+    Some(Ranked {
+        code: own?.code,
+        rank: Rank::Canonical,
+    })
+}
+
+/// The code of a character in the form of the map from Unicode, if it is silent with the glyph of the
+/// character.
+fn own_form(code: Code, silent: Option<Cid>, cid: Cid) -> Option<Ranked>
+    ensures { IsOwnFormOf code silent cid result }
+{
+    if silent != Some(cid) {
+        return None;
+    }
+    Some(Ranked {
+        code,
+        rank: Rank::OwnForm,
+    })
+}
+
+/// The codes and the glyphs of characters from `first` on.
+fn glyph_row(unicode: &Unicode<'_>, first: u32) -> GlyphRow
+    requires { first ≤ LAST_CHARACTER }
+    ensures { let from = unicode_seen unicode.now in
+        AreOfCharacters from.form (λ c cid. glyph_of_character from c ≡ Some cid) first result }
+{
+    let row = unicode.form.row(first);
+    let Some(code) = row.code else {
+        return GlyphRow {
+            code: None,
+            cid: None,
+            more: row.last - first,
+        };
+    };
+    let stretch = glyph_stretch(unicode.lower, unicode.all, code);
+    GlyphRow {
+        code: row.code,
+        cid: glyph_of(stretch.glyphs),
+        more: (row.last - first).min(stretch.last - code.number),
+    }
+}
+
+/// The first of the glyphs, if there are glyphs.
+fn glyph_of(glyphs: Glyphs) -> Option<Cid>
+    ensures { (k : ℕ) → option_map (λ cid. cid + k) result ≡ glyph_after glyphs k }
+{
+    match glyphs {
+        Glyphs::CountOn(cid) => Some(cid),
+        Glyphs::Undeclared | Glyphs::Missing => None,
+    }
+}
+
+/// The same characters as far as their glyphs all read back, or none does. If codes count that don't read
+/// back, all characters keep their glyphs.
+fn read_back(
+    alloc: Global,
+    maps: &Maps<'_>,
+    unicode: &Unicode<'_>,
+    first: u32,
+    row: GlyphRow,
+) -> Result<GlyphRow, AllocError>
+    requires { let from = unicode_seen unicode.now in
+        AreOfCharacters from.form (λ c cid. glyph_of_character from c ≡ Some cid) first row }
+    ensures { let from = unicode_seen unicode.now in IfOk result
+        (AreOfCharacters from.form (HasGlyph (maps_seen maps.now) from) first) }
+{
+    if !maps.exact {
+        return Ok(row);
+    }
+    let Some(cid) = row.cid else {
+        return Ok(row);
+    };
+    let texts = texts_in_row(alloc, maps.font.collection, cid)?;
+    let reads = is_character(&texts.text, first);
+    Ok(GlyphRow {
+        code: row.code,
+        cid: if reads { row.cid } else { None },
+        more: row.more.min(texts.last - cid),
+    })
+}
+
+/// Whether a text is just this character.
+fn is_character(text: &Option<BfString>, character: u32) -> bool
+    ensures { IsTrue result ↔ (option_map text_seen text.now ≡ Some (one character)) }
+{
+    match text {
+        Some(BfString::Char(only)) => u32::from(*only) == character,
+        _ => false,
+    }
+}
