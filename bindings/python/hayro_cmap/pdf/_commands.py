@@ -12,7 +12,7 @@ from ._check import Report, check
 from ._content import Document
 from ._fonts import fonts
 from ._limits import FAILED_ALLOCATION, NO_MEMORY, SECONDS, Deadline, is_memory
-from ._paths import is_among, opened, readable, reason_of
+from ._paths import in_memory, is_among, opened, readable, reason_of
 from ._repair import Signed, repair, save
 from ._report import charts_of
 
@@ -75,15 +75,18 @@ class Job(NamedTuple):
 def run(path: str, command: str, options: Dict[str, Any], progress: Progress = iter) -> Result:
     """What a command says of a file, whatever the file is."""
     deadline, password = Deadline(options.get("seconds", SECONDS)), options.get("password") or ""
+    file: Optional[BinaryIO] = None
     try:
-        with opened(path) as file, pikepdf.open(file, password=password) as pdf:
-            job = Job(path, file, pdf, options, lambda pages: deadline.over(progress(pages)), deadline)
-            return COMMANDS[command](job)
+        with opened(path) as on_disk:
+            file = in_memory(on_disk)
+            with pikepdf.open(file, password=password) as pdf:
+                job = Job(path, file, pdf, options, lambda pages: deadline.over(progress(pages)), deadline)
+                return COMMANDS[command](job)
     except pikepdf.PasswordError:
         return unread(path, f"it can't be read {'by this' if password else 'without its'} password")
     except Exception as fault:  # pikepdf raises many kinds over objects that are none, and the run goes on
         # pikepdf begins with what it reads from
-        reason = reason_of(fault).replace(f"<_io.BufferedReader name={path!r}>: ", "")
+        reason = reason_of(fault).replace(f"{file!r}: ", "")
         return unread(path, f"it can't be read: {NO_MEMORY if is_memory(fault) else reason}")
 
 
