@@ -159,7 +159,7 @@ class Extractor:
     @functools.cached_property
     def _code_length(self):
         """How many bytes each code has, or None where codes have several lengths."""
-        lengths = {it.byte_len for layer in self._maps[0].layers for it in layer.codespaces} or {1}
+        lengths = {it.byte_len for it in self._maps[0]._all_codespaces()} or {1}
         return lengths.pop() if len(lengths) == 1 else None
 
     def close(self):

@@ -9,6 +9,7 @@ reader of the output goes away.
 import argparse
 import contextlib
 import errno
+import gc
 import logging
 import os
 import sys
@@ -154,6 +155,7 @@ def results(asked: argparse.Namespace, paths: List[str]) -> Iterator[Result]:
         done = by_dask(paths, asked.command, options, asked.dask)
     else:
         # what ends a process, as a lack of memory may, costs the file that it reads
+        gc.freeze()
         task = Task(asked.command, options, MEMORY, of_pages if len(paths) == 1 else iter)
         done = by_processes(paths, task, asked.jobs)
     return progress(done, len(paths), "files")

@@ -8,7 +8,7 @@ from typing import Any, Callable, Dict, Iterable, Iterator, List, NamedTuple, Op
 
 import pikepdf
 
-from .. import CMap, Code, Extractor, NotWritable, Refused, predefined
+from .. import CMap, Code, Extractor, Layer, NotWritable, Refused, predefined
 from .._faults import Lines
 from ._budget import Budget
 from ._glyphs import Names, differences_of, glyph_names, guessed_texts, is_symbolic, texts_of_names
@@ -150,55 +150,59 @@ class Font:
         self.objgen: Optional[Tuple[int, int]] = dictionary.objgen if dictionary.is_indirect else None
         #: "Type0", "Type1", "TrueType" and so on.
         self.subtype = name_at(dictionary, "/Subtype")
-        self.base_font = name_at(dictionary, "/BaseFont") or name_at(dictionary, "/Name")
-        listed = dictionary.get("/DescendantFonts")
+        self.is_composite = self.subtype == "Type0"
+        listed = dictionary.get("/DescendantFonts") if self.is_composite else None
         below = list(listed)[:1] if isinstance(listed, pikepdf.Array) else []
         #: The CIDFont of a composite font.
         self.descendant: Optional[pikepdf.Dictionary] = next(
             (it for it in below if isinstance(it, pikepdf.Dictionary)), None
         )
 
-    @property
-    def is_composite(self) -> bool:
-        return self.subtype == "Type0"
+    @functools.cached_property
+    def base_font(self) -> Optional[str]:
+        return name_at(self.dictionary, "/BaseFont") or name_at(self.dictionary, "/Name")
 
     @property
     def number(self) -> int:
         """The number of its object; 0 where it has none."""
         return self.objgen[0] if self.objgen else 0
 
-    @property
+    @functools.cached_property
     def encoding_name(self) -> Optional[str]:
         """The name of the encoding: of a stream the CMapName, of a dictionary the BaseEncoding."""
-        encoding = self.dictionary.get("/Encoding")
-        if isinstance(encoding, pikepdf.Stream):
-            return name_at(encoding, "/CMapName")
-        if isinstance(encoding, pikepdf.Dictionary):
-            return name_at(encoding, "/BaseEncoding")
-        return text_of(encoding) if isinstance(encoding, pikepdf.Name) else None
+        encoding, kind = self.dictionary.get("/Encoding"), self.encoding_kind
+        if kind == "name":
+            return text_of(encoding)
+        keys = {"stream": "/CMapName", "dictionary": "/BaseEncoding"}
+        return name_at(encoding, keys[kind]) if kind in keys else None
 
-    @property
+    @functools.cached_property
     def encoding_kind(self) -> str:
         """What the encoding is: "name", "stream", "dictionary" or "none"."""
         encoding = self.dictionary.get("/Encoding")
-        kinds = [(pikepdf.Stream, "stream"), (pikepdf.Dictionary, "dictionary"), (pikepdf.Name, "name")]
+        kinds = [(pikepdf.Name, "name"), (pikepdf.Dictionary, "dictionary"), (pikepdf.Stream, "stream")]
         return next((name for kind, name in kinds if isinstance(encoding, kind)), "none")
 
     @functools.cached_property
     def encoding(self) -> Read:
         """The CMap of a composite font, over those of `UseCMap`; nothing of a simple one."""
-        encoding = self.dictionary.get("/Encoding")
         if not self.is_composite:
             return NOTHING
-        if isinstance(encoding, pikepdf.Stream):
+        encoding = self.dictionary.get("/Encoding")
+        if self.encoding_kind == "stream":
             return read_stream(encoding, "Encoding", self._streams)
-        if not isinstance(encoding, pikepdf.Name):
+        if self.encoding_kind != "name":
             return Read(None, None, [Fault("Encoding", 0, None, None, (), "it is neither a name nor a stream")])
         try:
             cmap = CMap.open(bytes_of(encoding))
         except Refused as fault:
             return Read(None, None, [fault_of(fault, "Encoding", 0, b"")])
         return Read(cmap, cmap, [])
+
+    @functools.cached_property
+    def encoding_layers(self) -> List[Layer]:
+        """What the files of the CMap of a composite font give; nothing of a simple one."""
+        return [] if self.encoding.lenient is None else self.encoding.lenient.layers
 
     @functools.cached_property
     def to_unicode(self) -> Read:
@@ -223,7 +227,7 @@ class Font:
         is_own = self.encoding_kind == "stream" or self.encoding_name in IDENTITIES
         if is_own and of_font is not None:
             return of_font
-        said = [] if self.encoding.lenient is None else [layer.metadata for layer in self.encoding.lenient.layers]
+        said = [layer.metadata for layer in self.encoding_layers]
         found = (
             b"%b-%b" % (it.registry, it.ordering) for it in said if it.registry is not None and it.ordering is not None
         )

@@ -19,6 +19,9 @@ STEPS_OF_CHECK = 1 << 10
 #: How many graphics states are kept at a time.
 MOST_SAVED = 1 << 12
 
+#: How many names of resources are kept of a content, with what they name.
+MOST_NAMES = 1 << 16
+
 #: How deep forms may draw each other.
 MOST_NESTED = 64
 
@@ -94,17 +97,15 @@ class Level:
         self.form = None if form is None else form.objgen
         self.state, self.saved, self.unsaved = run.state, len(run.saved), run.unsaved
         self.text, self.span, self.marks = run.text, run.span, run.marks
-        self._fonts: Dict[bytes, Any] = {}
+        self._found: Dict[Tuple[str, bytes], Any] = {}
 
-    def named(self, kind: str, name: bytes) -> Any:
-        """What the resources name so."""
-        return named(dictionary_at(self.resources, kind), name)
-
-    def font(self, name: bytes, font_of: Callable[[Any], Optional[Font]]) -> Optional[Font]:
-        """The font of a name, looked up once."""
-        if name not in self._fonts:
-            self._fonts[name] = font_of(self.named("/Font", name))
-        return self._fonts[name]
+    def named(self, kind: str, name: bytes, taken: Callable[[Any], Any] = lambda it: it) -> Any:
+        """What is taken of the resource of a name, looked up once."""
+        if (kind, name) not in self._found:
+            if len(self._found) == MOST_NAMES:
+                self._found.clear()
+            self._found[kind, name] = taken(named(dictionary_at(self.resources, kind), name))
+        return self._found[kind, name]
 
 
 class TextMatrix:
@@ -197,11 +198,15 @@ class Interpreter:
 
     def _choose_state(self, _: bytes, operands: List[Operand]) -> None:
         """Takes the font that a graphics state chooses (ISO 32000-1, 8.4.5)."""
-        state = self._levels[-1].named("/ExtGState", last_name(operands))
+        chosen = self._levels[-1].named("/ExtGState", last_name(operands), self._font_of_state)
+        if chosen is not None:
+            self.state.font, self.state.size = chosen
+
+    def _font_of_state(self, state: Any) -> Optional[Tuple[Optional[Font], float]]:
+        """The font and the size that a graphics state chooses; None where it chooses none."""
         pair = state.get("/Font") if isinstance(state, pikepdf.Dictionary) else None
-        if isinstance(pair, pikepdf.Array) and len(pair) == 2:
-            self.state.font = self._content.font(pair[0])
-            self.state.size = number_of(pair[1])
+        is_pair = isinstance(pair, pikepdf.Array) and len(pair) == 2
+        return (self._content.font(pair[0]), number_of(pair[1])) if is_pair else None
 
     def _draw(self, _: bytes, operands: List[Operand]) -> None:
         """Begins a form, which has the font that is chosen, and without resources those of what draws it."""
@@ -239,7 +244,7 @@ class Interpreter:
         self.text = self.text.moved(0.0, -self.state.leading)
 
     def _choose_font(self, numbers: bytes, operands: List[Operand]) -> None:
-        self.state.font = self._levels[-1].font(last_name(operands), self._content.font)
+        self.state.font = self._levels[-1].named("/Font", last_name(operands), self._content.font)
         self.state.size = last_in(numbers)
 
     def _set_char_space(self, numbers: bytes, _: Any) -> None:

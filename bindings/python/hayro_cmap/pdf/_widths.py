@@ -24,7 +24,7 @@ from ._metrics import (
     TIMES_ITALIC,
     ZAPF_DINGBATS,
 )
-from ._objects import MALFORMED, dictionary_at, integer_at, name_at
+from ._objects import MALFORMED, dictionary_at, integer_at
 from ._programs import CIDS, glyphs_of_codes
 
 if TYPE_CHECKING:
@@ -56,8 +56,10 @@ NO_CID = -1
 #: What an array of numbers has: a number, an array, or None for anything else.
 Value = Union[None, float, List[Any]]
 
-#: An array as it is written, if it has nothing but direct numbers and arrays of these.
-PLAIN = re.compile(rb"\[[-+.0-9\[\] ]*\]")
+#: An array as it is written, if it has nothing but direct numbers and arrays of these; and what it has: an array, or
+#: numbers between arrays.
+PLAIN = re.compile(rb"\[[-+.0-9 ]*(?:\[[-+.0-9 ]*\][-+.0-9 ]*)*\]")
+RUN = re.compile(rb"\[([^\[\]]*)\]|([^\[\]]+)")
 
 #: The widths of standard fonts, by what their names have: of the first row all of whose words a name has.
 STANDARD_FONTS: List[Tuple[Tuple[str, ...], Dict[str, int]]] = [
@@ -186,15 +188,14 @@ def matrix_of(font: "Font") -> float:
 
 def is_vertical(font: "Font") -> bool:
     """Whether the encoding of a composite font is for vertical writing (ISO 32000-1, 9.7.5)."""
-    encoding = font.dictionary.get("/Encoding")
-    if isinstance(encoding, pikepdf.Stream) and integer_at(encoding, "/WMode") == WritingMode.VERTICAL:
+    kind = font.encoding_kind
+    if kind == "stream" and integer_at(font.dictionary.get("/Encoding"), "/WMode") == WritingMode.VERTICAL:
         return True
-    layers = [] if font.encoding.lenient is None else font.encoding.lenient.layers
-    modes = (it.metadata.writing_mode for it in layers)
+    modes = (it.metadata.writing_mode for it in font.encoding_layers)
     mode = next((it for it in modes if it is not None), None)
-    if mode is None and isinstance(encoding, pikepdf.Name):
+    if mode is None and kind == "name":
         # a predefined CMap that isn't at hand has its writing mode in its name
-        return (name_at(font.dictionary, "/Encoding") or "").endswith("V")
+        return (font.encoding_name or "").endswith("V")
     return mode is WritingMode.VERTICAL
 
 
@@ -256,15 +257,11 @@ def values_of(listed: Any) -> List[Value]:
 def values_in(written: bytes) -> List[Value]:
     """The numbers and arrays of numbers that are written here. To make objects of each takes longer."""
     found: List[Value] = []
-    inner = found
-    for token in written.replace(b"[", b" [ ").replace(b"]", b" ] ").split():
-        if token == b"[":
-            inner = []
-            found.append(inner)
-        elif token == b"]":
-            inner = found
+    for array, row in RUN.findall(written):
+        if row:
+            found += map(float, row.split())
         else:
-            inner.append(float(token))
+            found.append(list(map(float, array.split())))
     return found
 
 
