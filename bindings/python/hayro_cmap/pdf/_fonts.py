@@ -50,8 +50,8 @@ IDENTITIES = ("Identity-H", "Identity-V")
 MOST_OF_TEXT = 1 << 10
 LONG_TEXT = re.compile(rb"<[0-9A-Fa-f\0\t\n\f\r ]{2048}|\([^()<>\[\]]{1024}")
 
-#: Five digits without others beside them, and a hexadecimal string.
-FIVE_DIGITS = re.compile(rb"(?<![0-9A-Fa-f])[0-9A-Fa-f]{5}(?![0-9A-Fa-f])")
+#: A hexadecimal string of five digits, and one of any.
+FIVE_DIGITS = re.compile(rb"<[\0\t\n\f\r ]*[0-9A-Fa-f]{5}[\0\t\n\f\r ]*>")
 HEXADECIMAL = re.compile(rb"<([0-9A-Fa-f\0\t\n\f\r ]*)>")
 
 #: The last code that four bytes write.
@@ -360,9 +360,10 @@ class Font:
         found = []
         for code, text in characters:
             key = code[:2] if not code.cut_short else (code.code, -code.byte_len)
-            if key not in known:
-                known[key] = self._character(code, text, lenient, guesses)
-            found.append(known[key])
+            character = known.get(key)
+            if character is None:
+                character = known[key] = self._character(code, text, lenient, guesses)
+            found.append(character)
         return found
 
     def _character(self, code: Code, text: Optional[str], lenient: bool, guesses: bool) -> Character:
@@ -419,11 +420,15 @@ class Font:
     @functools.cached_property
     def _ways(self) -> List[Tuple[Source, Callable[[int], Optional[str]]]]:
         """How a code of a simple font has a text without a ToUnicode CMap, the best way first."""
-        by_name = (Source.GLYPH_NAME, lambda code: self.glyph_texts[code])
+        by_name = (Source.GLYPH_NAME, self._text_of_name)
         by_program = (Source.FONT_PROGRAM, lambda code: self.program_texts[code])
         by_number = (Source.GLYPH_NUMBER, lambda code: self.guessed_texts.get(code))
         is_by_code = self.subtype == "TrueType" and self.encoding_kind == "none"
         return [by_program, by_name, by_number] if is_by_code else [by_name, by_program, by_number]
+
+    def _text_of_name(self, code: int) -> Optional[str]:
+        """The text of the name of the glyph of a code of a simple font."""
+        return texts_of_names([self.glyph_names[code]], self.base_font or "")[0]
 
     @property
     def faults(self) -> List[Fault]:

@@ -56,8 +56,9 @@ NO_CID = -1
 #: What an array of numbers has: a number, an array, or None for anything else.
 Value = Union[None, float, List[Any]]
 
-#: An array as it is written, if it has nothing but direct numbers and arrays of these; and what it has: an array, or
-#: numbers between arrays.
+#: An array as it is written, if it has nothing but direct numbers, or also arrays of these; and what it has: an array,
+#: or numbers between arrays.
+NUMBERS = re.compile(rb"\[[-+.0-9 ]*\]")
 PLAIN = re.compile(rb"\[[-+.0-9 ]*(?:\[[-+.0-9 ]*\][-+.0-9 ]*)*\]")
 RUN = re.compile(rb"\[([^\[\]]*)\]|([^\[\]]+)")
 
@@ -247,6 +248,8 @@ def values_of(listed: Any) -> List[Value]:
         if not isinstance(listed, pikepdf.Array):
             return []
         written = listed.unparse()
+        if NUMBERS.fullmatch(written):
+            return list(map(float, written[1:-1].split()))
         if PLAIN.fullmatch(written):
             return values_in(written[1:-1])
         return [values_of(it) if isinstance(it, pikepdf.Array) else number(it) for it in list(listed)]
