@@ -313,7 +313,9 @@ class Interpreter:
             if isinstance(it, bytes):
                 found = measure.of(it)
                 place = frame.show(found)
-                texts = [found.texts[0], BLANK, found.texts[1]] if frame.is_spaced(found) else found.texts
+                texts = found.texts
+                if frame.is_wide and frame.is_spaced(found):
+                    texts = [texts[0], BLANK, texts[1]]
                 pieces.append(Piece(font, it, span, texts, found.is_right_to_left, place))
             else:
                 frame.move(it)
@@ -337,7 +339,8 @@ class Frame:
         self._x, self._y, self._unit_x, self._unit_y = e + rise * c, f + rise * d, unit_x, unit_y
         self._em = state.size * THOUSANDTH * unit
         self._char_space, self._word_space = state.char_space * unit, state.word_space * unit
-        self._is_wide = state.char_space > WIDE * state.size
+        #: Whether codes have a wide space between them.
+        self.is_wide = state.char_space > WIDE * state.size
         length = math.hypot(unit_x, unit_y)
         sign = math.copysign(1.0, state.size * unit) * (-1.0 if is_vertical else 1.0)
         self._size = abs(state.size) * math.hypot(c, d)
@@ -354,7 +357,7 @@ class Frame:
         self._gone = end
         if self._along is None or self._size == 0.0:
             return None
-        if self.is_spaced(string):
+        if self.is_wide and self.is_spaced(string):
             end -= self._char_space
         x, y, unit_x, unit_y = self._x, self._y, self._unit_x, self._unit_y
         return Place(
@@ -370,7 +373,7 @@ class Frame:
     def is_spaced(self, string: Measured) -> bool:
         """Whether a string is the last letter of a word and the first one of another: two codes with a wide space
         between them. More codes are letters that are spaced out."""
-        return self._is_wide and len(string.texts) == 2
+        return self.is_wide and len(string.texts) == 2
 
     def leave(self, text: TextMatrix) -> None:
         """Lets the text go on after these strings."""

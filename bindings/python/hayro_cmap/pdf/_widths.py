@@ -151,12 +151,14 @@ def given_widths(font: "Font") -> List[float]:
     given = numbers(font.dictionary.get("/Widths"))
     if not any(it is not None for it in given):
         return []
-    scale = 1000 * matrix_of(font) if font.subtype == "Type3" else 1
     missing = number_at(dictionary_at(font.dictionary, "/FontDescriptor"), "/MissingWidth", 0.0)
-    table = [scale * missing] * 256
-    for code, width in enumerate(given, integer_at(font.dictionary, "/FirstChar")):
-        if 0 <= code < 256 and width is not None:
-            table[code] = scale * width
+    table = [missing] * 256
+    first = integer_at(font.dictionary, "/FirstChar")
+    start, row = max(first, 0), given[max(-first, 0) : max(256 - first, 0)]
+    table[start : start + len(row)] = [missing if it is None else it for it in row]
+    if font.subtype == "Type3":
+        scale = 1000 * matrix_of(font)
+        table = [scale * it for it in table]
     return table
 
 
@@ -204,7 +206,10 @@ def widths_of_cids(descendant: pikepdf.Dictionary, budget: Budget) -> Dict[int, 
     """The widths of the CIDs of the array W of a CIDFont."""
     found: Dict[int, float] = {}
     for first, row in runs_of(descendant.get("/W"), 1, budget):
-        found.update((cid, width) for cid, width in enumerate(row, first) if is_width(width) and 0 <= cid < CIDS)
+        widths = zip(range(first, CIDS), row)
+        if first < 0 or not are_widths(row):
+            widths = ((cid, width) for cid, width in widths if cid >= 0 and is_width(width))
+        found.update(widths)
     return found
 
 
@@ -270,12 +275,18 @@ def values_in(written: bytes) -> List[Value]:
 
 def numbers(listed: Any) -> List[Optional[float]]:
     """The numbers of an array, with None for what is none, or is too large."""
-    return [it if is_width(it) else None for it in values_of(listed)]
+    found = values_of(listed)
+    return found if are_widths(found) else [it if is_width(it) else None for it in found]
 
 
 def is_width(value: Value) -> bool:
     """Whether a value is a number that isn't too large."""
     return isinstance(value, float) and abs(value) <= LARGEST
+
+
+def are_widths(values: List[Value]) -> bool:
+    """Whether all values are such numbers; not of no value. It takes less time than to look at each."""
+    return set(map(type, values)) == {float} and -LARGEST <= min(values) and max(values) <= LARGEST
 
 
 def pair_of(listed: Any, usual: Tuple[float, float]) -> Tuple[float, float]:
