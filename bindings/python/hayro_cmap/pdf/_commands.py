@@ -14,7 +14,6 @@ from ._fonts import fonts
 from ._limits import FAILED_ALLOCATION, NO_MEMORY, SECONDS, Deadline, is_memory
 from ._paths import in_memory, is_among, opened, readable, reason_of
 from ._repair import Signed, repair, save
-from ._report import charts_of
 
 #: What pages are handed to, and gives them again: a progress bar, or nothing.
 Progress = Callable[[Iterable[Any]], Iterable[Any]]
@@ -121,6 +120,14 @@ def run_check(job: Job) -> Result:
         has_warnings=report.has_warnings,
         charts=charts_of(report) if job.options.get("charts") else [],
     )
+
+
+def charts_of(report: Report) -> List[Dict[str, Any]]:
+    """What a page for people shows of the fonts of a report."""
+    # few runs make pages
+    from . import _report
+
+    return _report.charts_of(report)
 
 
 def run_text(job: Job) -> Result:

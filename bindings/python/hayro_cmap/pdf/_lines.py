@@ -198,7 +198,7 @@ class Lines:
         """Puts a string to the end of the line that begins above an accent, or is one above a letter, with the letter
         that has the accent. False where that isn't so."""
         last = self._parts[-1]
-        if piece.span is not None or not piece.texts or not last.texts:
+        if piece.span is not None or not last.texts or COMBINING.keys().isdisjoint((last.texts[-1], piece.texts[0])):
             return False
         for accent, letter in [(last.texts[-1], piece.texts[0]), (piece.texts[0], last.texts[-1])]:
             if accent in COMBINING and letter.isalpha() and overlaps(before, piece):

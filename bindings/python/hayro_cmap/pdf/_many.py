@@ -4,7 +4,6 @@ import contextlib
 import errno
 import functools
 import itertools
-import json
 import multiprocessing
 import os
 import signal
@@ -45,6 +44,8 @@ def check_files(paths: Iterable[str], **options: Any) -> Iterator[str]:
 
 def json_lines(result: Result) -> Iterator[str]:
     """What is said of a file as lines of JSON."""
+    import json
+
     for it in result.objects:
         yield json.dumps({"file": readable(result.path), **it}, sort_keys=True, separators=(",", ":"))
 

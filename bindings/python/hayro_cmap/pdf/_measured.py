@@ -84,7 +84,7 @@ class Measure:
         unknown = [code for code in dict.fromkeys(codes) if code not in known]
         if unknown:
             known.update(zip(unknown, self._looked_up(b"".join(unknown))))
-        return [known[code] for code in codes]
+        return list(map(known.__getitem__, codes))
 
     def _looked_up(self, string: bytes) -> List[Glyph]:
         """What the codes of a string are, as the font says; each byte is one where there is no font."""

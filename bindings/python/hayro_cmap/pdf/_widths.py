@@ -155,7 +155,7 @@ def given_widths(font: "Font") -> List[float]:
     table = [missing] * 256
     first = integer_at(font.dictionary, "/FirstChar")
     start, row = max(first, 0), given[max(-first, 0) : max(256 - first, 0)]
-    table[start : start + len(row)] = [missing if it is None else it for it in row]
+    table[start : start + len(row)] = [missing if it is None else it for it in row] if None in row else row
     if font.subtype == "Type3":
         scale = 1000 * matrix_of(font)
         table = [scale * it for it in table]
