@@ -3,10 +3,11 @@
 Widths are in thousandths of a unit of text space, before the size of the font. A malformed array gives defaults.
 """
 
+import functools
 import itertools
 import re
 from decimal import Decimal
-from typing import TYPE_CHECKING, Any, Dict, Iterator, List, NamedTuple, Optional, Tuple, Union
+from typing import TYPE_CHECKING, Any, Callable, Dict, Iterator, List, NamedTuple, Optional, Sequence, Tuple, Union
 
 import pikepdf
 
@@ -97,14 +98,14 @@ class Widths:
 
     def __init__(
         self,
-        table: List[float],
+        table: Sequence[Optional[float]],
         by_cid: Dict[int, float],
         default: float,
         verticals: Optional[Dict[int, Vertical]] = None,
         vertical_default: Tuple[float, float] = DEFAULT_VERTICAL,
+        missing: Callable[[], float] = float,
     ):
-        #: The widths of the codes 0 to 255 of a simple font; none of a composite one.
-        self.table = table
+        self._table, self._missing_of = table, missing
         #: The widths of the CIDs of a composite font, and that of all others.
         self.by_cid = by_cid
         self.default = default
@@ -117,18 +118,29 @@ class Widths:
     def of(cls, font: "Font") -> "Widths":
         """The widths of a font."""
         if not font.is_composite:
-            return cls(simple_widths(font), {}, DEFAULT_OF_CODE)
+            return cls(simple_widths(font), {}, DEFAULT_OF_CODE, missing=lambda: missing_width(font))
         descendant = pikepdf.Dictionary() if font.descendant is None else font.descendant
         default = number_at(descendant, "/DW", DEFAULT_OF_CID)
         by_cid = widths_of_cids(descendant, font.budget)
         verticals = verticals_of_cids(descendant, font.budget) if is_vertical(font) else None
         return cls([], by_cid, default, verticals, pair_of(descendant.get("/DW2"), DEFAULT_VERTICAL))
 
+    @functools.cached_property
+    def _missing(self) -> float:
+        """The width of a code that isn't in the table, which few fonts show."""
+        return self._missing_of()
+
+    @property
+    def table(self) -> List[float]:
+        """The widths of the codes 0 to 255 of a simple font; none of a composite one."""
+        return [self._missing if it is None else it for it in self._table]
+
     def advance(self, code: int, cid: Optional[int] = None) -> float:
         """By how much the glyph of a code, or of a CID of a composite font, moves on what is shown next in horizontal
         writing. A code without a CID has CID 0."""
-        if self.table:
-            return self.table[code] if code < len(self.table) else self.default
+        if self._table:
+            width = self._table[code] if code < len(self._table) else self.default
+            return self._missing if width is None else width
         return self.by_cid.get(cid or 0, self.default)
 
     def vertical(self, cid: Optional[int]) -> Vertical:
@@ -140,26 +152,30 @@ class Widths:
         return Vertical(advance, self.by_cid.get(cid or 0, self.default) / 2, y)
 
 
-def simple_widths(font: "Font") -> List[float]:
+def simple_widths(font: "Font") -> Sequence[Optional[float]]:
     """The widths of the codes 0 to 255 of a simple font: those that it gives, or else of its program, or of a standard
-    font of its name."""
+    font of its name. None stands for the width of missing ones."""
     return given_widths(font) or program_widths(font) or standard_widths(font)
 
 
-def given_widths(font: "Font") -> List[float]:
-    """The widths of the codes 0 to 255 by the array Widths of a simple font; none where it has no number."""
+def given_widths(font: "Font") -> List[Optional[float]]:
+    """The widths of the codes 0 to 255 by the array Widths of a simple font, with None for what it doesn't have; none
+    where it has no number."""
     given = numbers(font.dictionary.get("/Widths"))
     if not any(it is not None for it in given):
         return []
-    missing = number_at(dictionary_at(font.dictionary, "/FontDescriptor"), "/MissingWidth", 0.0)
-    table = [missing] * 256
-    first = integer_at(font.dictionary, "/FirstChar")
-    start, row = max(first, 0), given[max(-first, 0) : max(256 - first, 0)]
-    table[start : start + len(row)] = [missing if it is None else it for it in row] if None in row else row
-    if font.subtype == "Type3":
-        scale = 1000 * matrix_of(font)
-        table = [scale * it for it in table]
+    scale, first = scale_of(font), integer_at(font.dictionary, "/FirstChar")
+    row = given[max(-first, 0) : max(256 - first, 0)]
+    if scale != 1:
+        row = [None if it is None else scale * it for it in row]
+    table: List[Optional[float]] = [None] * 256
+    table[max(first, 0) : max(first, 0) + len(row)] = row
     return table
+
+
+def missing_width(font: "Font") -> float:
+    """The width of the codes of a simple font that its array Widths doesn't have (ISO 32000-1, 9.8.1)."""
+    return scale_of(font) * number_at(dictionary_at(font.dictionary, "/FontDescriptor"), "/MissingWidth", 0.0)
 
 
 def program_widths(font: "Font") -> List[float]:
@@ -183,10 +199,13 @@ def standard_widths(font: "Font") -> List[float]:
     return [default if name is None else float(of_names.get(name, default)) for name in names]
 
 
-def matrix_of(font: "Font") -> float:
-    """By how much the glyphs of a Type 3 font are scaled along a line (ISO 32000-1, 9.6.5)."""
+def scale_of(font: "Font") -> float:
+    """How many thousandths of a unit of text space a unit of widths is: of a Type 3 font its matrix says so (ISO
+    32000-1, 9.6.5)."""
+    if font.subtype != "Type3":
+        return 1.0
     matrix = numbers(font.dictionary.get("/FontMatrix"))
-    return matrix[0] if matrix and matrix[0] is not None else THOUSANDTH
+    return 1000 * (matrix[0] if matrix and matrix[0] is not None else THOUSANDTH)
 
 
 def is_vertical(font: "Font") -> bool:
