@@ -474,7 +474,8 @@ def read_stream(stream: pikepdf.Stream, of: str, streams: Streams, over: Tuple =
     number = object_number(stream)
     try:
         data = streams.decoded(stream)
-        below = read_base(stream.get("/UseCMap"), of, streams, (*over, stream.objgen))
+        base = stream["/UseCMap"] if "/UseCMap" in stream else None
+        below = read_base(base, of, streams, (*over, stream.objgen))
         # without the operator no file is used, and none is looked for
         files = predefined if b"usecmap" in data else None
         cmap, refusals = CMap.salvage(data, files, base=below.lenient, most_faults=MOST_FAULTS + 1)

@@ -327,7 +327,7 @@ class Frame:
     """The space in which the strings of one operator are shown."""
 
     def __init__(self, state: State, text: TextMatrix, is_vertical: bool):
-        a, b, c, d, e, f = product(text.line, state.matrix)
+        a, b, c, d, e, f = text.line if state.matrix is IDENTITY else product(text.line, state.matrix)
         rise = state.rise
         self._is_vertical = is_vertical
         if is_vertical:

@@ -183,7 +183,9 @@ class Pool:
 
     def finished(self) -> Iterator[Tuple[int, Result]]:
         """The index and the result of each file that is done; where there is none yet, it waits."""
-        ends = connection.wait([worker.end for worker in self.busy])
+        ends = [worker.end for worker in self.busy]
+        if len(ends) > 1:
+            ends = connection.wait(ends)
         for worker in [it for it in self.busy if it.end in ends]:
             self.busy.remove(worker)
             result = worker.result()

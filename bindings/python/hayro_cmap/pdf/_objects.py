@@ -70,7 +70,7 @@ def decoded(stream: pikepdf.Stream, most: int) -> bytes:
     filters = filters_of(stream)
     if not filters:
         return raw
-    if filters[0] in FLATE and len(filters) == 1 and stream.get("/DecodeParms") is None:
+    if filters[0] in FLATE and len(filters) == 1 and "/DecodeParms" not in stream:
         try:
             return zlib.decompressobj().decompress(raw, most + 1)
         except zlib.error:
