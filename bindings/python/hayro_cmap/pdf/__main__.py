@@ -153,7 +153,7 @@ def results(asked: argparse.Namespace, paths: List[str]) -> Iterator[Result]:
         logging.disable(logging.CRITICAL)
         done = by_dask(paths, asked.command, options, asked.dask)
     else:
-        # what is loaded stays, and the collector writes to no memory that the processes share
+        # what is loaded stays: the collector needn't look at it, nor write to memory that the processes share
         gc.freeze()
         # what ends a process, as a lack of memory may, costs the file that it reads
         task = Task(asked.command, options, MEMORY, of_pages if len(paths) == 1 else iter)

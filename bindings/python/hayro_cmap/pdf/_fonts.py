@@ -50,7 +50,7 @@ IDENTITIES = ("Identity-H", "Identity-V")
 MOST_OF_TEXT = 1 << 10
 LONG_TEXT = re.compile(rb"<[0-9A-Fa-f\0\t\n\f\r ]{2048}|\([^()<>\[\]]{1024}")
 
-#: A hexadecimal string of five digits, and one of any.
+#: A hexadecimal string of five digits, and any one.
 FIVE_DIGITS = re.compile(rb"<[\0\t\n\f\r ]*[0-9A-Fa-f]{5}[\0\t\n\f\r ]*>")
 HEXADECIMAL = re.compile(rb"<([0-9A-Fa-f\0\t\n\f\r ]*)>")
 

@@ -100,7 +100,7 @@ class Level:
         self._found: Dict[Tuple[str, bytes], Any] = {}
 
     def named(self, kind: str, name: bytes, taken: Callable[[Any], Any] = lambda it: it) -> Any:
-        """What is taken of the resource of a name, looked up once."""
+        """What is taken of the resource of a name: always the same of a kind, so that it is kept."""
         if (kind, name) not in self._found:
             if len(self._found) == MOST_NAMES:
                 self._found.clear()

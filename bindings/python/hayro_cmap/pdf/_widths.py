@@ -94,7 +94,8 @@ DEFAULT_VERTICAL = (880.0, -1000.0)
 
 
 class Widths:
-    """The widths of the glyphs of a font."""
+    """The widths of the glyphs of a font. `missing` gives that of the codes for which the table has None, once it is
+    asked for while the file is open."""
 
     def __init__(
         self,
