@@ -17,7 +17,7 @@ from ._values import Buffer, bytes_of
 SINGLE_BYTES = b"1 begincodespacerange <00> <FF> endcodespacerange"
 
 #: How many bytes a string has at most that is put to the room of an extractor. Longer ones get rooms of their own.
-KEPT_ROOM = 1024
+KEPT_ROOM = 256
 
 #: How many characters an extractor keeps at most: all of a font whose codes have two bytes.
 KEPT_CHARACTERS = 65536
