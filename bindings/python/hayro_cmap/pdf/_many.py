@@ -184,6 +184,7 @@ class Pool:
     def finished(self) -> Iterator[Tuple[int, Result]]:
         """The index and the result of each file that is done; where there is none yet, it waits."""
         ends = [worker.end for worker in self.busy]
+        # the result of the only one is waited for where it is taken
         if len(ends) > 1:
             ends = connection.wait(ends)
         for worker in [it for it in self.busy if it.end in ends]:
