@@ -184,6 +184,61 @@ fn blanks(alloc: Global, count: usize) -> Result<Vec<u8>, AllocError> {
     Vec::from_elem(alloc, b' ', (2 * count) as usize)
 }
 """),
+    ("a call for C, and clauses that lend", """
+use std::alloc::Global;
+
+/// The text.
+#[tactic(auto, using(crate::proofs::Texts::one))]
+#[unsafe(no_mangle)]
+pub extern "C" fn hayro_cmap_text<'a>(map: &'a mut Handle, alloc: Global, room: &mut [u8]) -> u32
+    ensures* rests { sem 𝓛 map.entry }
+    ensures same { map.new ≡ map.old }
+{
+    number(cause.to_string(alloc), str::from_utf8(text))
+}
+""", """
+use crate::fallible::Printed;
+use crate::fallible::alloc::Global;
+use core::str;
+
+/// The text.
+pub fn hayro_cmap_text<'a>(map: &'a mut Handle, alloc: Global, room: &mut [u8]) -> u32 {
+    number(cause.to_string_in(alloc), str::from_utf8(text))
+}
+"""),
+    ("a struct for C", """
+/// A file.
+#[repr(C)]
+#[derive(Clone, Copy)]
+pub struct BaseFile<'a> {
+    pub(crate) name: &'a [u8],
+    pub(crate) len: usize,
+    /// The map.
+    pub ghost map: { Option Map } by { coded_option map.coded },
+}
+
+impl<'a> BaseFile<'a> {
+    fn name(&self) -> &'a [u8] {
+        first(self.name, self.len, self.name())
+    }
+}
+""", """
+use crate::fallible::Span;
+
+/// A file.
+#[repr(C)]
+#[derive(Clone, Copy)]
+pub struct BaseFile<'a> {
+    pub(crate) name: Span<'a>,
+    pub(crate) len: usize,
+}
+
+impl<'a> BaseFile<'a> {
+    fn name(&self) -> &'a [u8] {
+        first(self.name.bytes(), self.len, self.name())
+    }
+}
+"""),
     ("no word of a text or a comment", """
 // requires { nothing } of `Drop`, ghost
 const TEXT: &str = "ghost use std::io; ensures { ≡ }";
@@ -201,7 +256,8 @@ REFUSED = [
      "        let S {} = self;\n    }\n}\n", 3, "a `drop` that does more than to name the fields"),
     ("a `Drop` elsewhere", "use std::Drop;\n", 1, "a `Drop` that is no bound"),
     ("unsafe code", "fn f() {\n    unsafe { g() }\n}\n", 2, "an unknown construct: unsafe"),
-    ("an unknown attribute", "\n#[repr(C)]\nstruct S;\n", 2, "an unknown attribute: repr"),
+    ("an unknown attribute", "\n#[repr(u8)]\nenum E {}\n", 2, "an unknown attribute: repr"),
+    ("another call for C", "#[unsafe(no_mangle)]\nextern \"C\" fn f() {}\n", 1, "an unknown attribute: unsafe"),
     ("an unknown macro", "fn f() {\n    let v = vec![in alloc; 1]?;\n}\n", 2, "an unknown macro: vec!"),
     ("an unknown part of std", "use std::thread;\n", 1, "an unknown path: std::thread"),
     ("an unknown collection", "use std::collections::HashMap;\n", 1, "an unknown path: std::collections::HashMap"),

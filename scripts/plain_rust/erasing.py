@@ -11,25 +11,31 @@ from .source import Source
 REFUSED = ["Drop", "HostRuntime", "Model", "async", "await", "cycle", "dyn", "ensures", "extern", "ghost", "invariant",
            "macro_rules", "prove", "requires", "tactic", "union", "unsafe"]
 ATTRIBUTES = ["cold", "default", "derive", "inline"]
+LAYOUT = ["#", "[", "repr", "(", "C", ")", "]"]
+EXPORTED = ["#", "[", "unsafe", "(", "no_mangle", ")", "]", "pub", "extern"]
 MACROS = ["matches", "unreachable", "write", "writeln"]
 # modules of std that are in core, and those that are by hand, with the names that are there
-CORE = ["cell", "fmt", "marker", "mem", "ops", "str"]
-BY_HAND = {"alloc": ["AllocError", "AllocFailed", "Global"], "collections": ["BTreeMap", "BinaryHeap"]}
+CORE = ["cell", "fmt", "marker", "mem", "ops", "ptr", "str"]
+BY_HAND = {"alloc": ["AllocError", "AllocFailed", "Global"], "collections": ["BTreeMap", "BinaryHeap"],
+           "sync": ["Arc"]}
 PRELUDE = ["Box", "String", "Vec"]
 # methods with arguments that are by hand: the trait, and the name there
 METHODS = {"collect": ("CollectIn", "collect_in"), "split_off": ("TakeFront", "take_front"),
-           "try_map": ("TryEach", "try_each")}
+           "to_string": ("Printed", "to_string_in"), "try_map": ("TryEach", "try_each")}
 # and without
 BARE_METHODS = {"split_off_first": ("TakeFront", "take_one")}
+# what a field for C is that is a slice in the sources, and its path below that of `std`
+SPAN = "Span"
 
 
-def erased(path, text, paths):
-    """The text of a source file as Rust. `paths` says where a crate's items are in Rust, those of `crate` and `std` too."""
+def erased(path, text, paths, may=()):
+    """The text of a source file as Rust. `paths` says where a crate's items are in Rust, those of `crate` and `std` too;
+    `may` are words that are refused elsewhere, as `unsafe`."""
     source = Source(path, text)
-    for rule in (erase_models, erase_ghosts, erase_clauses, erase_attributes, erase_drops, erase_drop_bounds,
-                 erase_writers, erase_imports, plain_lists):
+    for rule in (erase_models, erase_ghosts, erase_clauses, erase_exports, erase_attributes, erase_drops,
+                 erase_drop_bounds, erase_writers, erase_imports, plain_lists, plain_fields):
         rule(source)
-    refuse_unknown(source)
+    refuse_unknown(source, may)
     plain_paths(source, paths)
     plain_std(source, paths["std"])
     add_imports(source, plain_methods(source), paths["std"])
@@ -43,6 +49,8 @@ def end_of_ghost(source, at):
     if source.tokens[at + 1].kind != "word" or source.word(at + 2) not in (":", "=") or source.word(at + 3) != "{":
         source.refuse(at, "an unknown ghost")
     end = source.closing(at + 3) + 1
+    if source.word(end) == "by":
+        end = source.closing(end + 1) + 1
     if source.word(end) not in (";", ",", "}"):
         source.refuse(at, "a ghost without an end")
     return end if source.word(end) == "}" else end + 1
@@ -76,7 +84,8 @@ def erase_clauses(source):
         while source.word(end) in (",", ")", "]"):
             start = end = source.find(end + 1, "requires", "ensures", "{", ";", "}", ")", "]", ",")
         while source.word(end) in ("requires", "ensures"):
-            braces = end + 1 if source.word(end + 1) == "{" else end + 2
+            name = end + 2 if source.word(end + 1) == "*" else end + 1
+            braces = name if source.word(name) == "{" else name + 1
             if source.word(braces) != "{":
                 source.refuse(end, "a clause without braces")
             end = source.closing(braces) + 1
@@ -94,6 +103,14 @@ def join_body(source, start, end):
     source.tokens[start].lead = lead
 
 
+def erase_exports(source):
+    """A call for C is a function of Rust: what C calls is made beside it, by `exports`."""
+    for at in source.indices("#"):
+        if source.words(at, *EXPORTED):
+            source.erase(at, at + 7)
+            source.erase(at + 1, at + 3)
+
+
 def erase_attributes(source):
     """The attributes for the prover; `Drop` among the derives."""
     for at in source.indices("#"):
@@ -102,7 +119,7 @@ def erase_attributes(source):
         end = source.closing(at + 1 + is_inner) + 1
         if name in ("tactic", "cycle"):
             (source.erase_item if is_inner else source.erase)(at, end)
-        elif name not in ATTRIBUTES:
+        elif name not in ATTRIBUTES and not source.words(at, *LAYOUT):
             source.refuse(at, f"an unknown attribute: {name}")
         elif source.words(at + 2, "derive", "(", "Drop", ")"):
             source.erase(at, end)
@@ -198,10 +215,33 @@ def plain_lists(source):
         source.erase(at + 3, at + 4)
 
 
-def refuse_unknown(source):
+def plain_fields(source):
+    """A field of bytes of a struct for C, which C hands in as a pointer and a length: Rust's slice need not be that."""
+    for at in source.indices("#"):
+        if not source.words(at, *LAYOUT):
+            continue
+        start = source.find(at, "{")
+        names = [i - 1 for i in source.indices(":") if start < i < source.closing(start) and is_bytes(source, i + 1)]
+        for name in [source.word(i) for i in names]:
+            for use in source.indices(name):
+                if source.words(use - 2, "self", ".") and source.word(use + 1) != "(":
+                    source.tokens[use].text += ".bytes()"
+        for name in names:
+            for index, text in zip(range(name + 2, name + 5), [SPAN, "<" + source.word(name + 3), ">"]):
+                source.tokens[index].text = text
+            source.tokens[name + 4].lead = ""
+            source.erase(name + 5, name + 7)
+
+
+def is_bytes(source, at):
+    """Whether the type `&'a [u8]` stands there."""
+    return source.word(at) == "&" and source.tokens[at + 1].kind == "lifetime" and source.words(at + 2, "[", "u8", "]")
+
+
+def refuse_unknown(source, may):
     """Stops at what isn't Rust, and at what Rust may mean otherwise."""
     for at, token in enumerate(source.tokens):
-        if token.kind == "text":
+        if token.kind == "text" or token.text in may:
             continue
         if token.text in REFUSED or not token.text.isascii():
             source.refuse(at, f"an unknown construct: {token.text}")
@@ -255,10 +295,23 @@ def add_imports(source, traits, by_hand):
     """Imports what the prelude has and that of Rust's `core` hasn't, and the traits of methods."""
     names = {source.word(at) for at in range(len(source.tokens))
              if source.word(at - 1) != "::" and source.word(at + 1) != "("}
-    names = sorted(traits.union(names.intersection(PRELUDE)))
-    if not names:
-        return
+    names = sorted(traits.union(names.intersection([*PRELUDE, SPAN])))
+    if has_bare_str(source):
+        insert_import(source, "use core::str;")
+    if names:
+        path = names[0] if len(names) == 1 else "{" + ", ".join(names) + "}"
+        insert_import(source, f"use {by_hand}::{path};")
+
+
+def has_bare_str(source):
+    """Whether a function is called of the module `str`, which isn't imported: newer Rust has it in the type, too."""
+    at = source.indices("str")
+    is_called = any(source.words(i, "str", "::", "from_utf8") for i in at)
+    return is_called and not any(source.word(source.find_back(i, "use", ";", "(", ")", "}")) == "use" for i in at)
+
+
+def insert_import(source, text):
+    """Puts an import before the others."""
     at = next((at for at in range(len(source.tokens)) if source.word(at) == "use"), 0)
     at -= source.word(at - 1) == "pub"
-    path = names[0] if len(names) == 1 else "{" + ", ".join(names) + "}"
-    source.insert(at, f"use {by_hand}::{path};", "\n" if source.word(at) in ("use", "pub") else "\n\n")
+    source.insert(at, text, "\n" if source.word(at) in ("use", "pub") else "\n\n")

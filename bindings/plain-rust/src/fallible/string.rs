@@ -65,6 +65,18 @@ impl String {
     }
 }
 
+/// `to_string` into a text.
+pub trait Printed: Display {
+    /// What the value prints.
+    fn to_string_in(&self, alloc: Global) -> Result<String, AllocError> {
+        let mut text = String::new(alloc);
+        text.write(self)?;
+        Ok(text)
+    }
+}
+
+impl<T: Display> Printed for T {}
+
 /// A text to which a formatter adds.
 struct Adding<'t>(&'t mut String);
 
