@@ -199,11 +199,10 @@ pub extern "C" fn hayro_cmap_text<'a>(map: &'a mut Handle, alloc: Global, room: 
 """, """
 use crate::fallible::Printed;
 use crate::fallible::alloc::Global;
-use core::str;
 
 /// The text.
 pub fn hayro_cmap_text<'a>(map: &'a mut Handle, alloc: Global, room: &mut [u8]) -> u32 {
-    number(cause.to_string_in(alloc), str::from_utf8(text))
+    number(cause.to_string_in(alloc), core::str::from_utf8(text))
 }
 """),
     ("a struct for C", """
@@ -250,8 +249,72 @@ const BYTE: u8 = b'"';
 """),
 ]
 
+# the same of a program
+ERASED_PROGRAM = [
+    ("the system", """
+use std::env::{self, VarError};
+use std::io::{self, IsTerminal, Write};
+use std::process::ExitCode;
+
+fn main(rt: HostRuntime) -> ExitCode {
+    ExitCode::from(run(&rt))
+}
+""", """
+use crate::host::HostRuntime;
+use crate::host::env::{self, VarError};
+use std::io::{self, IsTerminal, Write};
+use std::process::ExitCode;
+
+fn main() -> ExitCode {
+    let rt = HostRuntime::of_process();
+    ExitCode::from(run(&rt))
+}
+"""),
+    ("texts that are printed", """
+fn say(rt: &HostRuntime, done: usize) -> Result<(), Failure> {
+    let text = format!(in rt.alloc(); "{done}, {}", f(1))?;
+    eprintln!(rt; "cmap: {text}")?;
+    Ok(eprint!(rt;
+        "{}",
+        done
+    )?)
+}
+""", """
+use crate::fallible::String;
+use crate::host::HostRuntime;
+
+fn say(rt: &HostRuntime, done: usize) -> Result<(), Failure> {
+    let text = String::from_fmt(rt.alloc(), format_args!("{done}, {}", f(1)))?;
+    rt.eprintln_fmt(format_args!("cmap: {text}"))?;
+    Ok(rt.eprint_fmt(format_args!(
+        "{}",
+        done
+    ))?)
+}
+"""),
+    ("what is newer than Rust 1.85", """
+fn why(name: &[u8]) -> ErrorKind {
+    match str::from_utf8(name) {
+        Ok(_) => ErrorKind::NotFound,
+        Err(_) => ErrorKind::InvalidFilename,
+    }
+}
+""", """
+fn why(name: &[u8]) -> ErrorKind {
+    match core::str::from_utf8(name) {
+        Ok(_) => ErrorKind::NotFound,
+        Err(_) => ErrorKind::InvalidInput,
+    }
+}
+"""),
+]
+
 # what it shows, a source, the line of the fault, and what is said
 REFUSED = [
+    ("the system in a library", "fn f(rt: &HostRuntime) {}\n", 1, "an unknown construct: HostRuntime"),
+    ("the files of the system in a library", "use std::fs;\n", 1, "an unknown path: std::fs"),
+    ("a union", "\nunion Both {\n    a: u8,\n}\n", 2, "an unknown construct: union"),
+    ("a text that is printed without the system", 'fn f() {\n    eprintln!("a");\n}\n', 2, "an unknown macro: eprintln!"),
     ("a destructor", "struct S;\n\nimpl Drop for S {\n    fn drop(self) {\n        f(&self);\n"
      "        let S {} = self;\n    }\n}\n", 3, "a `drop` that does more than to name the fields"),
     ("a `Drop` elsewhere", "use std::Drop;\n", 1, "a `Drop` that is no bound"),

@@ -7,17 +7,27 @@ sources use.
 
 from .source import Source
 
+# the system, which programs alone have
+HOST = "HostRuntime"
 # what no rule has erased, or what Rust means otherwise
-REFUSED = ["Drop", "HostRuntime", "Model", "async", "await", "cycle", "dyn", "ensures", "extern", "ghost", "invariant",
-           "macro_rules", "prove", "requires", "tactic", "union", "unsafe"]
+REFUSED = ["Drop", HOST, "Model", "async", "await", "cycle", "dyn", "ensures", "extern", "ghost", "invariant",
+           "macro_rules", "prove", "requires", "tactic", "unsafe"]
 ATTRIBUTES = ["cold", "default", "derive", "inline"]
 LAYOUT = ["#", "[", "repr", "(", "C", ")", "]"]
 EXPORTED = ["#", "[", "unsafe", "(", "no_mangle", ")", "]", "pub", "extern"]
-MACROS = ["matches", "unreachable", "write", "writeln"]
+MACROS = ["format_args", "matches", "unreachable", "value_parser", "write", "writeln"]
+# macros that are methods of the system
+PRINTING = ["eprint", "eprintln"]
 # modules of std that are in core, and those that are by hand, with the names that are there
 CORE = ["cell", "fmt", "marker", "mem", "ops", "ptr", "str"]
-BY_HAND = {"alloc": ["AllocError", "AllocFailed", "Global"], "collections": ["BTreeMap", "BinaryHeap"],
-           "sync": ["Arc"]}
+BY_HAND = {"alloc": ["AllocError", "AllocFailed", "Global"],
+           "collections": ["BTreeMap", "BTreeSet", "BinaryHeap", "VecDeque"], "rc": ["RcSlice"], "sync": ["Arc"]}
+# the modules of the system, by hand for programs alone, and those of Rust's std that are taken as they are
+HOSTED = ["env", "fs"]
+PLAIN = ["io", "process"]
+# what is newer than Rust 1.85: the path, and what does the same
+NEWER = {("str", "from_utf8"): ("core::str", "from_utf8"),
+         ("ErrorKind", "InvalidFilename"): ("ErrorKind", "InvalidInput")}
 PRELUDE = ["Box", "String", "Vec"]
 # methods with arguments that are by hand: the trait, and the name there
 METHODS = {"collect": ("CollectIn", "collect_in"), "split_off": ("TakeFront", "take_front"),
@@ -29,16 +39,18 @@ SPAN = "Span"
 
 
 def erased(path, text, paths, may=()):
-    """The text of a source file as Rust. `paths` says where a crate's items are in Rust, those of `crate` and `std` too;
-    `may` are words that are refused elsewhere, as `unsafe`."""
+    """The text of a source file as Rust. `paths` says where a crate's items are in Rust, those of `crate` and `std` too,
+    and of a program those of `host`; `may` are words that are refused elsewhere, as `unsafe`."""
     source = Source(path, text)
     for rule in (erase_models, erase_ghosts, erase_clauses, erase_exports, erase_attributes, erase_drops,
-                 erase_drop_bounds, erase_writers, erase_imports, plain_lists, plain_fields):
+                 erase_drop_bounds, erase_writers, erase_imports, plain_lists, plain_fields, plain_texts, plain_main):
         rule(source)
-    refuse_unknown(source, may)
+    host = paths.get("host")
+    refuse_unknown(source, [*may, HOST] if host else may)
     plain_paths(source, paths)
-    plain_std(source, paths["std"])
-    add_imports(source, plain_methods(source), paths["std"])
+    plain_std(source, paths["std"], host)
+    plain_newer(source)
+    add_imports(source, plain_methods(source), paths["std"], host)
     return source.text()
 
 
@@ -186,10 +198,11 @@ def erase_writers(source):
 
 
 def erase_imports(source):
-    """Imports that only what was erased has named."""
-    for name in ("Model", "Write"):
+    """Imports that only what was erased has named. A `Write` of `std::io` has methods, so its import stays."""
+    for name, module in (("Model", "marker"), ("Write", "fmt")):
         found = source.indices(name)
-        if len(found) != 1 or source.word(source.find_back(found[0], "use", ";", "}")) != "use":
+        start = source.find_back(found[0], "use", ";", "}") if len(found) == 1 else 0
+        if len(found) != 1 or source.word(start) != "use" or source.word(start + 3) != module:
             continue
         at = found[0]
         bracket = source.find_back(at, "{", "use")
@@ -238,12 +251,45 @@ def is_bytes(source, at):
     return source.word(at) == "&" and source.tokens[at + 1].kind == "lifetime" and source.words(at + 2, "[", "u8", "]")
 
 
+def plain_texts(source):
+    """`format!(in alloc; ..)` is a call, and `eprintln!(rt; ..)` a method."""
+    for at in source.indices("format", *PRINTING):
+        if not source.words(at + 1, "!", "("):
+            continue
+        name, is_format = source.word(at), source.word(at + 3) == "in"
+        end, first = source.closing(at + 2), source.find(at + 3, ";", ")")
+        if first >= end or is_format != (name == "format") or not (is_format or first == at + 4):
+            continue
+        source.replace(end, end + 1, ")", ")")
+        source.tokens[first + 1].lead = source.tokens[first + 1].lead.lstrip(" ")
+        source.replace(first, first + 1, *([","] if is_format else []), *(["format_args", "!", "("]))
+        if is_format:
+            source.tokens[first + 1].lead = " "
+            source.replace(at, at + 4, "String", "::from_fmt", "(")
+            source.tokens[at + 3].lead = ""
+        else:
+            source.replace(at, at + 4, source.word(at + 3), ".", f"{name}_fmt", "(")
+
+
+def plain_main(source):
+    """`fn main(rt: HostRuntime)`: in Rust `main` asks for the system."""
+    for at in source.indices("main"):
+        if not source.words(at - 1, "fn", "main", "(", "rt", ":", HOST, ")"):
+            continue
+        source.erase(at + 2, at + 5)
+        body = source.find(at, "{")
+        source.replace(body, body + 1, "{", "let rt =", HOST, "::of_process();")
+        for token, lead in zip(source.tokens[body:], [" ", "\n    ", " "]):
+            token.lead = lead
+
+
 def refuse_unknown(source, may):
     """Stops at what isn't Rust, and at what Rust may mean otherwise."""
     for at, token in enumerate(source.tokens):
         if token.kind == "text" or token.text in may:
             continue
-        if token.text in REFUSED or not token.text.isascii():
+        is_union = token.text == "union" and source.tokens[at + 1].kind == "word"
+        if is_union or token.text in REFUSED or not token.text.isascii():
             source.refuse(at, f"an unknown construct: {token.text}")
         is_macro = token.kind == "word" and source.word(at + 1) == "!" and not source.tokens[at + 1].lead
         if is_macro and source.word(at + 2) != "=" and token.text not in MACROS:
@@ -257,8 +303,8 @@ def plain_paths(source, paths):
             source.tokens[at].text = paths[source.word(at)]
 
 
-def plain_std(source, by_hand):
-    """`std::fmt` is `core::fmt`; what takes memory is by hand."""
+def plain_std(source, by_hand, host):
+    """`std::fmt` is `core::fmt`; what takes memory is by hand, and of a program what asks the system."""
     for at in source.indices("std"):
         if source.word(at + 1) != "::":
             continue
@@ -268,8 +314,20 @@ def plain_std(source, by_hand):
             source.tokens[at].text = "core"
         elif items and set(items) <= set(BY_HAND.get(modules[0], [])):
             source.tokens[at].text = by_hand
-        elif modules != ["io"]:
+        elif host and all(name in HOSTED for name in modules):
+            source.tokens[at].text = host
+        elif not all(name in (PLAIN if host else PLAIN[:1]) for name in modules):
             source.refuse(at, f"an unknown path: std::{'::'.join([*modules, *items])}")
+
+
+def plain_newer(source):
+    """Gives paths that are newer than the Rust of the crate names that it has; not where the module `str` is imported."""
+    if any(source.word(at - 1) in ("{", ",", "::") and source.word(at + 1) in ("}", ",", ";") for at in source.indices("str")):
+        return
+    for at in source.indices(*(front for front, _ in NEWER)):
+        path = (source.word(at), source.word(at + 2))
+        if source.word(at + 1) == "::" and source.word(at - 1) != "::" and path in NEWER:
+            source.tokens[at].text, source.tokens[at + 2].text = NEWER[path]
 
 
 def names_at(source, at):
@@ -291,27 +349,20 @@ def plain_methods(source):
     return traits
 
 
-def add_imports(source, traits, by_hand):
+def add_imports(source, traits, by_hand, host):
     """Imports what the prelude has and that of Rust's `core` hasn't, and the traits of methods."""
-    names = {source.word(at) for at in range(len(source.tokens))
+    words = {source.word(at) for at in range(len(source.tokens))
              if source.word(at - 1) != "::" and source.word(at + 1) != "("}
-    names = sorted(traits.union(names.intersection([*PRELUDE, SPAN])))
-    if has_bare_str(source):
-        insert_import(source, "use core::str;")
+    if host and HOST in words:
+        add_import(source, [HOST], host)
+    names = sorted(traits.union(words.intersection([*PRELUDE, SPAN])))
     if names:
-        path = names[0] if len(names) == 1 else "{" + ", ".join(names) + "}"
-        insert_import(source, f"use {by_hand}::{path};")
+        add_import(source, names, by_hand)
 
 
-def has_bare_str(source):
-    """Whether a function is called of the module `str`, which isn't imported: newer Rust has it in the type, too."""
-    at = source.indices("str")
-    is_called = any(source.words(i, "str", "::", "from_utf8") for i in at)
-    return is_called and not any(source.word(source.find_back(i, "use", ";", "(", ")", "}")) == "use" for i in at)
-
-
-def insert_import(source, text):
-    """Puts an import before the others."""
+def add_import(source, names, front):
+    """Imports these names of a module."""
     at = next((at for at in range(len(source.tokens)) if source.word(at) == "use"), 0)
     at -= source.word(at - 1) == "pub"
-    source.insert(at, text, "\n" if source.word(at) in ("use", "pub") else "\n\n")
+    path = names[0] if len(names) == 1 else "{" + ", ".join(names) + "}"
+    source.insert(at, f"use {front}::{path};", "\n" if source.word(at).split(" ")[0] in ("use", "pub") else "\n\n")
