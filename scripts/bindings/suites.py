@@ -89,7 +89,7 @@ def test_c_suite_under_memcheck(checks, setting):
 @needs("gcc")
 def test_c_nulls(checks, setting):
     """Where a pointer is null, the library of plain Rust says that there is no answer."""
-    if setting.is_plain:
+    if setting.library.is_plain:
         checks.ended("the tests of null in C", run(setting.programs.sanitized(NULL_TESTS)), "ok\n")
 
 

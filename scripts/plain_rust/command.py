@@ -1,12 +1,11 @@
 """The package of the command in plain Rust: which files it has, and where they come from."""
 
-import re
 import shutil
 
 from programs import TOP, and_below
 
 from .crate import BY_HAND as LIBRARY
-from .crate import LICENSES, erase_crate
+from .crate import after_docs, copy_licenses, erase_crate
 
 BY_HAND = TOP / "bindings" / "plain-command"
 COMMAND = "cmap"
@@ -21,8 +20,7 @@ ALLOWED = "#![allow(clippy::all, dead_code, unused_imports, unused_variables)]\n
 def write_command(out):
     """Makes the package in a new folder: the crates below the command are modules of one, the command is its root."""
     shutil.copytree(BY_HAND, out, ignore=shutil.ignore_patterns("target", "Cargo.lock"))
-    for name in LICENSES:
-        shutil.copy(TOP / name, out / name)
+    copy_licenses(out)
     source = out / "src"
     shutil.copytree(LIBRARY / "src" / "fallible", source / "fallible")
     shutil.copy(LIBRARY / "src" / "fallible.rs", source / "fallible.rs")
@@ -41,7 +39,6 @@ def write_command(out):
 
 def add_modules(root):
     """Declares the modules by hand in the root."""
-    text = root.read_text()
     declared = "".join(f"mod {name};\n" for name in MODULES)
-    front = f"\n#![forbid(unsafe_code)]\n{ALLOWED}\nextern crate alloc;\n\n{declared}"
-    root.write_text(re.sub(r"\A((?://![^\n]*\n)*)", lambda docs: docs[1] + front, text, count=1))
+    added = f"#![forbid(unsafe_code)]\n{ALLOWED}\nextern crate alloc;\n\n{declared}\n"
+    root.write_text(after_docs(added, root.read_text()))

@@ -50,7 +50,7 @@ impl Value {
     }
 
     /// The value as text, without spaces.
-    pub fn to_string(&self, _: Global) -> Result<String, AllocError> {
+    pub fn to_string_in(&self, _: Global) -> Result<String, AllocError> {
         Ok(String::from_std(self.0.to_string()))
     }
 }
