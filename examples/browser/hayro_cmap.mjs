@@ -48,8 +48,8 @@ export class Library {
   }
 
   /**
-   * What a call writes: `call(at, count, needed)` gets a buffer for `count` items, and is made again where there are more.
-   * The address and the count, or null where there is no answer.
+   * What a call writes: `call(at, count, needed)` gets a buffer for `count` items, and is made again where there are
+   * more. The address and the count, or null where there is no answer.
    */
   answer(size, call) {
     const needed = this.buffer("needed", SIZES.number);
@@ -179,16 +179,12 @@ export class CMap {
   }
 }
 
-/** The codes that a file declares, in order, each with its `length` in bytes, at most `most`; and how many there are. */
+/** The codes that a file declares, in order, each with its `length` in bytes, `most` at most; how many there are. */
 export function declaredCodes(map, most) {
-  const spaces = map.codespaces();
-  const ranges = [1, 2, 3, 4].flatMap((length) => map.cidRanges(length).map(([first, last]) => ({ first, last, length })));
-  ranges.push(...map.textRanges().map(([first, last]) => ({ first, last, length: lengthOf(first, spaces) })));
-  ranges.sort((a, b) => a.length - b.length || a.first - b.first);
   const codes = [];
   let count = 0;
   let before = { length: 0, last: -1 };
-  for (const { first, last, length } of ranges) {
+  for (const { first, last, length } of declarations(map)) {
     const start = length === before.length ? Math.max(first, before.last + 1) : first;
     if (start > last) continue;
     count += last - start + 1;
@@ -196,6 +192,14 @@ export function declaredCodes(map, most) {
     before = { length, last };
   }
   return { codes, count };
+}
+
+/** The declarations of CIDs and of texts, by the lengths and the numbers of their first codes. */
+function declarations(map) {
+  const spaces = map.codespaces();
+  const texts = map.textRanges().map(([first, last]) => ({ first, last, length: lengthOf(first, spaces) }));
+  const cids = [1, 2, 3, 4].flatMap((length) => map.cidRanges(length).map(([first, last]) => ({ first, last, length })));
+  return [...cids, ...texts].sort((a, b) => a.length - b.length || a.first - b.first);
 }
 
 /** The length of a code of a text: that of the first codespace range with it, else the least that has its number. */

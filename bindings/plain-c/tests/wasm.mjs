@@ -36,7 +36,11 @@ const rows = [
   [
     "CIDs of codes of one byte and of two",
     `${spaces}2 begincidrange <8140> <8141> 633 <41> <42> 34 endcidrange`,
-    { ...nothing, codes: [[0x41, 1, 34, null], [0x42, 1, 35, null], [0x8140, 2, 633, null], [0x8141, 2, 634, null]], count: 4 },
+    {
+      ...nothing,
+      codes: [[0x41, 1, 34, null], [0x42, 1, 35, null], [0x8140, 2, 633, null], [0x8141, 2, 634, null]],
+      count: 4,
+    },
   ],
   [
     "texts, of one character and of several",
@@ -58,7 +62,8 @@ for (const [what, text, expected] of rows) assert.deepEqual(read(text), expected
 assert.equal(library.version(), version);
 
 // as many codes as there are of two bytes, and a file that is larger than the first buffers
-const many = `1 begincodespacerange <0000> <FFFF> endcodespacerange 1 begincidrange <0000> <FFFF> 0 endcidrange${" ".repeat(200000)}`;
+const all = "1 begincodespacerange <0000> <FFFF> endcodespacerange 1 begincidrange <0000> <FFFF> 0 endcidrange";
+const many = all + " ".repeat(200000);
 assert.equal(read(many).count, 65536);
 assert.deepEqual(read(many).codes[999], [999, 2, 999, null]);
 
