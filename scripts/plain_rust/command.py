@@ -4,13 +4,14 @@ import shutil
 
 from programs import TOP, and_below
 
-from .crate import BY_HAND as LIBRARY
-from .crate import after_docs, copy_licenses, erase_crate
+from .crate import after_docs, copy_fallible, copy_licenses, erase_crate
 
 BY_HAND = TOP / "bindings" / "plain-command"
 COMMAND = "cmap"
 # the crates of the kit whose interface is by hand, over the crates of the same names or without one
 KIT = ["clap", "hex", "serde_json", "ucd_category"]
+# what `fallible` has here beside that of the reader
+ADDED = "\npub mod rc;\n"
 # the modules by hand
 MODULES = ["fallible", "host", "kit", "sources"]
 # proofs read some arguments alone, the library has more than the command, and the style is that of the sources
@@ -22,8 +23,7 @@ def write_command(out):
     shutil.copytree(BY_HAND, out, ignore=shutil.ignore_patterns("target", "Cargo.lock"))
     copy_licenses(out)
     source = out / "src"
-    shutil.copytree(LIBRARY / "src" / "fallible", source / "fallible")
-    shutil.copy(LIBRARY / "src" / "fallible.rs", source / "fallible.rs")
+    copy_fallible(out, ADDED)
     crates = sorted(and_below(COMMAND))
     paths = {name: f"crate::sources::{name}" for name in crates if name != COMMAND}
     known = {"std": "crate::fallible", "host": "crate::host", "itoa": "crate::fallible::itoa",
