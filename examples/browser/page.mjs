@@ -55,18 +55,22 @@ async function fetched(name) {
   return new Uint8Array(await response.arrayBuffer());
 }
 
-const library = await Library.load(await fetched("hayro_cmap.wasm"));
-found("file").addEventListener("change", (event) => showFile(library, event.target.files[0]));
-document.addEventListener("dragover", (event) => {
-  event.preventDefault();
-  document.body.classList.add("over");
+/** Waits for files. */
+async function start() {
+  const library = await Library.load(await fetched("hayro_cmap.wasm"));
+  found("file").addEventListener("change", (event) => showFile(library, event.target.files[0]));
+  document.addEventListener("drop", (event) => showFile(library, event.dataTransfer.files[0]));
+  const asked = new URLSearchParams(location.search).get("file");
+  if (asked) show(library, asked, await fetched(asked));
+  document.body.dataset.ready = "yes";
+}
+
+for (const kind of ["dragover", "dragleave", "drop"]) {
+  document.addEventListener(kind, (event) => {
+    event.preventDefault();
+    document.body.classList.toggle("over", kind === "dragover");
+  });
+}
+start().catch((fault) => {
+  found("summary").textContent = fault.message;
 });
-document.addEventListener("dragleave", () => document.body.classList.remove("over"));
-document.addEventListener("drop", (event) => {
-  event.preventDefault();
-  document.body.classList.remove("over");
-  showFile(library, event.dataTransfer.files[0]);
-});
-const asked = new URLSearchParams(location.search).get("file");
-if (asked) show(library, asked, await fetched(asked));
-document.body.dataset.ready = "yes";
