@@ -451,9 +451,16 @@ static void predefined_files_are_found() {
 constexpr int all_entries = -1;
 static int entries_left = all_entries;
 
+// What readdir is in the C library: another one where offsets in files have 64 bits on systems of 32.
+#if defined(_FILE_OFFSET_BITS) && _FILE_OFFSET_BITS == 64
+constexpr const char *readdir_name = "readdir64";
+#else
+constexpr const char *readdir_name = "readdir";
+#endif
+
 // Stands for readdir of the C library in all of the program: an entry after those that are left can't be read.
 extern "C" dirent *readdir(DIR *folder) {
-    static const auto next = reinterpret_cast<dirent *(*)(DIR *)>(dlsym(RTLD_NEXT, "readdir"));
+    static const auto next = reinterpret_cast<dirent *(*)(DIR *)>(dlsym(RTLD_NEXT, readdir_name));
     if (entries_left == 0) {
         errno = EIO;
         return nullptr;

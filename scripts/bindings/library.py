@@ -8,6 +8,8 @@ from .checks import Failed, run
 TOP = Path(__file__).resolve().parent.parent.parent
 EXAMPLES = TOP / "examples"
 C_TESTS = TOP / "bindings" / "c" / "tests.c"
+# those of null, which the library of plain Rust alone looks for
+NULL_TESTS = TOP / "bindings" / "plain-c" / "tests" / "nulls.c"
 CPP_TESTS = TOP / "bindings" / "cpp" / "tests.cc"
 
 WARNINGS = ["-Wall", "-Wextra", "-Wpedantic", "-Werror"]
@@ -26,6 +28,7 @@ class Library:
         self.folder = prefix / "lib"
         self.archive = self.folder / "libhayro_cmap.a"
         self.shared = self.folder / "libhayro_cmap.so"
+        self.is_plain = "\nbuild=plain\n" in (self.folder / "pkgconfig" / "hayro_cmap.pc").read_text()
 
     def pkg_config(self):
         """The flags by which a program is built over the shared library."""

@@ -4,9 +4,10 @@ import functools
 import re
 import sys
 
+from . import header
 from .checks import Failed, is_there, needs, run
 from .known import has_debian_files
-from .library import C_TESTS, CPP_TESTS, MEMCHECK, TOP
+from .library import C_TESTS, CPP_TESTS, MEMCHECK, NULL_TESTS, TOP
 
 CRATE = TOP / "bindings" / "rust"
 PACKAGE = TOP / "bindings" / "python"
@@ -46,13 +47,24 @@ class Package:
 
     @functools.cache
     def folder(self):
-        """Where pip has installed the package, with the library in it."""
+        """Where pip has installed the package, with the library in it, which cargo builds where it is plain Rust."""
         folder = self.work / "python"
+        source, environment = PACKAGE, self.over_library()
+        if self.library.is_plain:
+            source, environment = self.source_archive(), {"HAYRO_CMAP_LIBRARY": ""}
         pip = [self.python, "-m", "pip", "install", "--quiet", "--no-build-isolation", "--no-index", "--no-deps"]
-        ran = run(*pip, "--target", folder, PACKAGE, **self.over_library())
+        ran = run(*pip, "--target", folder, source, **environment)
         if ran.status != 0:
             raise Failed(f"pip installs no package: {ran.err}")
         return folder
+
+    def source_archive(self):
+        """The source archive of the package."""
+        build = "import build_backend, sys; print(build_backend.build_sdist(sys.argv[1]))"
+        ran = run(self.python, "-B", "-c", build, self.work, folder=PACKAGE)
+        if ran.status != 0:
+            raise Failed(f"no source archive is made: {ran.err}")
+        return self.work / ran.out.strip()
 
     def over_library(self):
         """The variable that names the library."""
@@ -84,6 +96,16 @@ def test_c_suite_under_memcheck(checks, setting):
     """Every block is freed, and no address is wrong."""
     ran = run(*MEMCHECK, setting.programs.path(C_TESTS))
     checks.ended("the tests in C under memcheck", ran, "ok\n")
+
+
+@needs("gcc")
+def test_c_nulls(checks, setting):
+    """Where a pointer is null, the library of plain Rust says that there is no answer; each call is asked."""
+    if setting.library.is_plain:
+        asked = NULL_TESTS.read_text()
+        missing = [name for name in header.declarations() if not re.search(rf"{name}\([^;]*NULL", asked)]
+        checks.same("the calls without a test of null in C", missing, [])
+        checks.ended("the tests of null in C", run(setting.programs.sanitized(NULL_TESTS)), "ok\n")
 
 
 @needs("g++")

@@ -1,4 +1,4 @@
-"""The crate of plain Rust: which files it has, and where they come from."""
+"""The crate of the reader in plain Rust: which files it has, and where they come from."""
 
 import re
 import shutil
@@ -28,6 +28,8 @@ INLINED = {
     "cmap_tokens/src/utf16.rt": ["one_char"],
     "hayro_cmap/src/map.rt": ["lookup_bf_string", "next_code"],
 }
+# files about the pointers of C
+POINTERS = ["cmap_c_encoder/src/slot.rt", "cmap_handles/src/slot.rt"]
 BESIDE = {name: f"crate::{name}" for name in (QUERIES, "hex")}
 
 
@@ -45,22 +47,33 @@ def with_inlined(text, names):
     return text
 
 
+def erased_file(path, paths):
+    """The text of a source file as Rust; only where it is about the pointers of C may it have unsafe code."""
+    name = str(path.relative_to(CRATES))
+    if name not in POINTERS:
+        return with_inlined(erased(path.relative_to(TOP), path.read_text(), paths), INLINED.get(name, []))
+    return after_docs("#![allow(unsafe_code)]\n\n", erased(path.relative_to(TOP), path.read_text(), paths, ["unsafe"]))
+
+
+def after_docs(added, text):
+    """The text of a file with lines after the comments on the whole file."""
+    return re.sub(r"\A((?://![^\n]*\n)*)\n*", lambda docs: docs[1] + "\n" * bool(docs[1]) + added, text, count=1)
+
+
 def erase_crate(crate, folder, root, paths):
     """Writes the sources of a crate into a folder, its root as `root`; what is there by hand stays."""
     for path in sorted((CRATES / crate / "src").rglob("*.rt")):
         inner = path.relative_to(CRATES / crate / "src").with_suffix(".rs")
         made = root if inner.name in ("lib.rs", "main.rs") and inner.parent.name == "" else folder / inner
-        if made.exists():
-            continue
-        made.parent.mkdir(parents=True, exist_ok=True)
-        text = erased(path.relative_to(TOP), path.read_text(), paths)
-        made.write_text(with_inlined(text, INLINED.get(str(path.relative_to(CRATES)), [])))
+        if not made.exists():
+            made.parent.mkdir(parents=True, exist_ok=True)
+            made.write_text(erased_file(path, paths))
 
 
-def write_reader(out):
-    """The sources of the reader, a module for each crate."""
+def write_reader(out, crates):
+    """The sources of crates, a module for each."""
     folder = out / "src" / "reader"
-    paths = {crate: f"crate::reader::{crate}" for crate in crates_of_reader()}
+    paths = {crate: f"crate::reader::{crate}" for crate in crates}
     for crate in paths:
         own = {"crate": paths[crate], "std": "crate::fallible", "itoa": "crate::fallible::itoa", **paths}
         erase_crate(crate, folder / crate, folder / f"{crate}.rs", own)
@@ -76,24 +89,26 @@ def write_rows(out):
     shutil.copy(CRATES / ROWS / "stdout", folder / "stdout")
 
 
-def write_crate(out):
-    """Makes the crate in a new folder; nothing where a construct is unknown."""
-    try:
-        write_files(out)
-    except Unknown:
-        shutil.rmtree(out)
-        raise
-
-
-def write_files(out):
+def write_library(out):
     """The files by hand, those of the bindings over the C library, and the sources."""
     shutil.copytree(BY_HAND, out, ignore=shutil.ignore_patterns("target", "Cargo.lock", "compare"))
-    for name in LICENSES:
-        shutil.copy(TOP / name, out / name)
+    copy_licenses(out)
     shutil.copy(SHARED / README, out / README)
     for name in SHARED_SOURCES:
         shutil.copy(SHARED / "src" / f"{name}.rs", out / "src" / f"{name}.rs")
     for folder in ["tests", "examples"]:
         shutil.copytree(SHARED / folder, out / folder, dirs_exist_ok=True)
-    write_reader(out)
+    write_reader(out, crates_of_reader())
     write_rows(out)
+
+
+def copy_fallible(out, added):
+    """The module `fallible` of another crate, with lines of its own at its end."""
+    shutil.copytree(BY_HAND / "src" / "fallible", out / "src" / "fallible", dirs_exist_ok=True)
+    (out / "src" / "fallible.rs").write_text((BY_HAND / "src" / "fallible.rs").read_text() + added)
+
+
+def copy_licenses(out):
+    """The licences of the project."""
+    for name in LICENSES:
+        shutil.copy(TOP / name, out / name)

@@ -14,5 +14,5 @@ mod vec;
 
 pub use boxed::Box;
 pub use slices::{TakeFront, TryEach};
-pub use string::String;
+pub use string::{Printed, String};
 pub use vec::{CollectIn, Vec};

@@ -8,6 +8,8 @@ HARMFUL = {"Cc", "Cf", "Cn", "Co", "Cs", "Zl", "Zp"}
 
 def escaped(text: str) -> str:
     """A text with what would control a terminal as \\u{HEX}."""
+    if text.isprintable():
+        return text
     return "".join(f"\\u{{{ord(it):X}}}" if unicodedata.category(it) in HARMFUL else it for it in text)
 
 

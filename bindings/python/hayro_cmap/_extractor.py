@@ -17,7 +17,7 @@ from ._values import Buffer, bytes_of
 SINGLE_BYTES = b"1 begincodespacerange <00> <FF> endcodespacerange"
 
 #: How many bytes a string has at most that is put to the room of an extractor. Longer ones get rooms of their own.
-KEPT_ROOM = 1024
+KEPT_ROOM = 256
 
 #: How many characters an extractor keeps at most: all of a font whose codes have two bytes.
 KEPT_CHARACTERS = 65536
@@ -159,7 +159,7 @@ class Extractor:
     @functools.cached_property
     def _code_length(self):
         """How many bytes each code has, or None where codes have several lengths."""
-        lengths = {it.byte_len for layer in self._maps[0].layers for it in layer.codespaces} or {1}
+        lengths = {it.byte_len for it in self._maps[0]._all_codespaces()} or {1}
         return lengths.pop() if len(lengths) == 1 else None
 
     def close(self):

@@ -423,8 +423,7 @@ class CMap(Owned):
     def _text_runs(self, codespaces: Optional[Iterable[Codespace]]) -> Iterator[TextRun]:
         """What `texts` gives, made one by one."""
         given = None if codespaces is None else [codespace_of(it) for it in codespaces]
-        ranges = [it for layer in self.layers for it in layer.codespaces] if given is None else given
-        return effective(self._deciding_texts(), ranges)
+        return effective(self._deciding_texts(), self._all_codespaces() if given is None else given)
 
     def _text_rows(self) -> Iterator[TextRow]:
         """The texts of all codes that have one, whatever lengths the codes have."""
@@ -450,6 +449,10 @@ class CMap(Owned):
             supplement=supplement.value if has_supplement else None,
             writing_mode=None if mode == NO_MODE else WritingMode(mode),
         )
+
+    def _all_codespaces(self) -> List[Codespace]:
+        """The codespace ranges of all layers."""
+        return [it for layer in range(self._ask(library.hayro_cmap_layers)) for it in self._codespaces(layer)]
 
     def _codespaces(self, layer):
         ranges = self._listed(library.hayro_cmap_codespaces, CodespaceRange, layer)

@@ -30,8 +30,8 @@ class Room:
         self._arguments = [
             *(byref(cmap._handle) for cmap in self._maps),
             *(self._string, self._string_len),
-            *(byref((CharacterInString * most).from_buffer(self._characters)), c_size_t(most)),
-            *(byref((c_char * self._text_len).from_buffer(self.texts)), c_size_t(self._text_len)),
+            *(byref(CharacterInString.from_buffer(self._characters)), c_size_t(most)),
+            *(byref(c_char.from_buffer(self.texts)), c_size_t(self._text_len)),
             byref(self._extracted),
         ]
 

@@ -88,6 +88,13 @@ class Words(unittest.TestCase):
         content = b"(ab) Tj ET q 1 0 0 1 0 90 cm /X Do Q BT 10 0 Td (cd) Tj"
         self.assertEqual(page.lines(content), ["abcd"])
 
+    def test_fonts_past_the_number_that_is_kept(self):
+        """They are looked up again."""
+        file, other = File(), GOOD.replace(b"<0041>", b"<0078>")
+        file.show(b"/F 9 Tf (A) Tj /G 9 Tf (A) Tj /F 9 Tf (A) Tj", F=file.simple(GOOD), G=file.simple(other))
+        with mock.patch.object(_interpreter, "MOST_NAMES", 1):
+            self.assertEqual(file.text(), "AxA")
+
     def test_another_direction(self):
         self.assertEqual(self.lines(b"(ab) Tj 0 1 -1 0 50 0 Tm (cd) Tj"), ["ab", "cd"])
 

@@ -5,8 +5,9 @@ import os
 import subprocess
 import unittest
 from pathlib import Path
+from unittest import mock
 
-from hayro_cmap.pdf import _paths, check_files
+from hayro_cmap.pdf import _commands, _paths, check_files
 
 from folder import PROGRAM, Folder
 from made import GOOD, showing
@@ -118,6 +119,15 @@ class Odd(Folder):
         if os.geteuid() != 0:
             self.path("good.pdf").chmod(0)
             self.assertIn("good.pdf: it can't be read: Permission denied", self.command("fonts", "good.pdf")[2])
+
+    def test_a_long_file(self):
+        """It isn't read at once, and the same is said of it."""
+        paths = [str(self.path(name)) for name in ("good.pdf", "none.pdf")]
+        for most in [0, _paths.MOST_IN_MEMORY]:
+            with mock.patch.object(_paths, "MOST_IN_MEMORY", most):
+                good, none = _commands.results_of(paths, "text", {})
+            self.assertEqual((good.status, good.lines, none.status), (0, ["Affi"], 2))
+            self.assertRegex(none.fault, "^it can't be read: unable to find trailer dictionary")
 
     def test_names_that_control_a_terminal(self):
         """They are escaped, also where a report can't take them."""

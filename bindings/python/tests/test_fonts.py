@@ -46,7 +46,7 @@ class Texts(unittest.TestCase):
     def test_strings_of_all_lengths(self):
         """Those that have rooms of their own, too."""
         with identity_font() as font:
-            for codes in [0, 1, 511, 512, 513, 1024, 70_000]:
+            for codes in [0, 1, 127, 128, 129, 511, 512, 513, 1024, 70_000]:
                 string = b"\0A\0D" * (codes // 2) + b"\0C" * (codes % 2)
                 expected = "a\uFFFD" * (codes // 2) + "ffi" * (codes % 2)
                 self.assertEqual(font.text(string), expected)

@@ -84,6 +84,21 @@ impl<K: Ord, V> BTreeMap<K, V> {
         }
     }
 
+    /// Takes a key out; the value that it had.
+    pub fn remove<Q: Ord + ?Sized>(&mut self, key: &Q) -> Option<V>
+    where
+        K: Borrow<Q>,
+    {
+        let index = self.part_of(key);
+        let part = self.parts.get_mut(index)?;
+        let at = part.binary_search_by(|(other, _)| other.borrow().cmp(key)).ok()?;
+        let (_, value) = part.remove(at);
+        if part.is_empty() {
+            self.parts.remove(index);
+        }
+        Some(value)
+    }
+
     /// The index of the part that has the key, if one has it.
     fn part_of<Q: Ord + ?Sized>(&self, key: &Q) -> usize
     where
@@ -119,6 +134,61 @@ fn part_with_room<'p, K: Ord, V>(
     Ok(&mut parts[index + usize::from(comes_last)])
 }
 
+/// Items, each once.
+pub struct BTreeSet<T>(BTreeMap<T, ()>);
+
+impl<T: Ord> BTreeSet<T> {
+    /// No item; it takes no memory.
+    pub fn new(alloc: Global) -> Self {
+        BTreeSet(BTreeMap::new(alloc))
+    }
+
+    /// Whether an item is there.
+    pub fn contains<Q: Ord + ?Sized>(&self, item: &Q) -> bool
+    where
+        T: Borrow<Q>,
+    {
+        self.0.contains_key(item)
+    }
+
+    /// Adds an item; whether it wasn't there.
+    pub fn insert(&mut self, item: T) -> Result<bool, AllocFailed<T>> {
+        match self.0.insert(item, ()) {
+            Ok(before) => Ok(before.is_none()),
+            Err(AllocFailed { value: (value, ()) }) => Err(AllocFailed { value }),
+        }
+    }
+}
+
+/// A queue with two ends.
+pub struct VecDeque<T>(collections::VecDeque<T>);
+
+impl<T> VecDeque<T> {
+    /// No item; it takes no memory.
+    pub fn new(_: Global) -> Self {
+        VecDeque(collections::VecDeque::new())
+    }
+
+    /// Adds an item at the end.
+    pub fn push_back(&mut self, value: T) -> Result<(), AllocFailed<T>> {
+        if self.0.try_reserve(1).is_err() {
+            return Err(AllocFailed { value });
+        }
+        self.0.push_back(value);
+        Ok(())
+    }
+
+    /// Takes the first item off.
+    pub fn pop_front(&mut self) -> Option<T> {
+        self.0.pop_front()
+    }
+
+    /// The first item.
+    pub fn front(&self) -> Option<&T> {
+        self.0.front()
+    }
+}
+
 #[cfg(test)]
 mod tests {
     use super::*;
@@ -148,6 +218,36 @@ mod tests {
         for key in 0..0x8000 {
             assert_eq!(map.get(&key), expected.get(&key));
         }
+    }
+
+    #[test]
+    fn keys_are_taken_out() {
+        let mut map = BTreeMap::new(Global);
+        for key in 0..2000_u32 {
+            map.insert(key, key + 1).unwrap();
+        }
+        for key in (0..2000).step_by(2) {
+            assert_eq!(map.remove(&key), Some(key + 1));
+            assert_eq!(map.remove(&key), None);
+        }
+        assert!((0..2000).all(|key| map.get(&key).is_some() == (key % 2 == 1)));
+    }
+
+    #[test]
+    fn a_set_has_an_item_once() {
+        let mut set = BTreeSet::new(Global);
+        assert!(set.insert(7_u32).unwrap() && !set.insert(7).unwrap());
+        assert!(set.contains(&7) && !set.contains(&8));
+    }
+
+    #[test]
+    fn the_first_item_of_a_queue_is_taken() {
+        let mut queue = VecDeque::new(Global);
+        queue.push_back(1).unwrap();
+        queue.push_back(2).unwrap();
+        assert_eq!((queue.front().copied(), queue.pop_front(), queue.pop_front()), (Some(1), Some(1), Some(2)));
+        assert_eq!(queue.pop_front(), None);
+        assert_eq!(queue.front(), None);
     }
 
     #[test]

@@ -9,6 +9,7 @@ reader of the output goes away.
 import argparse
 import contextlib
 import errno
+import gc
 import logging
 import os
 import sys
@@ -23,7 +24,6 @@ from ._commands import Result, run
 from ._limits import MEMORY, SECONDS
 from ._many import Task, by_dask, by_processes, json_lines, limited_memory
 from ._paths import STANDARD_INPUT, listed, readable, reason_of
-from ._report import try_report, write_report
 from ._warning_names import FEW_TEXTS, WARNINGS
 
 #: What --deny takes.
@@ -153,6 +153,8 @@ def results(asked: argparse.Namespace, paths: List[str]) -> Iterator[Result]:
         logging.disable(logging.CRITICAL)
         done = by_dask(paths, asked.command, options, asked.dask)
     else:
+        # what is loaded stays: the collector needn't look at it, nor write to memory that the processes share
+        gc.freeze()
         # what ends a process, as a lack of memory may, costs the file that it reads
         task = Task(asked.command, options, MEMORY, of_pages if len(paths) == 1 else iter)
         done = by_processes(paths, task, asked.jobs)
@@ -208,8 +210,12 @@ def last_line(done: List[Result]) -> str:
 def run_command(asked: argparse.Namespace) -> int:
     """Runs the command, and gives its status. OSError where a list, a report or the output can't be had."""
     is_check, paths = asked.command == "check", paths_of(asked)
-    if is_check and asked.html is not None:
-        try_report(asked.html, paths)
+    has_page = is_check and asked.html is not None
+    if has_page:
+        # few runs make pages
+        from . import _report
+
+        _report.try_report(asked.html, paths)
     if is_check and not HAS_GLYPH_LIST:
         say("fontTools is missing, so names of glyphs have no texts")
     done: List[Result] = []
@@ -218,8 +224,8 @@ def run_command(asked: argparse.Namespace) -> int:
             put(result, asked)
             # the lines are printed, and what a page shows is kept
             done.append(result._replace(lines=[], objects=[]))
-    if is_check and asked.html is not None:
-        write_report(asked.html, done)
+    if has_page:
+        _report.write_report(asked.html, done)
     if is_check and not asked.quiet:
         say(last_line(done))
     return max((result.status for result in done), default=0)

@@ -12,9 +12,8 @@ from ._check import Report, check
 from ._content import Document
 from ._fonts import fonts
 from ._limits import FAILED_ALLOCATION, NO_MEMORY, SECONDS, Deadline, is_memory
-from ._paths import is_among, opened, readable, reason_of
+from ._paths import in_memory, is_among, opened, readable, reason_of
 from ._repair import Signed, repair, save
-from ._report import charts_of
 
 #: What pages are handed to, and gives them again: a progress bar, or nothing.
 Progress = Callable[[Iterable[Any]], Iterable[Any]]
@@ -75,15 +74,18 @@ class Job(NamedTuple):
 def run(path: str, command: str, options: Dict[str, Any], progress: Progress = iter) -> Result:
     """What a command says of a file, whatever the file is."""
     deadline, password = Deadline(options.get("seconds", SECONDS)), options.get("password") or ""
+    file: Optional[BinaryIO] = None
     try:
-        with opened(path) as file, pikepdf.open(file, password=password) as pdf:
-            job = Job(path, file, pdf, options, lambda pages: deadline.over(progress(pages)), deadline)
-            return COMMANDS[command](job)
+        with opened(path) as on_disk:
+            file = in_memory(on_disk)
+            with pikepdf.open(file, password=password) as pdf:
+                job = Job(path, file, pdf, options, lambda pages: deadline.over(progress(pages)), deadline)
+                return COMMANDS[command](job)
     except pikepdf.PasswordError:
         return unread(path, f"it can't be read {'by this' if password else 'without its'} password")
     except Exception as fault:  # pikepdf raises many kinds over objects that are none, and the run goes on
         # pikepdf begins with what it reads from
-        reason = reason_of(fault).replace(f"<_io.BufferedReader name={path!r}>: ", "")
+        reason = reason_of(fault).replace(f"{file!r}: ", "")
         return unread(path, f"it can't be read: {NO_MEMORY if is_memory(fault) else reason}")
 
 
@@ -118,6 +120,14 @@ def run_check(job: Job) -> Result:
         has_warnings=report.has_warnings,
         charts=charts_of(report) if job.options.get("charts") else [],
     )
+
+
+def charts_of(report: Report) -> List[Dict[str, Any]]:
+    """What a page for people shows of the fonts of a report."""
+    # few runs make pages
+    from . import _report
+
+    return _report.charts_of(report)
 
 
 def run_text(job: Job) -> Result:

@@ -8,7 +8,7 @@ from typing import Any, Callable, Dict, Iterable, Iterator, List, NamedTuple, Op
 
 import pikepdf
 
-from .. import CMap, Code, Extractor, NotWritable, Refused, predefined
+from .. import CMap, Code, Extractor, Layer, NotWritable, Refused, predefined
 from .._faults import Lines
 from ._budget import Budget
 from ._glyphs import Names, differences_of, glyph_names, guessed_texts, is_symbolic, texts_of_names
@@ -50,8 +50,8 @@ IDENTITIES = ("Identity-H", "Identity-V")
 MOST_OF_TEXT = 1 << 10
 LONG_TEXT = re.compile(rb"<[0-9A-Fa-f\0\t\n\f\r ]{2048}|\([^()<>\[\]]{1024}")
 
-#: Five digits without others beside them, and a hexadecimal string.
-FIVE_DIGITS = re.compile(rb"(?<![0-9A-Fa-f])[0-9A-Fa-f]{5}(?![0-9A-Fa-f])")
+#: A hexadecimal string of five digits, and any one.
+FIVE_DIGITS = re.compile(rb"<[\0\t\n\f\r ]*[0-9A-Fa-f]{5}[\0\t\n\f\r ]*>")
 HEXADECIMAL = re.compile(rb"<([0-9A-Fa-f\0\t\n\f\r ]*)>")
 
 #: The last code that four bytes write.
@@ -150,55 +150,59 @@ class Font:
         self.objgen: Optional[Tuple[int, int]] = dictionary.objgen if dictionary.is_indirect else None
         #: "Type0", "Type1", "TrueType" and so on.
         self.subtype = name_at(dictionary, "/Subtype")
-        self.base_font = name_at(dictionary, "/BaseFont") or name_at(dictionary, "/Name")
-        listed = dictionary.get("/DescendantFonts")
+        self.is_composite = self.subtype == "Type0"
+        listed = dictionary.get("/DescendantFonts") if self.is_composite else None
         below = list(listed)[:1] if isinstance(listed, pikepdf.Array) else []
         #: The CIDFont of a composite font.
         self.descendant: Optional[pikepdf.Dictionary] = next(
             (it for it in below if isinstance(it, pikepdf.Dictionary)), None
         )
 
-    @property
-    def is_composite(self) -> bool:
-        return self.subtype == "Type0"
+    @functools.cached_property
+    def base_font(self) -> Optional[str]:
+        return name_at(self.dictionary, "/BaseFont") or name_at(self.dictionary, "/Name")
 
     @property
     def number(self) -> int:
         """The number of its object; 0 where it has none."""
         return self.objgen[0] if self.objgen else 0
 
-    @property
+    @functools.cached_property
     def encoding_name(self) -> Optional[str]:
         """The name of the encoding: of a stream the CMapName, of a dictionary the BaseEncoding."""
-        encoding = self.dictionary.get("/Encoding")
-        if isinstance(encoding, pikepdf.Stream):
-            return name_at(encoding, "/CMapName")
-        if isinstance(encoding, pikepdf.Dictionary):
-            return name_at(encoding, "/BaseEncoding")
-        return text_of(encoding) if isinstance(encoding, pikepdf.Name) else None
+        encoding, kind = self.dictionary.get("/Encoding"), self.encoding_kind
+        if kind == "name":
+            return text_of(encoding)
+        keys = {"stream": "/CMapName", "dictionary": "/BaseEncoding"}
+        return name_at(encoding, keys[kind]) if kind in keys else None
 
-    @property
+    @functools.cached_property
     def encoding_kind(self) -> str:
         """What the encoding is: "name", "stream", "dictionary" or "none"."""
         encoding = self.dictionary.get("/Encoding")
-        kinds = [(pikepdf.Stream, "stream"), (pikepdf.Dictionary, "dictionary"), (pikepdf.Name, "name")]
+        kinds = [(pikepdf.Name, "name"), (pikepdf.Dictionary, "dictionary"), (pikepdf.Stream, "stream")]
         return next((name for kind, name in kinds if isinstance(encoding, kind)), "none")
 
     @functools.cached_property
     def encoding(self) -> Read:
         """The CMap of a composite font, over those of `UseCMap`; nothing of a simple one."""
-        encoding = self.dictionary.get("/Encoding")
         if not self.is_composite:
             return NOTHING
-        if isinstance(encoding, pikepdf.Stream):
+        encoding = self.dictionary.get("/Encoding")
+        if self.encoding_kind == "stream":
             return read_stream(encoding, "Encoding", self._streams)
-        if not isinstance(encoding, pikepdf.Name):
+        if self.encoding_kind != "name":
             return Read(None, None, [Fault("Encoding", 0, None, None, (), "it is neither a name nor a stream")])
         try:
             cmap = CMap.open(bytes_of(encoding))
         except Refused as fault:
             return Read(None, None, [fault_of(fault, "Encoding", 0, b"")])
         return Read(cmap, cmap, [])
+
+    @functools.cached_property
+    def encoding_layers(self) -> List[Layer]:
+        """What the files of the CMap of a composite font give; nothing of a simple one."""
+        return [] if self.encoding.lenient is None else self.encoding.lenient.layers
 
     @functools.cached_property
     def to_unicode(self) -> Read:
@@ -223,7 +227,7 @@ class Font:
         is_own = self.encoding_kind == "stream" or self.encoding_name in IDENTITIES
         if is_own and of_font is not None:
             return of_font
-        said = [] if self.encoding.lenient is None else [layer.metadata for layer in self.encoding.lenient.layers]
+        said = [layer.metadata for layer in self.encoding_layers]
         found = (
             b"%b-%b" % (it.registry, it.ordering) for it in said if it.registry is not None and it.ordering is not None
         )
@@ -356,9 +360,10 @@ class Font:
         found = []
         for code, text in characters:
             key = code[:2] if not code.cut_short else (code.code, -code.byte_len)
-            if key not in known:
-                known[key] = self._character(code, text, lenient, guesses)
-            found.append(known[key])
+            character = known.get(key)
+            if character is None:
+                character = known[key] = self._character(code, text, lenient, guesses)
+            found.append(character)
         return found
 
     def _character(self, code: Code, text: Optional[str], lenient: bool, guesses: bool) -> Character:
@@ -415,11 +420,15 @@ class Font:
     @functools.cached_property
     def _ways(self) -> List[Tuple[Source, Callable[[int], Optional[str]]]]:
         """How a code of a simple font has a text without a ToUnicode CMap, the best way first."""
-        by_name = (Source.GLYPH_NAME, lambda code: self.glyph_texts[code])
+        by_name = (Source.GLYPH_NAME, self._text_of_name)
         by_program = (Source.FONT_PROGRAM, lambda code: self.program_texts[code])
         by_number = (Source.GLYPH_NUMBER, lambda code: self.guessed_texts.get(code))
         is_by_code = self.subtype == "TrueType" and self.encoding_kind == "none"
         return [by_program, by_name, by_number] if is_by_code else [by_name, by_program, by_number]
+
+    def _text_of_name(self, code: int) -> Optional[str]:
+        """The text of the name of the glyph of a code of a simple font."""
+        return texts_of_names([self.glyph_names[code]], self.base_font or "")[0]
 
     @property
     def faults(self) -> List[Fault]:
@@ -465,7 +474,8 @@ def read_stream(stream: pikepdf.Stream, of: str, streams: Streams, over: Tuple =
     number = object_number(stream)
     try:
         data = streams.decoded(stream)
-        below = read_base(stream.get("/UseCMap"), of, streams, (*over, stream.objgen))
+        base = stream["/UseCMap"] if "/UseCMap" in stream else None
+        below = read_base(base, of, streams, (*over, stream.objgen))
         # without the operator no file is used, and none is looked for
         files = predefined if b"usecmap" in data else None
         cmap, refusals = CMap.salvage(data, files, base=below.lenient, most_faults=MOST_FAULTS + 1)

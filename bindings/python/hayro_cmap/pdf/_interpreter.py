@@ -19,6 +19,9 @@ STEPS_OF_CHECK = 1 << 10
 #: How many graphics states are kept at a time.
 MOST_SAVED = 1 << 12
 
+#: How many names of resources are kept of a content, with what they name.
+MOST_NAMES = 1 << 16
+
 #: How deep forms may draw each other.
 MOST_NESTED = 64
 
@@ -94,17 +97,15 @@ class Level:
         self.form = None if form is None else form.objgen
         self.state, self.saved, self.unsaved = run.state, len(run.saved), run.unsaved
         self.text, self.span, self.marks = run.text, run.span, run.marks
-        self._fonts: Dict[bytes, Any] = {}
+        self._found: Dict[Tuple[str, bytes], Any] = {}
 
-    def named(self, kind: str, name: bytes) -> Any:
-        """What the resources name so."""
-        return named(dictionary_at(self.resources, kind), name)
-
-    def font(self, name: bytes, font_of: Callable[[Any], Optional[Font]]) -> Optional[Font]:
-        """The font of a name, looked up once."""
-        if name not in self._fonts:
-            self._fonts[name] = font_of(self.named("/Font", name))
-        return self._fonts[name]
+    def named(self, kind: str, name: bytes, taken: Callable[[Any], Any] = lambda it: it) -> Any:
+        """What is taken of the resource of a name: always the same of a kind, so that it is kept."""
+        if (kind, name) not in self._found:
+            if len(self._found) == MOST_NAMES:
+                self._found.clear()
+            self._found[kind, name] = taken(named(dictionary_at(self.resources, kind), name))
+        return self._found[kind, name]
 
 
 class TextMatrix:
@@ -197,11 +198,15 @@ class Interpreter:
 
     def _choose_state(self, _: bytes, operands: List[Operand]) -> None:
         """Takes the font that a graphics state chooses (ISO 32000-1, 8.4.5)."""
-        state = self._levels[-1].named("/ExtGState", last_name(operands))
+        chosen = self._levels[-1].named("/ExtGState", last_name(operands), self._font_of_state)
+        if chosen is not None:
+            self.state.font, self.state.size = chosen
+
+    def _font_of_state(self, state: Any) -> Optional[Tuple[Optional[Font], float]]:
+        """The font and the size that a graphics state chooses; None where it chooses none."""
         pair = state.get("/Font") if isinstance(state, pikepdf.Dictionary) else None
-        if isinstance(pair, pikepdf.Array) and len(pair) == 2:
-            self.state.font = self._content.font(pair[0])
-            self.state.size = number_of(pair[1])
+        is_pair = isinstance(pair, pikepdf.Array) and len(pair) == 2
+        return (self._content.font(pair[0]), number_of(pair[1])) if is_pair else None
 
     def _draw(self, _: bytes, operands: List[Operand]) -> None:
         """Begins a form, which has the font that is chosen, and without resources those of what draws it."""
@@ -239,7 +244,7 @@ class Interpreter:
         self.text = self.text.moved(0.0, -self.state.leading)
 
     def _choose_font(self, numbers: bytes, operands: List[Operand]) -> None:
-        self.state.font = self._levels[-1].font(last_name(operands), self._content.font)
+        self.state.font = self._levels[-1].named("/Font", last_name(operands), self._content.font)
         self.state.size = last_in(numbers)
 
     def _set_char_space(self, numbers: bytes, _: Any) -> None:
@@ -308,7 +313,9 @@ class Interpreter:
             if isinstance(it, bytes):
                 found = measure.of(it)
                 place = frame.show(found)
-                texts = [found.texts[0], BLANK, found.texts[1]] if frame.is_spaced(found) else found.texts
+                texts = found.texts
+                if frame.is_wide and frame.is_spaced(found):
+                    texts = [texts[0], BLANK, texts[1]]
                 pieces.append(Piece(font, it, span, texts, found.is_right_to_left, place))
             else:
                 frame.move(it)
@@ -320,7 +327,7 @@ class Frame:
     """The space in which the strings of one operator are shown."""
 
     def __init__(self, state: State, text: TextMatrix, is_vertical: bool):
-        a, b, c, d, e, f = product(text.line, state.matrix)
+        a, b, c, d, e, f = text.line if state.matrix is IDENTITY else product(text.line, state.matrix)
         rise = state.rise
         self._is_vertical = is_vertical
         if is_vertical:
@@ -332,7 +339,8 @@ class Frame:
         self._x, self._y, self._unit_x, self._unit_y = e + rise * c, f + rise * d, unit_x, unit_y
         self._em = state.size * THOUSANDTH * unit
         self._char_space, self._word_space = state.char_space * unit, state.word_space * unit
-        self._is_wide = state.char_space > WIDE * state.size
+        #: Whether codes have a wide space between them.
+        self.is_wide = state.char_space > WIDE * state.size
         length = math.hypot(unit_x, unit_y)
         sign = math.copysign(1.0, state.size * unit) * (-1.0 if is_vertical else 1.0)
         self._size = abs(state.size) * math.hypot(c, d)
@@ -349,7 +357,7 @@ class Frame:
         self._gone = end
         if self._along is None or self._size == 0.0:
             return None
-        if self.is_spaced(string):
+        if self.is_wide and self.is_spaced(string):
             end -= self._char_space
         x, y, unit_x, unit_y = self._x, self._y, self._unit_x, self._unit_y
         return Place(
@@ -365,7 +373,7 @@ class Frame:
     def is_spaced(self, string: Measured) -> bool:
         """Whether a string is the last letter of a word and the first one of another: two codes with a wide space
         between them. More codes are letters that are spaced out."""
-        return self._is_wide and len(string.texts) == 2
+        return self.is_wide and len(string.texts) == 2
 
     def leave(self, text: TextMatrix) -> None:
         """Lets the text go on after these strings."""

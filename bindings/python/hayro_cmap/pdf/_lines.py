@@ -180,7 +180,7 @@ class Lines:
                 self._put(found._replace(separator=NOTHING), piece)
                 # the next string goes on with the one before the mark
                 self._before = before
-            elif overlaps(before, piece) and self._accents(piece):
+            elif self._accents(before, piece):
                 self._before = piece
             else:
                 line = self.end() if found.separator == LINE_END else None
@@ -194,14 +194,14 @@ class Lines:
         self._has_right_to_left |= piece.is_right_to_left or piece.span is not None and is_right_to_left(texts[0])
         self._before = piece
 
-    def _accents(self, piece: Piece) -> bool:
+    def _accents(self, before: Piece, piece: Piece) -> bool:
         """Puts a string to the end of the line that begins above an accent, or is one above a letter, with the letter
         that has the accent. False where that isn't so."""
         last = self._parts[-1]
-        if piece.span is not None or not piece.texts or not last.texts:
+        if piece.span is not None or not last.texts or COMBINING.keys().isdisjoint((last.texts[-1], piece.texts[0])):
             return False
         for accent, letter in [(last.texts[-1], piece.texts[0]), (piece.texts[0], last.texts[-1])]:
-            if accent in COMBINING and letter.isalpha():
+            if accent in COMBINING and letter.isalpha() and overlaps(before, piece):
                 accented = unicodedata.normalize("NFC", DOTLESS.get(letter, letter) + COMBINING[accent])
                 self._parts[-1] = last._replace(texts=[*last.texts[:-1], accented, *piece.texts[1:]])
                 return True

@@ -4,7 +4,6 @@ import contextlib
 import errno
 import functools
 import itertools
-import json
 import multiprocessing
 import os
 import signal
@@ -45,6 +44,8 @@ def check_files(paths: Iterable[str], **options: Any) -> Iterator[str]:
 
 def json_lines(result: Result) -> Iterator[str]:
     """What is said of a file as lines of JSON."""
+    import json
+
     for it in result.objects:
         yield json.dumps({"file": readable(result.path), **it}, sort_keys=True, separators=(",", ":"))
 
@@ -182,7 +183,10 @@ class Pool:
 
     def finished(self) -> Iterator[Tuple[int, Result]]:
         """The index and the result of each file that is done; where there is none yet, it waits."""
-        ends = connection.wait([worker.end for worker in self.busy])
+        ends = [worker.end for worker in self.busy]
+        # the result of the only one is waited for where it is taken
+        if len(ends) > 1:
+            ends = connection.wait(ends)
         for worker in [it for it in self.busy if it.end in ends]:
             self.busy.remove(worker)
             result = worker.result()

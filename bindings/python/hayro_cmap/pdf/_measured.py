@@ -84,21 +84,19 @@ class Measure:
         unknown = [code for code in dict.fromkeys(codes) if code not in known]
         if unknown:
             known.update(zip(unknown, self._looked_up(b"".join(unknown))))
-        return [known[code] for code in codes]
+        return list(map(known.__getitem__, codes))
 
     def _looked_up(self, string: bytes) -> List[Glyph]:
         """What the codes of a string are, as the font says; each byte is one where there is no font."""
         if self._font is None:
             return [Glyph(REPLACEMENT, 0.0, False)] * len(string)
-        return [self._glyph(*it[1:3]) for it in self._characters(self._font, string)]
+        return [self._glyph(code, text) for _, code, text, _ in self._characters(self._font, string)]
 
     def _glyph(self, code: Code, text: Optional[str]) -> Glyph:
         """What a code with this text is."""
-        if self.is_vertical:
-            width = self._widths.vertical(code.cid).advance
-        else:
-            width = self._widths.advance(code.code, code.cid)
-        return Glyph(REPLACEMENT if text is None else text, width, code.code == SPACE and code.byte_len == 1)
+        number, byte_len, cid, _, _ = code
+        width = self._widths.vertical(cid).advance if self.is_vertical else self._widths.advance(number, cid)
+        return Glyph(REPLACEMENT if text is None else text, width, number == SPACE and byte_len == 1)
 
 
 def measured(glyphs: List[Glyph]) -> Measured:

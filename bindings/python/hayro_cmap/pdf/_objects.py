@@ -70,7 +70,7 @@ def decoded(stream: pikepdf.Stream, most: int) -> bytes:
     filters = filters_of(stream)
     if not filters:
         return raw
-    if filters[0] in FLATE and len(filters) == 1 and stream.get("/DecodeParms") is None:
+    if filters[0] in FLATE and len(filters) == 1 and "/DecodeParms" not in stream:
         try:
             return zlib.decompressobj().decompress(raw, most + 1)
         except zlib.error:
@@ -83,13 +83,16 @@ def decoded(stream: pikepdf.Stream, most: int) -> bytes:
 def filters_of(stream: pikepdf.Stream) -> List[str]:
     """The names of the filters of a stream."""
     it = stream.get("/Filter")
-    listed = list(it) if isinstance(it, pikepdf.Array) else [] if it is None else [it]
+    if isinstance(it, pikepdf.Name):
+        return [text_of(it)]
+    listed = list(it) if isinstance(it, pikepdf.Array) else []
     return [text_of(name) for name in listed if isinstance(name, pikepdf.Name)]
 
 
 def bytes_of(name: pikepdf.Name) -> bytes:
     """The bytes of a name, without the slash before it."""
-    return ESCAPED.sub(lambda digits: bytes.fromhex(digits[1].decode()), name.unparse()[1:])
+    written = name.unparse()[1:]
+    return ESCAPED.sub(lambda digits: bytes.fromhex(digits[1].decode()), written) if b"#" in written else written
 
 
 def text_of(name: pikepdf.Name) -> str:

@@ -1,6 +1,7 @@
 """Paths of files: lists of them, how they are printed, and how files are opened."""
 
 import errno
+import io
 import os
 import re
 import stat
@@ -9,6 +10,9 @@ from typing import BinaryIO, Iterable, List
 
 #: The standard input, where a list of paths is asked for.
 STANDARD_INPUT = "-"
+
+#: How many bytes a file may have that is read at once.
+MOST_IN_MEMORY = 1 << 26
 
 #: A byte of a path that is no UTF-8, as Python has it in a str.
 NO_UTF_8 = re.compile("[\udc80-\udcff]")
@@ -31,6 +35,11 @@ def opened(path: str) -> BinaryIO:
         file.close()
         raise OSError(errno.EINVAL, "not a regular file", path)
     return file
+
+
+def in_memory(file: BinaryIO) -> BinaryIO:
+    """The bytes of a file, unless they are many: pikepdf reads few at a time, for which the system takes longer."""
+    return io.BytesIO(file.read()) if os.fstat(file.fileno()).st_size <= MOST_IN_MEMORY else file
 
 
 def listed(path: str, end: bytes) -> List[str]:

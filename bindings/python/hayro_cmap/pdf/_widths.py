@@ -3,10 +3,11 @@
 Widths are in thousandths of a unit of text space, before the size of the font. A malformed array gives defaults.
 """
 
+import functools
 import itertools
 import re
 from decimal import Decimal
-from typing import TYPE_CHECKING, Any, Dict, Iterator, List, NamedTuple, Optional, Tuple, Union
+from typing import TYPE_CHECKING, Any, Callable, Dict, Iterator, List, NamedTuple, Optional, Sequence, Tuple, Union
 
 import pikepdf
 
@@ -24,7 +25,7 @@ from ._metrics import (
     TIMES_ITALIC,
     ZAPF_DINGBATS,
 )
-from ._objects import MALFORMED, dictionary_at, integer_at, name_at
+from ._objects import MALFORMED, dictionary_at, integer_at
 from ._programs import CIDS, glyphs_of_codes
 
 if TYPE_CHECKING:
@@ -56,8 +57,11 @@ NO_CID = -1
 #: What an array of numbers has: a number, an array, or None for anything else.
 Value = Union[None, float, List[Any]]
 
-#: An array as it is written, if it has nothing but direct numbers and arrays of these.
-PLAIN = re.compile(rb"\[[-+.0-9\[\] ]*\]")
+#: An array as it is written, if it has nothing but direct numbers, or also arrays of these; and what it has: an array,
+#: or numbers between arrays.
+NUMBERS = re.compile(rb"\[[-+.0-9 ]*\]")
+PLAIN = re.compile(rb"\[[-+.0-9 ]*(?:\[[-+.0-9 ]*\][-+.0-9 ]*)*\]")
+RUN = re.compile(rb"\[([^\[\]]*)\]|([^\[\]]+)")
 
 #: The widths of standard fonts, by what their names have: of the first row all of whose words a name has.
 STANDARD_FONTS: List[Tuple[Tuple[str, ...], Dict[str, int]]] = [
@@ -90,18 +94,19 @@ DEFAULT_VERTICAL = (880.0, -1000.0)
 
 
 class Widths:
-    """The widths of the glyphs of a font."""
+    """The widths of the glyphs of a font. `missing` gives that of the codes for which the table has None, once it is
+    asked for while the file is open."""
 
     def __init__(
         self,
-        table: List[float],
+        table: Sequence[Optional[float]],
         by_cid: Dict[int, float],
         default: float,
         verticals: Optional[Dict[int, Vertical]] = None,
         vertical_default: Tuple[float, float] = DEFAULT_VERTICAL,
+        missing: Callable[[], float] = float,
     ):
-        #: The widths of the codes 0 to 255 of a simple font; none of a composite one.
-        self.table = table
+        self._table, self._missing_of = table, missing
         #: The widths of the CIDs of a composite font, and that of all others.
         self.by_cid = by_cid
         self.default = default
@@ -114,18 +119,29 @@ class Widths:
     def of(cls, font: "Font") -> "Widths":
         """The widths of a font."""
         if not font.is_composite:
-            return cls(simple_widths(font), {}, DEFAULT_OF_CODE)
+            return cls(simple_widths(font), {}, DEFAULT_OF_CODE, missing=lambda: missing_width(font))
         descendant = pikepdf.Dictionary() if font.descendant is None else font.descendant
         default = number_at(descendant, "/DW", DEFAULT_OF_CID)
         by_cid = widths_of_cids(descendant, font.budget)
         verticals = verticals_of_cids(descendant, font.budget) if is_vertical(font) else None
         return cls([], by_cid, default, verticals, pair_of(descendant.get("/DW2"), DEFAULT_VERTICAL))
 
+    @functools.cached_property
+    def _missing(self) -> float:
+        """The width of a code that isn't in the table, which few fonts show."""
+        return self._missing_of()
+
+    @property
+    def table(self) -> List[float]:
+        """The widths of the codes 0 to 255 of a simple font; none of a composite one."""
+        return [self._missing if it is None else it for it in self._table]
+
     def advance(self, code: int, cid: Optional[int] = None) -> float:
         """By how much the glyph of a code, or of a CID of a composite font, moves on what is shown next in horizontal
         writing. A code without a CID has CID 0."""
-        if self.table:
-            return self.table[code] if code < len(self.table) else self.default
+        if self._table:
+            width = self._table[code] if code < len(self._table) else self.default
+            return self._missing if width is None else width
         return self.by_cid.get(cid or 0, self.default)
 
     def vertical(self, cid: Optional[int]) -> Vertical:
@@ -137,24 +153,30 @@ class Widths:
         return Vertical(advance, self.by_cid.get(cid or 0, self.default) / 2, y)
 
 
-def simple_widths(font: "Font") -> List[float]:
+def simple_widths(font: "Font") -> Sequence[Optional[float]]:
     """The widths of the codes 0 to 255 of a simple font: those that it gives, or else of its program, or of a standard
-    font of its name."""
+    font of its name. None stands for the width of missing ones."""
     return given_widths(font) or program_widths(font) or standard_widths(font)
 
 
-def given_widths(font: "Font") -> List[float]:
-    """The widths of the codes 0 to 255 by the array Widths of a simple font; none where it has no number."""
+def given_widths(font: "Font") -> List[Optional[float]]:
+    """The widths of the codes 0 to 255 by the array Widths of a simple font, with None for what it doesn't have; none
+    where it has no number."""
     given = numbers(font.dictionary.get("/Widths"))
     if not any(it is not None for it in given):
         return []
-    scale = 1000 * matrix_of(font) if font.subtype == "Type3" else 1
-    missing = number_at(dictionary_at(font.dictionary, "/FontDescriptor"), "/MissingWidth", 0.0)
-    table = [scale * missing] * 256
-    for code, width in enumerate(given, integer_at(font.dictionary, "/FirstChar")):
-        if 0 <= code < 256 and width is not None:
-            table[code] = scale * width
+    scale, first = scale_of(font), integer_at(font.dictionary, "/FirstChar")
+    row = given[max(-first, 0) : max(256 - first, 0)]
+    if scale != 1:
+        row = [None if it is None else scale * it for it in row]
+    table: List[Optional[float]] = [None] * 256
+    table[max(first, 0) : max(first, 0) + len(row)] = row
     return table
+
+
+def missing_width(font: "Font") -> float:
+    """The width of the codes of a simple font that its array Widths doesn't have (ISO 32000-1, 9.8.1)."""
+    return scale_of(font) * number_at(dictionary_at(font.dictionary, "/FontDescriptor"), "/MissingWidth", 0.0)
 
 
 def program_widths(font: "Font") -> List[float]:
@@ -178,23 +200,25 @@ def standard_widths(font: "Font") -> List[float]:
     return [default if name is None else float(of_names.get(name, default)) for name in names]
 
 
-def matrix_of(font: "Font") -> float:
-    """By how much the glyphs of a Type 3 font are scaled along a line (ISO 32000-1, 9.6.5)."""
+def scale_of(font: "Font") -> float:
+    """How many thousandths of a unit of text space a unit of widths is: of a Type 3 font its matrix says so (ISO
+    32000-1, 9.6.5)."""
+    if font.subtype != "Type3":
+        return 1.0
     matrix = numbers(font.dictionary.get("/FontMatrix"))
-    return matrix[0] if matrix and matrix[0] is not None else THOUSANDTH
+    return 1000 * (matrix[0] if matrix and matrix[0] is not None else THOUSANDTH)
 
 
 def is_vertical(font: "Font") -> bool:
     """Whether the encoding of a composite font is for vertical writing (ISO 32000-1, 9.7.5)."""
-    encoding = font.dictionary.get("/Encoding")
-    if isinstance(encoding, pikepdf.Stream) and integer_at(encoding, "/WMode") == WritingMode.VERTICAL:
+    kind = font.encoding_kind
+    if kind == "stream" and integer_at(font.dictionary.get("/Encoding"), "/WMode") == WritingMode.VERTICAL:
         return True
-    layers = [] if font.encoding.lenient is None else font.encoding.lenient.layers
-    modes = (it.metadata.writing_mode for it in layers)
+    modes = (it.metadata.writing_mode for it in font.encoding_layers)
     mode = next((it for it in modes if it is not None), None)
-    if mode is None and isinstance(encoding, pikepdf.Name):
+    if mode is None and kind == "name":
         # a predefined CMap that isn't at hand has its writing mode in its name
-        return (name_at(font.dictionary, "/Encoding") or "").endswith("V")
+        return (font.encoding_name or "").endswith("V")
     return mode is WritingMode.VERTICAL
 
 
@@ -202,7 +226,10 @@ def widths_of_cids(descendant: pikepdf.Dictionary, budget: Budget) -> Dict[int, 
     """The widths of the CIDs of the array W of a CIDFont."""
     found: Dict[int, float] = {}
     for first, row in runs_of(descendant.get("/W"), 1, budget):
-        found.update((cid, width) for cid, width in enumerate(row, first) if is_width(width) and 0 <= cid < CIDS)
+        widths = zip(range(first, CIDS), row)
+        if first < 0 or not are_widths(row):
+            widths = ((cid, width) for cid, width in widths if cid >= 0 and is_width(width))
+        found.update(widths)
     return found
 
 
@@ -246,6 +273,8 @@ def values_of(listed: Any) -> List[Value]:
         if not isinstance(listed, pikepdf.Array):
             return []
         written = listed.unparse()
+        if NUMBERS.fullmatch(written):
+            return list(map(float, written[1:-1].split()))
         if PLAIN.fullmatch(written):
             return values_in(written[1:-1])
         return [values_of(it) if isinstance(it, pikepdf.Array) else number(it) for it in list(listed)]
@@ -256,26 +285,28 @@ def values_of(listed: Any) -> List[Value]:
 def values_in(written: bytes) -> List[Value]:
     """The numbers and arrays of numbers that are written here. To make objects of each takes longer."""
     found: List[Value] = []
-    inner = found
-    for token in written.replace(b"[", b" [ ").replace(b"]", b" ] ").split():
-        if token == b"[":
-            inner = []
-            found.append(inner)
-        elif token == b"]":
-            inner = found
+    for array, row in RUN.findall(written):
+        if row:
+            found += map(float, row.split())
         else:
-            inner.append(float(token))
+            found.append(list(map(float, array.split())))
     return found
 
 
 def numbers(listed: Any) -> List[Optional[float]]:
     """The numbers of an array, with None for what is none, or is too large."""
-    return [it if is_width(it) else None for it in values_of(listed)]
+    found = values_of(listed)
+    return found if are_widths(found) else [it if is_width(it) else None for it in found]
 
 
 def is_width(value: Value) -> bool:
     """Whether a value is a number that isn't too large."""
     return isinstance(value, float) and abs(value) <= LARGEST
+
+
+def are_widths(values: List[Value]) -> bool:
+    """Whether all values are such numbers; not of no value. It takes less time than to look at each."""
+    return set(map(type, values)) == {float} and -LARGEST <= min(values) and max(values) <= LARGEST
 
 
 def pair_of(listed: Any, usual: Tuple[float, float]) -> Tuple[float, float]:
