@@ -34,38 +34,38 @@ no_text_in_row texts first code row are none from to =
 
 module _ (collection : Option (List Layer)) (firsts : List CodeRun) where
   -- CIDs of which none has a code with a text
-  silent_cids : (all : RunsByFront) (first limit : ℕ) → ((text : List ℕ) (one : Candidate) → GivesFirst collection firsts first limit text one → ⊥) → AddsCids collection firsts first limit all all
-  silent_cids all first limit none text one = (λ given. inl given, λ either. elim either [ inl given ↦ given | inr first ↦ absurd (none text one first) ])
+  silent_cids : (all : RunsByFront) (first limit : ℕ) → ((text : List ℕ) (candidate : Candidate) → GivesFirst collection firsts first limit text candidate → ⊥) → AddsCids collection firsts first limit all all
+  silent_cids all first limit none text candidate = (λ given. inl given, λ either. elim either [ inl given ↦ given | inr first ↦ absurd (none text candidate first) ])
 
   pub no_cids : (all : RunsByFront) (first : ℕ) → AddsCids collection firsts first first all all
-  no_cids all first = silent_cids all first first (λ text one given. let from = given.from in let below = given.below in omega arith)
+  no_cids all first = silent_cids all first first (λ text candidate given. let from = given.from in let below = given.below in omega arith)
 
   pub no_code : (all : RunsByFront) (first : ℕ) (stretch : KeyStretch) → IsKeyStretch firsts first stretch → stretch.first ≡ None → AddsCids collection firsts first (stretch.last + 1) all all
-  no_code all first stretch is none = silent_cids all first (stretch.last + 1) (λ text one given.
+  no_code all first stretch is none = silent_cids all first (stretch.last + 1) (λ text candidate given.
       let from = given.from in let below = given.below in
       let at : first + (given.cid - first) ≡ given.cid = omega arith in
-      none-some one (ap (option_map (as_ranked Collection)) (ap (option_map (ranked_after (given.cid - first))) (sym none) ∙ sym (is.codes (given.cid - first) (omega arith)) ∙ ap (first_at firsts) at) ∙ given.given))
+      none-some candidate (ap (option_map (as_ranked Collection)) (ap (option_map (ranked_after (given.cid - first))) (sym none) ∙ sym (is.codes (given.cid - first) (omega arith)) ∙ ap (first_at firsts) at) ∙ given.given))
 
   pub no_text : (all : RunsByFront) (first last : ℕ) (row : TextRow) → AreTexts (text_in collection) first row → row.text ≡ None → last ≤ row.last → AddsCids collection firsts first (last + 1) all all
-  no_text all first last row are none within = silent_cids all first (last + 1) (λ text one given.
+  no_text all first last row are none within = silent_cids all first (last + 1) (λ text candidate given.
       let from = given.from in let below = given.below in
       none-some given.has.its (sym (no_text_in_row (text_in collection) first given.cid row are none from (omega arith)) ∙ given.has.is_text))
 
   -- one CID after another
   pub more_cids : (old middle new : RunsByFront) (first next limit : ℕ) → first ≤ next → next ≤ limit → AddsCids collection firsts first next old middle → AddsCids collection firsts next limit middle new → AddsCids collection firsts first limit old new
-  more_cids old middle new first next limit le more before after text one = (
+  more_cids old middle new first next limit le more before after text candidate = (
     λ given.
-        elim ((after text one).0 given) [
-          | inl middle ↦ elim ((before text one).0 middle) [ inl oldest ↦ inl oldest | inr found ↦ inr (record { cid = found.cid; from = found.from; below = (let below = found.below in omega arith); given = found.given; has = found.has }) ]
+        elim ((after text candidate).0 given) [
+          | inl middle ↦ elim ((before text candidate).0 middle) [ inl oldest ↦ inl oldest | inr found ↦ inr (record { cid = found.cid; from = found.from; below = (let below = found.below in omega arith); given = found.given; has = found.has }) ]
           | inr found ↦ inr (record { cid = found.cid; from = (let from = found.from in omega arith); below = found.below; given = found.given; has = found.has })
         ],
     λ either.
         elim either [
-          | inl oldest ↦ (after text one).1 (inl ((before text one).1 (inl oldest)))
+          | inl oldest ↦ (after text candidate).1 (inl ((before text candidate).1 (inl oldest)))
           | inr found ↦
               elim (cases_lt found.cid next) [
-                | inl earlier ↦ (after text one).1 (inl ((before text one).1 (inr (record { cid = found.cid; from = found.from; below = earlier; given = found.given; has = found.has }))))
-                | inr from ↦ (after text one).1 (inr (record { cid = found.cid; from = from; below = found.below; given = found.given; has = found.has }))
+                | inl earlier ↦ (after text candidate).1 (inl ((before text candidate).1 (inr (record { cid = found.cid; from = found.from; below = earlier; given = found.given; has = found.has }))))
+                | inr from ↦ (after text candidate).1 (inr (record { cid = found.cid; from = from; below = found.below; given = found.given; has = found.has }))
               ]
         ],
   )
@@ -82,8 +82,8 @@ module _ (collection : Option (List Layer)) (firsts : List CodeRun) where
     text_there : (count : ℕ) → count ≤ further → text_in collection (first + count) ≡ Some (text_after (text_seen text) count)
     text_there count within = text_in_row (text_in collection) first count row text are has_text counts (omega arith)
 
-    first_of : (its : List ℕ) (one : Candidate) → IsFurther (text_seen text) begin further its one → GivesFirst collection firsts first (first + further + 1) its one
-    first_of its one at = record {
+    first_of : (its : List ℕ) (candidate : Candidate) → IsFurther (text_seen text) begin further its candidate → GivesFirst collection firsts first (first + further + 1) its candidate
+    first_of its candidate at = record {
       cid = first + at.count;
       from = omega arith;
       below = (let within = at.within in omega arith);
@@ -91,8 +91,8 @@ module _ (collection : Option (List Layer)) (firsts : List CodeRun) where
       has = record { its = text_after (text_seen text) at.count; is_text = text_there at.count at.within; characters = sym at.is_text };
     }
 
-    further_of : (its : List ℕ) (one : Candidate) → GivesFirst collection firsts first (first + further + 1) its one → IsFurther (text_seen text) begin further its one
-    further_of its one given =
+    further_of : (its : List ℕ) (candidate : Candidate) → GivesFirst collection firsts first (first + further + 1) its candidate → IsFurther (text_seen text) begin further its candidate
+    further_of its candidate given =
         let from = given.from in let below = given.below in
         let count = given.cid - first in
         let within : count ≤ further = omega arith in
@@ -101,11 +101,11 @@ module _ (collection : Option (List Layer)) (firsts : List CodeRun) where
           count = count;
           within = within;
           is_text = sym given.has.characters ∙ ap characters_of (same_Some given.has.its (text_after (text_seen text) count) (sym given.has.is_text ∙ ap (text_in collection) (sym at) ∙ text_there count within));
-          is_code = same_Some one (candidate_of (ranked_after count begin)) (sym given.given ∙ ap (λ n. option_map (as_ranked Collection) (first_at firsts n)) (sym at) ∙ code_there count within);
+          is_code = same_Some candidate (candidate_of (ranked_after count begin)) (sym given.given ∙ ap (λ n. option_map (as_ranked Collection) (first_at firsts n)) (sym at) ∙ code_there count within);
         }
 
     pub row_added : (old new : RunsByFront) → AddsTexts old new (text_seen text) begin further → AddsCids collection firsts first (first + further + 1) old new
-    row_added old new adds its one = (
-      λ given. elim ((adds its one).0 given) [ inl before ↦ inl before | inr at ↦ inr (first_of its one at) ],
-      λ either. elim either [ inl before ↦ (adds its one).1 (inl before) | inr found ↦ (adds its one).1 (inr (further_of its one found)) ],
+    row_added old new adds its candidate = (
+      λ given. elim ((adds its candidate).0 given) [ inl before ↦ inl before | inr at ↦ inr (first_of its candidate at) ],
+      λ either. elim either [ inl before ↦ (adds its candidate).1 (inl before) | inr found ↦ (adds its candidate).1 (inr (further_of its candidate found)) ],
     )

@@ -130,12 +130,12 @@ module _ (runs : List CodeRun) (key : ℕ) where
 -- ---- a list in the order of precedence
 module _ (runs firsts : List CodeRun) (are : All IsCodeRun firsts) (moved : IsPermutation runs firsts) (order : IsNonDecreasingBy precedence_of firsts) (key : ℕ) where
   -- a code that a run gives, by a run of the other list
-  given : (from to : List CodeRun) (one : Candidate) → IsPermutation from to → Any (Gives key one) from → Any (Gives key one) to
-  given from to one perm (k, run, lt, at, gives) = let (j, below, is) = Contains-permutation from to run perm (k, lt, at) in (j, run, below, is, gives)
+  given : (from to : List CodeRun) (candidate : Candidate) → IsPermutation from to → Any (Gives key candidate) from → Any (Gives key candidate) to
+  given from to candidate perm (k, run, lt, at, gives) = let (j, below, is) = Contains-permutation from to run perm (k, lt, at) in (j, run, below, is, gives)
 
   found : (last : Option CodeRun) → last_of run_span firsts key ≡ last → IsFirstGiven runs key (option_map candidate_of (option_map (λ run. code_at run key) last))
-  found None none = λ one gives.
-      let (k, run, lt, at, its) = given runs firsts one moved gives in
+  found None none = λ candidate gives.
+      let (k, run, lt, at, its) = given runs firsts candidate moved gives in
       no_run firsts key none k run (slice_get-get_or firsts k run lt ∙ ap Some at) its.0 its.1
   found (Some run) some =
       let last = last_run firsts key run some in

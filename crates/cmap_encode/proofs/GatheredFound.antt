@@ -36,21 +36,21 @@ zip_push R (a ∷ xs) [] x y zip holds = absurd zip
 zip_push R (a ∷ xs) (b ∷ ys) x y (first, rest) holds = (first, zip_push R xs ys x y rest holds)
 
 -- ---- an order of candidates
-pub no_later_itself : (one : Candidate) → IsNoLater one one
-no_later_itself one = inr (refl, not_after_itself one.bytes)
+pub no_later_itself : (candidate : Candidate) → IsNoLater candidate candidate
+no_later_itself candidate = inr (refl, not_after_itself candidate.bytes)
 
-pub no_later_chain : (one other last : Candidate) → IsNoLater one other → IsNoLater other last → IsNoLater one last
-no_later_chain one other last (inl less) (inl below) = inl (omega arith)
-no_later_chain one other last (inl less) (inr (same, more)) = inl (omega arith)
-no_later_chain one other last (inr (same, more)) (inl below) = inl (omega arith)
-no_later_chain one other last (inr (same, more)) (inr (also, rest)) = inr (same ∙ also, not_after_chain one.bytes other.bytes last.bytes more rest)
+pub no_later_chain : (candidate other last : Candidate) → IsNoLater candidate other → IsNoLater other last → IsNoLater candidate last
+no_later_chain candidate other last (inl less) (inl below) = inl (omega arith)
+no_later_chain candidate other last (inl less) (inr (same, more)) = inl (omega arith)
+no_later_chain candidate other last (inr (same, more)) (inl below) = inl (omega arith)
+no_later_chain candidate other last (inr (same, more)) (inr (also, rest)) = inr (same ∙ also, not_after_chain candidate.bytes other.bytes last.bytes more rest)
 
 -- the first of some is the first of more, where each of these comes after one of them
-pub first_of_more : (Some_of More : Candidate → Type 0) → ((one : Candidate) → Some_of one → More one) → ((one : Candidate) → More one → (first : Candidate) × Some_of first × IsNoLater first one) → (found : Option Candidate) → IsFirstAmong Some_of found → IsFirstAmong More found
-first_of_more Some_of More sound complete None none = λ one more. let (first, some, earlier) = complete one more in none first some
+pub first_of_more : (Some_of More : Candidate → Type 0) → ((candidate : Candidate) → Some_of candidate → More candidate) → ((candidate : Candidate) → More candidate → (first : Candidate) × Some_of first × IsNoLater first candidate) → (found : Option Candidate) → IsFirstAmong Some_of found → IsFirstAmong More found
+first_of_more Some_of More sound complete None none = λ candidate more. let (first, some, earlier) = complete candidate more in none first some
 first_of_more Some_of More sound complete (Some first) (some, least) = (
   sound first some,
-  λ other more. let (one, also, earlier) = complete other more in no_later_chain first one other (least one also) earlier,
+  λ other more. let (candidate, also, earlier) = complete other more in no_later_chain first candidate other (least candidate also) earlier,
 )
 
 -- ---- the code of a text
@@ -63,8 +63,8 @@ got_within [] n within none = omega arith
 got_within (x ∷ xs) zero within none = none-some x (sym none)
 got_within (x ∷ xs) (suc n) within none = got_within xs n (omega arith) none
 
-none_given : (key : ℕ) (one : Candidate) → Any (Gives key one) [] → ⊥
-none_given key one (k, run, within, is, gives) = omega arith
+none_given : (key : ℕ) (candidate : Candidate) → Any (Gives key candidate) [] → ⊥
+none_given key candidate (k, run, within, is, gives) = omega arith
 
 module _ (all : RunsByFront) (firsts : Vec (Option (Box (List CodeRun)))) (are : AreRunsByFront all) (zip : AllZip (λ (list : Vec CodeRun). AreFirstsOf list.items) all.lists.items firsts.items) where
   abbrev pub index : Index
@@ -87,10 +87,10 @@ module _ (all : RunsByFront) (firsts : Vec (Option (Box (List CodeRun)))) (are :
       by_number None has = none_given last
       by_number (Some number) has = by_list (slice_get all.lists.items number) (slice_get firsts.items number) (got_within all.lists.items number (are.within front number has)) (AllZip-left _ all.lists.items firsts.items zip number)
 
-  given_at_end : (front : List ℕ) (last : ℕ) (one : Candidate) → GivesText all (front ++ last ∷ []) one → Any (Gives last one) (runs_of all front)
-  given_at_end front last one given =
+  given_at_end : (front : List ℕ) (last : ℕ) (candidate : Candidate) → GivesText all (front ++ last ∷ []) candidate → Any (Gives last candidate) (runs_of all front)
+  given_at_end front last candidate given =
       let (fronts, lasts) = same_end front given.front last given.last given.is in
-      subst (λ f. Any (Gives last one) (runs_of all f)) (sym fronts) (subst (λ l. Any (Gives l one) (runs_of all given.front)) (sym lasts) given.given)
+      subst (λ f. Any (Gives last candidate) (runs_of all f)) (sym fronts) (subst (λ l. Any (Gives l candidate) (runs_of all given.front)) (sym lasts) given.given)
 
   nothing_before : (front : List ℕ) (last : ℕ) → [] ≡ front ++ last ∷ [] → ⊥
   nothing_before front last same = omega (arith, ap (λ (l : List ℕ). length l) same, length-append front (last ∷ []))
@@ -99,10 +99,10 @@ module _ (all : RunsByFront) (firsts : Vec (Option (Box (List CodeRun)))) (are :
   pub first_of_text : (text : List ℕ) → IsFirstAmong (GivesText all text) (option_map candidate_of (own_in index text))
   first_of_text text =
       elim (text_ends text) [
-        | inl empty ↦ subst (λ t. IsFirstAmong (GivesText all t) (option_map candidate_of (own_in index t))) (sym empty) (λ one given. nothing_before given.front given.last given.is)
+        | inl empty ↦ subst (λ t. IsFirstAmong (GivesText all t) (option_map candidate_of (own_in index t))) (sym empty) (λ candidate given. nothing_before given.front given.last given.is)
         | inr (front, last, is) ↦ subst (λ t. IsFirstAmong (GivesText all t) (option_map candidate_of (own_in index t))) (sym is)
             (subst (λ found. IsFirstAmong (GivesText all (front ++ last ∷ [])) (option_map candidate_of found)) (sym (own_at_end index front last))
-            (first_of_more (λ one. Any (Gives last one) (runs_of all front)) (GivesText all (front ++ last ∷ [])) (λ one given. record { front = front; last = last; is = refl; given = given }) (λ one given. (one, given_at_end front last one given, no_later_itself one))
+            (first_of_more (λ candidate. Any (Gives last candidate) (runs_of all front)) (GivesText all (front ++ last ∷ [])) (λ candidate given. record { front = front; last = last; is = refl; given = given }) (λ candidate given. (candidate, given_at_end front last candidate given, no_later_itself candidate))
             (option_map candidate_of (own_after index front last)) (first_after front last)))
       ]
 
@@ -113,25 +113,25 @@ module _ (maps : Maps) (gathered : Gathered) (new last : RunsByFront) (firsts : 
   short bytes whole = let few = (whole_length maps.font.encoding bytes whole).1 in inl (omega arith)
 
   -- ---- the first code of a glyph
-  first_silent : (cid : ℕ) (rank : Rank) (first : Option Ranked) (one : Candidate) → option_map (as_ranked rank) first ≡ Some one → IsFirstGiven gathered.cids.items cid (option_map candidate_of first) → (one.rank ≡ rank) × IsSilent maps cid one.bytes
-  first_silent cid rank None one given is = absurd (none-some one given)
-  first_silent cid rank (Some first) one given (among, least) =
-      let same : as_ranked rank first ≡ one = same_Some (as_ranked rank first) one given in
+  first_silent : (cid : ℕ) (rank : Rank) (first : Option Ranked) (candidate : Candidate) → option_map (as_ranked rank) first ≡ Some candidate → IsFirstGiven gathered.cids.items cid (option_map candidate_of first) → (candidate.rank ≡ rank) × IsSilent maps cid candidate.bytes
+  first_silent cid rank None candidate given is = absurd (none-some candidate given)
+  first_silent cid rank (Some first) candidate given (among, least) =
+      let same : as_ranked rank first ≡ candidate = same_Some (as_ranked rank first) candidate given in
       let (before, (its, silent)) = (all.silent cid (candidate_of first)).0 among in
       (ap (λ (c : Candidate). c.rank) (sym same), subst (λ (c : Candidate). IsSilent maps cid c.bytes) same silent)
 
-  key_below : (cid : ℕ) (one : Candidate) → Any (Gives cid one) gathered.cids.items → cid < 2 ^ 32
-  key_below cid one (k, run, within, at, (from, to, is)) = let keys = (subst IsCodeRun at (all.cids k run within)).keys in omega arith
+  key_below : (cid : ℕ) (candidate : Candidate) → Any (Gives cid candidate) gathered.cids.items → cid < 2 ^ 32
+  key_below cid candidate (k, run, within, at, (from, to, is)) = let keys = (subst IsCodeRun at (all.cids k run within)).keys in omega arith
 
   -- it comes no later than another code of the glyph
   first_before : (cid : ℕ) (bytes : List ℕ) (rank : Rank) → IsSilent maps cid bytes → (found : Option Ranked) → first_at firsts cid ≡ found → IsFirstGiven gathered.cids.items cid (option_map candidate_of found)
       → (first : Candidate) × (option_map (as_ranked rank) (first_at firsts cid) ≡ Some first) × IsNoLater first (record { bytes = bytes; rank = rank }) × (cid < 2 ^ 32)
   first_before cid bytes rank silent None at none = absurd (none (record { bytes = bytes; rank = Collection }) ((all.silent cid (record { bytes = bytes; rank = Collection })).1 (short bytes silent.whole, (refl, silent))))
   first_before cid bytes rank silent (Some first) at (among, least) =
-      let one : Candidate = record { bytes = bytes; rank = Collection } in
-      let given = (all.silent cid one).1 (short bytes silent.whole, (refl, silent)) in
+      let candidate : Candidate = record { bytes = bytes; rank = Collection } in
+      let given = (all.silent cid candidate).1 (short bytes silent.whole, (refl, silent)) in
       let (before, (its, is)) = (all.silent cid (candidate_of first)).0 among in
-      (as_ranked rank first, ap (option_map (as_ranked rank)) at, other_rank first bytes rank its (least one given), key_below cid one given)
+      (as_ranked rank first, ap (option_map (as_ranked rank)) at, other_rank first bytes rank its (least candidate given), key_below cid candidate given)
     where
       other_rank : (first : Ranked) (bytes : List ℕ) (rank : Rank) → first.rank ≡ Collection → IsNoLater (candidate_of first) (record { bytes = bytes; rank = Collection }) → IsNoLater (as_ranked rank first) (record { bytes = bytes; rank = rank })
       other_rank first bytes rank its (inl less) = absurd (omega (arith, ap place_of its))
@@ -139,49 +139,49 @@ module _ (maps : Maps) (gathered : Gathered) (new last : RunsByFront) (firsts : 
 
   -- ---- by the map from Unicode
   abbrev GivenByUnicode : List ℕ → Candidate → Type 0
-  GivenByUnicode text one = (unicode : Unicode) × (maps.unicode ≡ Some unicode) × GivesCharacter maps unicode firsts 0 0x110000 text one
+  GivenByUnicode text candidate = (unicode : Unicode) × (maps.unicode ≡ Some unicode) × GivesCharacter maps unicode firsts 0 0x110000 text candidate
 
-  last_adds : (text : List ℕ) (one : Candidate) → GivesText last text one ↔ (GivesText new text one ⊎ GivenByUnicode text one)
-  last_adds text one = by_unicode maps.unicode refl adds_last
+  last_adds : (text : List ℕ) (candidate : Candidate) → GivesText last text candidate ↔ (GivesText new text candidate ⊎ GivenByUnicode text candidate)
+  last_adds text candidate = by_unicode maps.unicode refl adds_last
     where
-      by_unicode : (found : Option Unicode) → maps.unicode ≡ found → MatchOption found (last ≡ new) (λ unicode. AddsGlyphs maps unicode firsts 0 0x110000 new last) → GivesText last text one ↔ (GivesText new text one ⊎ GivenByUnicode text one)
+      by_unicode : (found : Option Unicode) → maps.unicode ≡ found → MatchOption found (last ≡ new) (λ unicode. AddsGlyphs maps unicode firsts 0 0x110000 new last) → GivesText last text candidate ↔ (GivesText new text candidate ⊎ GivenByUnicode text candidate)
       by_unicode None is same = (
-        λ given. inl (subst (λ texts. GivesText texts text one) same given),
-        λ either. elim either [ inl given ↦ subst (λ texts. GivesText texts text one) (sym same) given | inr (unicode, some, given) ↦ absurd (none-some unicode (sym is ∙ some)) ],
+        λ given. inl (subst (λ texts. GivesText texts text candidate) same given),
+        λ either. elim either [ inl given ↦ subst (λ texts. GivesText texts text candidate) (sym same) given | inr (unicode, some, given) ↦ absurd (none-some unicode (sym is ∙ some)) ],
       )
       by_unicode (Some unicode) is added = (
-        λ given. elim ((added text one).0 given) [ inl before ↦ inl before | inr character ↦ inr (unicode, is, character) ],
+        λ given. elim ((added text candidate).0 given) [ inl before ↦ inl before | inr character ↦ inr (unicode, is, character) ],
         λ either.
             elim either [
-              | inl before ↦ (added text one).1 (inl before)
-              | inr (its, some, character) ↦ (added text one).1 (inr (subst (λ u. GivesCharacter maps u firsts 0 0x110000 text one) (same_Some its unicode (sym some ∙ is)) character))
+              | inl before ↦ (added text candidate).1 (inl before)
+              | inr (its, some, character) ↦ (added text candidate).1 (inr (subst (λ u. GivesCharacter maps u firsts 0 0x110000 text candidate) (same_Some its unicode (sym some ∙ is)) character))
             ],
       )
 
-  sound_unicode : (text : List ℕ) (one : Candidate) → GivenByUnicode text one → StandsFor maps text one.bytes one.rank
-  sound_unicode text one (unicode, some, given) =
+  sound_unicode : (text : List ℕ) (candidate : Candidate) → GivenByUnicode text candidate → StandsFor maps text candidate.bytes candidate.rank
+  sound_unicode text candidate (unicode, some, given) =
       elim given.chosen [
         | inl chosen ↦
-            let (rank, silent) = first_silent given.cid Canonical (first_at firsts given.cid) one chosen (are given.cid) in
-            subst (StandsFor maps text one.bytes) (sym rank) (canonical silent)
-        | inr (rank, silent, code) ↦ subst (StandsFor maps text one.bytes) (sym rank) (record { canonical = canonical silent; is_code = code })
+            let (rank, silent) = first_silent given.cid Canonical (first_at firsts given.cid) candidate chosen (are given.cid) in
+            subst (StandsFor maps text candidate.bytes) (sym rank) (canonical silent)
+        | inr (rank, silent, code) ↦ subst (StandsFor maps text candidate.bytes) (sym rank) (record { canonical = canonical silent; is_code = code })
       ]
     where
-      canonical : IsSilent maps given.cid one.bytes → IsCanonical maps text one.bytes
+      canonical : IsSilent maps given.cid candidate.bytes → IsCanonical maps text candidate.bytes
       canonical silent = record { unicode = unicode; has = some; character = given.character; is_text = given.is_text; cid = given.cid; glyph = given.glyph; silent = silent }
 
   -- ---- all that are given stand for the text
-  sound_texts : (text : List ℕ) (one : Candidate) → GivesText last text one → StandsFor maps text one.bytes one.rank
-  sound_texts text one given =
-      elim ((last_adds text one).0 given) [
+  sound_texts : (text : List ℕ) (candidate : Candidate) → GivesText last text candidate → StandsFor maps text candidate.bytes candidate.rank
+  sound_texts text candidate given =
+      elim ((last_adds text candidate).0 given) [
         | inl before ↦
-            elim ((adds text one).0 before) [
-              | inl stated ↦ let (limit, (rank, is)) = (all.stated text one).0 stated in subst (StandsFor maps text one.bytes) (sym rank) is
+            elim ((adds text candidate).0 before) [
+              | inl stated ↦ let (limit, (rank, is)) = (all.stated text candidate).0 stated in subst (StandsFor maps text candidate.bytes) (sym rank) is
               | inr found ↦
-                  let (rank, silent) = first_silent found.cid Collection (first_at firsts found.cid) one found.given (are found.cid) in
-                  subst (StandsFor maps text one.bytes) (sym rank) (record { cid = found.cid; silent = silent; has = found.has })
+                  let (rank, silent) = first_silent found.cid Collection (first_at firsts found.cid) candidate found.given (are found.cid) in
+                  subst (StandsFor maps text candidate.bytes) (sym rank) (record { cid = found.cid; silent = silent; has = found.has })
             ]
-        | inr by_unicode ↦ sound_unicode text one by_unicode
+        | inr by_unicode ↦ sound_unicode text candidate by_unicode
       ]
 
   -- ---- and for each that stands for it one is given that comes no later
@@ -194,11 +194,11 @@ module _ (maps : Maps) (gathered : Gathered) (new last : RunsByFront) (firsts : 
 
   first_text : (text bytes : List ℕ) (rank : Rank) → StandsFor maps text bytes rank → (first : Candidate) × GivesText last text first × IsNoLater first (record { bytes = bytes; rank = rank })
   first_text text bytes Stated is =
-      let one : Candidate = record { bytes = bytes; rank = Stated } in
-      (one, (last_adds text one).1 (inl ((adds text one).1 (inl ((all.stated text one).1 (short bytes is.whole, (refl, is)))))), no_later_itself one)
+      let candidate : Candidate = record { bytes = bytes; rank = Stated } in
+      (candidate, (last_adds text candidate).1 (inl ((adds text candidate).1 (inl ((all.stated text candidate).1 (short bytes is.whole, (refl, is)))))), no_later_itself candidate)
   first_text text bytes OwnForm is =
-      let one : Candidate = record { bytes = bytes; rank = OwnForm } in let canonical = is.canonical in
-      let given : GivesCharacter maps canonical.unicode firsts 0 0x110000 text one = record {
+      let candidate : Candidate = record { bytes = bytes; rank = OwnForm } in let canonical = is.canonical in
+      let given : GivesCharacter maps canonical.unicode firsts 0 0x110000 text candidate = record {
         character = canonical.character;
         from = omega arith;
         below = character_below canonical.unicode canonical.character canonical.cid canonical.glyph;
@@ -207,7 +207,7 @@ module _ (maps : Maps) (gathered : Gathered) (new last : RunsByFront) (firsts : 
         glyph = canonical.glyph;
         chosen = inr (refl, canonical.silent, is.is_code);
       } in
-      (one, (last_adds text one).1 (inr (canonical.unicode, canonical.has, given)), no_later_itself one)
+      (candidate, (last_adds text candidate).1 (inr (canonical.unicode, canonical.has, given)), no_later_itself candidate)
   first_text text bytes Canonical is =
       let (first, chosen, earlier, below) = first_before is.cid bytes Canonical is.silent (first_at firsts is.cid) refl (are is.cid) in
       let given : GivesCharacter maps is.unicode firsts 0 0x110000 text first = record {
@@ -225,4 +225,4 @@ module _ (maps : Maps) (gathered : Gathered) (new last : RunsByFront) (firsts : 
       (first, (last_adds text first).1 (inl ((adds text first).1 (inr (record { cid = is.cid; from = omega arith; below = below; given = chosen; has = is.has })))), earlier)
 
   pub texts_found : (index : Index) → ((text : List ℕ) → IsFirstAmong (GivesText last text) (option_map candidate_of (own_in index text))) → IsIndexOf maps index
-  texts_found index first = λ text. first_of_more (GivesText last text) (λ one. StandsFor maps text one.bytes one.rank) (sound_texts text) (λ one is. first_text text one.bytes one.rank is) (option_map candidate_of (own_in index text)) (first text)
+  texts_found index first = λ text. first_of_more (GivesText last text) (λ candidate. StandsFor maps text candidate.bytes candidate.rank) (sound_texts text) (λ candidate is. first_text text candidate.bytes candidate.rank is) (option_map candidate_of (own_in index text)) (first text)

@@ -57,17 +57,17 @@ is_none_so None is some = false≢true some
 is_none_so (Some x) is some = none-some x (sym is)
 
 module _ (maps : Maps) where
-  real_stated : (text : List ℕ) (one : Candidate) → IsStatedOne maps text one → IsString one.bytes × IsWhole maps.font.encoding one.bytes
-  real_stated text one (rank, is) = (is.string, is.whole)
+  real_stated : (text : List ℕ) (candidate : Candidate) → IsStatedOne maps text candidate → IsString candidate.bytes × IsWhole maps.font.encoding candidate.bytes
+  real_stated text candidate (rank, is) = (is.string, is.whole)
 
-  real_silent : (cid : ℕ) (one : Candidate) → IsSilentOne maps cid one → IsString one.bytes × IsWhole maps.font.encoding one.bytes
-  real_silent cid one (rank, is) = (is.string, is.whole)
+  real_silent : (cid : ℕ) (candidate : Candidate) → IsSilentOne maps cid candidate → IsString candidate.bytes × IsWhole maps.font.encoding candidate.bytes
+  real_silent cid candidate (rank, is) = (is.string, is.whole)
 
   -- ---- all codes of a length, and none
-  pub nothing_gathered : (gathered : Gathered) → ((text : List ℕ) (one : Candidate) → GivesText gathered.texts text one → ⊥) → ((cid : ℕ) (one : Candidate) → Any (Gives cid one) gathered.cids.items → ⊥) → ((text : List ℕ) → AreJust 1 0 (IsStatedOne maps text) (GivesText gathered.texts text)) × ((cid : ℕ) → AreJust 1 0 (IsSilentOne maps cid) (λ one. Any (Gives cid one) gathered.cids.items))
+  pub nothing_gathered : (gathered : Gathered) → ((text : List ℕ) (candidate : Candidate) → GivesText gathered.texts text candidate → ⊥) → ((cid : ℕ) (candidate : Candidate) → Any (Gives cid candidate) gathered.cids.items → ⊥) → ((text : List ℕ) → AreJust 1 0 (IsStatedOne maps text) (GivesText gathered.texts text)) × ((cid : ℕ) → AreJust 1 0 (IsSilentOne maps cid) (λ candidate. Any (Gives cid candidate) gathered.cids.items))
   nothing_gathered gathered no_text no_cid = (
     λ text. none_gathered maps.font.encoding (IsStatedOne maps text) (real_stated text) (GivesText gathered.texts text) (no_text text),
-    λ cid. none_gathered maps.font.encoding (IsSilentOne maps cid) (real_silent cid) (λ one. Any (Gives cid one) gathered.cids.items) (no_cid cid),
+    λ cid. none_gathered maps.font.encoding (IsSilentOne maps cid) (real_silent cid) (λ candidate. Any (Gives cid candidate) gathered.cids.items) (no_cid cid),
   )
 
   pub all_gathered : (len limit : ℕ) (gathered : Gathered) → 256 ^ len ≤ limit → AreGathered maps len limit gathered → AreGathered maps (len + 1) 0 gathered
@@ -75,7 +75,7 @@ module _ (maps : Maps) where
     texts = are.texts;
     cids = are.cids;
     stated = λ text. length_gathered maps.font.encoding (IsStatedOne maps text) (real_stated text) len limit (GivesText gathered.texts text) all (are.stated text);
-    silent = λ cid. length_gathered maps.font.encoding (IsSilentOne maps cid) (real_silent cid) len limit (λ one. Any (Gives cid one) gathered.cids.items) all (are.silent cid);
+    silent = λ cid. length_gathered maps.font.encoding (IsSilentOne maps cid) (real_silent cid) len limit (λ candidate. Any (Gives cid candidate) gathered.cids.items) all (are.silent cid);
   }
 
   -- ---- codes that stand for nothing
@@ -84,8 +84,8 @@ module _ (maps : Maps) where
   none_stand len limit more gathered later no_text no_cid are = record {
     texts = are.texts;
     cids = are.cids;
-    stated = λ text. none_more maps.font.encoding (IsStatedOne maps text) (real_stated text) len limit more later (GivesText gathered.texts text) (λ one between is. no_text text one.bytes between is.1) (are.stated text);
-    silent = λ cid. none_more maps.font.encoding (IsSilentOne maps cid) (real_silent cid) len limit more later (λ one. Any (Gives cid one) gathered.cids.items) (λ one between is. no_cid cid one.bytes between is.1) (are.silent cid);
+    stated = λ text. none_more maps.font.encoding (IsStatedOne maps text) (real_stated text) len limit more later (GivesText gathered.texts text) (λ candidate between is. no_text text candidate.bytes between is.1) (are.stated text);
+    silent = λ cid. none_more maps.font.encoding (IsSilentOne maps cid) (real_silent cid) len limit more later (λ candidate. Any (Gives cid candidate) gathered.cids.items) (λ candidate between is. no_cid cid candidate.bytes between is.1) (are.silent cid);
   }
 
   -- neither texts nor glyphs
@@ -138,15 +138,15 @@ module _ (maps : Maps) where
       begin = record { code = code; rank = rank }
 
       -- a code of the row
-      record IsRowCode (count : ℕ) (one : Candidate) : Type 0 where
-        pub string : IsString one.bytes
-        pub is_whole : IsWhole maps.font.encoding one.bytes
-        pub between : IsBetween len code.number (code.number + further + 1) one.bytes
-        pub number : big_endian one.bytes ≡ code.number + count
-        pub long : length one.bytes ≡ len
+      record IsRowCode (count : ℕ) (candidate : Candidate) : Type 0 where
+        pub string : IsString candidate.bytes
+        pub is_whole : IsWhole maps.font.encoding candidate.bytes
+        pub between : IsBetween len code.number (code.number + further + 1) candidate.bytes
+        pub number : big_endian candidate.bytes ≡ code.number + count
+        pub long : length candidate.bytes ≡ len
 
-      row_code : (count : ℕ) (one : Candidate) → count ≤ further → one ≡ candidate_of (ranked_after count begin) → IsRowCode count one
-      row_code count one within same =
+      row_code : (count : ℕ) (candidate : Candidate) → count ≤ further → candidate ≡ candidate_of (ranked_after count begin) → IsRowCode count candidate
+      row_code count candidate within same =
           let at = are_bytes_of code.len (code.number + count) (omega arith) in
           let bytes = code_bytes (code_after count code) in
           subst (IsRowCode count) (sym same) (record {
@@ -158,12 +158,12 @@ module _ (maps : Maps) where
           })
 
       -- its bytes are the only ones
-      its_code : (one : Candidate) → IsString one.bytes → IsBetween len code.number (code.number + further + 1) one.bytes → one.rank ≡ rank → one ≡ candidate_of (ranked_after (big_endian one.bytes - code.number) begin)
-      its_code one string (long, from, less) ranked =
-          let count = big_endian one.bytes - code.number in
+      its_code : (candidate : Candidate) → IsString candidate.bytes → IsBetween len code.number (code.number + further + 1) candidate.bytes → candidate.rank ≡ rank → candidate ≡ candidate_of (ranked_after (big_endian candidate.bytes - code.number) begin)
+      its_code candidate string (long, from, less) ranked =
+          let count = big_endian candidate.bytes - code.number in
           let at = are_bytes_of code.len (code.number + count) (omega arith) in
           let (some, few) = fits_length code.len in
-          let same : one.bytes ≡ code_bytes (code_after count code) = one_string (code_bytes (code_after count code)) one.bytes at.string string (omega (arith, at.count)) (omega (arith, at.count)) (omega (arith, at.count)) (omega (arith, at.writes)) in
+          let same : candidate.bytes ≡ code_bytes (code_after count code) = one_string (code_bytes (code_after count code)) candidate.bytes at.string string (omega (arith, at.count)) (omega (arith, at.count)) (omega (arith, at.count)) (omega (arith, at.writes)) in
           λ i. record { bytes = same i; rank = ranked i }
 
     -- ---- texts of the ToUnicode CMap
@@ -172,10 +172,10 @@ module _ (maps : Maps) where
       abbrev stated_begin : Ranked
       stated_begin = begin is fits further in_whole Stated
 
-      stated_of : (text : List ℕ) (one : Candidate) → IsFurther its stated_begin further text one → IsBetween len code.number (code.number + further + 1) one.bytes × IsStatedOne maps text one
-      stated_of text one at =
+      stated_of : (text : List ℕ) (candidate : Candidate) → IsFurther its stated_begin further text candidate → IsBetween len code.number (code.number + further + 1) candidate.bytes × IsStatedOne maps text candidate
+      stated_of text candidate at =
           let within = at.within in
-          let row = row_code is fits further in_whole Stated at.count one at.within at.is_code in (
+          let row = row_code is fits further in_whole Stated at.count candidate at.within at.is_code in (
             row.between,
             (
               ap (λ (c : Candidate). c.rank) at.is_code,
@@ -183,21 +183,21 @@ module _ (maps : Maps) where
                 string = row.string;
                 whole = row.is_whole;
                 has = record { its = text_after its at.count; is_text = ap (text_in maps.font.to_unicode) row.number ∙ texts at.count (omega arith); characters = sym at.is_text };
-                shown = subst (λ n. IsShown maps n (length one.bytes)) (sym row.number) (subst (IsShown maps (code.number + at.count)) (sym row.long) (shown at.count (omega arith)));
+                shown = subst (λ n. IsShown maps n (length candidate.bytes)) (sym row.number) (subst (IsShown maps (code.number + at.count)) (sym row.long) (shown at.count (omega arith)));
               },
             ),
           )
 
-      of_stated : (text : List ℕ) (one : Candidate) → IsBetween len code.number (code.number + further + 1) one.bytes → IsStatedOne maps text one → IsFurther its stated_begin further text one
-      of_stated text one (long, from, less) (rank, has) =
-          let count = big_endian one.bytes - code.number in
-          let at : code.number + count ≡ big_endian one.bytes = omega arith in
+      of_stated : (text : List ℕ) (candidate : Candidate) → IsBetween len code.number (code.number + further + 1) candidate.bytes → IsStatedOne maps text candidate → IsFurther its stated_begin further text candidate
+      of_stated text candidate (long, from, less) (rank, has) =
+          let count = big_endian candidate.bytes - code.number in
+          let at : code.number + count ≡ big_endian candidate.bytes = omega arith in
           let same = same_Some has.has.its (text_after its count) (sym has.has.is_text ∙ ap (text_in maps.font.to_unicode) (sym at) ∙ texts count (omega arith)) in
           record {
             count = count;
             within = omega arith;
             is_text = sym has.has.characters ∙ ap characters_of same;
-            is_code = its_code is fits further in_whole Stated one has.string (long, from, less) rank;
+            is_code = its_code is fits further in_whole Stated candidate has.string (long, from, less) rank;
           }
 
       pub texts_gathered : (old new : Gathered) → new.cids.items ≡ old.cids.items → AreRunsByFront new.texts → AddsTexts old.texts new.texts its stated_begin further → AreGathered maps len code.number old → AreGathered maps len (code.number + further + 1) new
@@ -205,25 +205,25 @@ module _ (maps : Maps) where
         texts = runs;
         cids = subst (λ cids. All IsCodeRun cids) (sym same) are.cids;
         stated = λ text. more_gathered maps.font.encoding (IsStatedOne maps text) (real_stated text) len code.number (code.number + further + 1) (omega arith) (GivesText old.texts text) (IsFurther its stated_begin further text) (GivesText new.texts text)
-            (adds text) (λ one. (stated_of text one, λ (between, has). of_stated text one between has)) (are.stated text);
-        silent = λ cid. none_more maps.font.encoding (IsSilentOne maps cid) (real_silent cid) len code.number (code.number + further + 1) (omega arith) (λ one. Any (Gives cid one) new.cids.items) (λ one between has. not_silent cid one between has)
-            (subst (λ cids. AreJust len code.number (IsSilentOne maps cid) (λ one. Any (Gives cid one) cids)) (sym same) (are.silent cid));
+            (adds text) (λ candidate. (stated_of text candidate, λ (between, has). of_stated text candidate between has)) (are.stated text);
+        silent = λ cid. none_more maps.font.encoding (IsSilentOne maps cid) (real_silent cid) len code.number (code.number + further + 1) (omega arith) (λ candidate. Any (Gives cid candidate) new.cids.items) (λ candidate between has. not_silent cid candidate between has)
+            (subst (λ cids. AreJust len code.number (IsSilentOne maps cid) (λ candidate. Any (Gives cid candidate) cids)) (sym same) (are.silent cid));
       }
         where
-          not_silent : (cid : ℕ) (one : Candidate) → IsBetween len code.number (code.number + further + 1) one.bytes → IsSilentOne maps cid one → ⊥
-          not_silent cid one (long, from, less) (rank, has) =
-              let at : code.number + (big_endian one.bytes - code.number) ≡ big_endian one.bytes = omega arith in
-              none-some (text_after its (big_endian one.bytes - code.number)) (sym has.silent ∙ ap (text_in maps.font.to_unicode) (sym at) ∙ texts (big_endian one.bytes - code.number) (omega arith))
+          not_silent : (cid : ℕ) (candidate : Candidate) → IsBetween len code.number (code.number + further + 1) candidate.bytes → IsSilentOne maps cid candidate → ⊥
+          not_silent cid candidate (long, from, less) (rank, has) =
+              let at : code.number + (big_endian candidate.bytes - code.number) ≡ big_endian candidate.bytes = omega arith in
+              none-some (text_after its (big_endian candidate.bytes - code.number)) (sym has.silent ∙ ap (text_in maps.font.to_unicode) (sym at) ∙ texts (big_endian candidate.bytes - code.number) (omega arith))
 
     -- ---- glyphs, where it has no texts
     module _ (is : whole.are_whole ≡ true) (fits : whole.last < 256 ^ len) (cid last further : ℕ) (in_whole : code.number + further ≤ whole.last) (in_last : code.number + further ≤ last)
         (none : HasNoTexts maps.font.to_unicode code.number last) (glyphs : HaveGlyphs maps len code.number last (CountOn cid)) (run : CodeRun) (first : run.first ≡ begin is fits further in_whole Collection) (start : run.range.start ≡ cid) (end : run.range.end ≡ cid + further) where
-      silent_of : (its : ℕ) (one : Candidate) → Gives its one run → IsBetween len code.number (code.number + further + 1) one.bytes × IsSilentOne maps its one
-      silent_of its one (from, to, is_one) =
+      silent_of : (its : ℕ) (candidate : Candidate) → Gives its candidate run → IsBetween len code.number (code.number + further + 1) candidate.bytes × IsSilentOne maps its candidate
+      silent_of its candidate (from, to, is_one) =
           let count = its - run.range.start in
           let within : count ≤ further = omega arith in
-          let same : one ≡ candidate_of (ranked_after count (begin is fits further in_whole Collection)) = is_one ∙ ap (λ ranked. candidate_of (ranked_after count ranked)) first in
-          let row = row_code is fits further in_whole Collection count one within same in
+          let same : candidate ≡ candidate_of (ranked_after count (begin is fits further in_whole Collection)) = is_one ∙ ap (λ ranked. candidate_of (ranked_after count ranked)) first in
+          let row = row_code is fits further in_whole Collection count candidate within same in
           let at : cid + count ≡ its = omega arith in (
             row.between,
             (
@@ -231,36 +231,36 @@ module _ (maps : Maps) where
               record {
                 string = row.string;
                 whole = row.is_whole;
-                silent = none (big_endian one.bytes) (omega (arith, row.number)) (omega (arith, row.number));
-                glyph = ap (glyph_of maps (big_endian one.bytes)) row.long ∙ ap (λ n. glyph_of maps n len) row.number ∙ glyphs count (omega arith) ∙ ap Some at;
+                silent = none (big_endian candidate.bytes) (omega (arith, row.number)) (omega (arith, row.number));
+                glyph = ap (glyph_of maps (big_endian candidate.bytes)) row.long ∙ ap (λ n. glyph_of maps n len) row.number ∙ glyphs count (omega arith) ∙ ap Some at;
               },
             ),
           )
 
-      of_silent : (its : ℕ) (one : Candidate) → IsBetween len code.number (code.number + further + 1) one.bytes → IsSilentOne maps its one → Gives its one run
-      of_silent its one (long, from, less) (rank, has) =
-          let count = big_endian one.bytes - code.number in
-          let at : code.number + count ≡ big_endian one.bytes = omega arith in
-          let key : its ≡ cid + count = same_Some its (cid + count) (sym has.glyph ∙ ap (glyph_of maps (big_endian one.bytes)) long ∙ ap (λ n. glyph_of maps n len) (sym at) ∙ glyphs count (omega arith)) in
+      of_silent : (its : ℕ) (candidate : Candidate) → IsBetween len code.number (code.number + further + 1) candidate.bytes → IsSilentOne maps its candidate → Gives its candidate run
+      of_silent its candidate (long, from, less) (rank, has) =
+          let count = big_endian candidate.bytes - code.number in
+          let at : code.number + count ≡ big_endian candidate.bytes = omega arith in
+          let key : its ≡ cid + count = same_Some its (cid + count) (sym has.glyph ∙ ap (glyph_of maps (big_endian candidate.bytes)) long ∙ ap (λ n. glyph_of maps n len) (sym at) ∙ glyphs count (omega arith)) in
           let back : count ≡ its - run.range.start = omega (arith, key) in (
             omega (arith, key),
             omega (arith, key),
-            its_code is fits further in_whole Collection one has.string (long, from, less) rank ∙ ap (λ k. candidate_of (ranked_after k (begin is fits further in_whole Collection))) back ∙ ap (λ ranked. candidate_of (ranked_after (its - run.range.start) ranked)) (sym first),
+            its_code is fits further in_whole Collection candidate has.string (long, from, less) rank ∙ ap (λ k. candidate_of (ranked_after k (begin is fits further in_whole Collection))) back ∙ ap (λ ranked. candidate_of (ranked_after (its - run.range.start) ranked)) (sym first),
           )
 
-      any_more : (cids : List CodeRun) (its : ℕ) (one : Candidate) → Any (Gives its one) (cids ++ run ∷ []) ↔ (Any (Gives its one) cids ⊎ Gives its one run)
-      any_more cids its one = (any_split (Gives its one) cids run, λ either. elim either [ inl before ↦ any_kept (Gives its one) cids (run ∷ []) before | inr here ↦ Any-push (Gives its one) cids run here ])
+      any_more : (cids : List CodeRun) (its : ℕ) (candidate : Candidate) → Any (Gives its candidate) (cids ++ run ∷ []) ↔ (Any (Gives its candidate) cids ⊎ Gives its candidate run)
+      any_more cids its candidate = (any_split (Gives its candidate) cids run, λ either. elim either [ inl before ↦ any_kept (Gives its candidate) cids (run ∷ []) before | inr here ↦ Any-push (Gives its candidate) cids run here ])
 
       pub cids_gathered : (old new : Gathered) → new.texts ≡ old.texts → new.cids.items ≡ old.cids.items ++ run ∷ [] → All IsCodeRun new.cids.items → AreGathered maps len code.number old → AreGathered maps len (code.number + further + 1) new
       cids_gathered old new same items runs are = record {
         texts = subst AreRunsByFront (sym same) are.texts;
         cids = runs;
-        stated = λ text. none_more maps.font.encoding (IsStatedOne maps text) (real_stated text) len code.number (code.number + further + 1) (omega arith) (GivesText new.texts text) (λ one between has. not_stated text one between has)
+        stated = λ text. none_more maps.font.encoding (IsStatedOne maps text) (real_stated text) len code.number (code.number + further + 1) (omega arith) (GivesText new.texts text) (λ candidate between has. not_stated text candidate between has)
             (subst (λ texts. AreJust len code.number (IsStatedOne maps text) (GivesText texts text)) (sym same) (are.stated text));
-        silent = λ its. subst (λ cids. AreJust len (code.number + further + 1) (IsSilentOne maps its) (λ one. Any (Gives its one) cids)) (sym items)
-            (more_gathered maps.font.encoding (IsSilentOne maps its) (real_silent its) len code.number (code.number + further + 1) (omega arith) (λ one. Any (Gives its one) old.cids.items) (λ one. Gives its one run) (λ one. Any (Gives its one) (old.cids.items ++ run ∷ []))
-            (any_more old.cids.items its) (λ one. (silent_of its one, λ (between, has). of_silent its one between has)) (are.silent its));
+        silent = λ its. subst (λ cids. AreJust len (code.number + further + 1) (IsSilentOne maps its) (λ candidate. Any (Gives its candidate) cids)) (sym items)
+            (more_gathered maps.font.encoding (IsSilentOne maps its) (real_silent its) len code.number (code.number + further + 1) (omega arith) (λ candidate. Any (Gives its candidate) old.cids.items) (λ candidate. Gives its candidate run) (λ candidate. Any (Gives its candidate) (old.cids.items ++ run ∷ []))
+            (any_more old.cids.items its) (λ candidate. (silent_of its candidate, λ (between, has). of_silent its candidate between has)) (are.silent its));
       }
         where
-          not_stated : (text : List ℕ) (one : Candidate) → IsBetween len code.number (code.number + further + 1) one.bytes → IsStatedOne maps text one → ⊥
-          not_stated text one (long, from, less) (rank, has) = none-some has.has.its (sym (none (big_endian one.bytes) from (omega arith)) ∙ has.has.is_text)
+          not_stated : (text : List ℕ) (candidate : Candidate) → IsBetween len code.number (code.number + further + 1) candidate.bytes → IsStatedOne maps text candidate → ⊥
+          not_stated text candidate (long, from, less) (rank, has) = none-some has.has.its (sym (none (big_endian candidate.bytes) from (omega arith)) ∙ has.has.is_text)

@@ -12,23 +12,23 @@ use Rattle.cmap_encode.proofs.CodesRead.{whole_length}
 use Rattle.cmap_encode.proofs.Numbers.{number_below}
 
 -- a kind of whole codes
-module _ (layers : List Layer) (Kind : Candidate → Type 0) (real : (one : Candidate) → Kind one → IsString one.bytes × IsWhole layers one.bytes) where
+module _ (layers : List Layer) (Kind : Candidate → Type 0) (real : (candidate : Candidate) → Kind candidate → IsString candidate.bytes × IsWhole layers candidate.bytes) where
   -- no code yet
-  pub none_gathered : (Given : Candidate → Type 0) → ((one : Candidate) → Given one → ⊥) → AreJust 1 0 Kind Given
-  none_gathered Given none one = (
-    λ given. absurd (none one given),
-    λ (before, is). absurd (no_bytes one before is),
+  pub none_gathered : (Given : Candidate → Type 0) → ((candidate : Candidate) → Given candidate → ⊥) → AreJust 1 0 Kind Given
+  none_gathered Given none candidate = (
+    λ given. absurd (none candidate given),
+    λ (before, is). absurd (no_bytes candidate before is),
   )
     where
-      no_bytes : (one : Candidate) → IsBefore 1 0 one.bytes → Kind one → ⊥
-      no_bytes one (inl shorter) is = omega (arith, (whole_length layers one.bytes (real one is).1).0)
-      no_bytes one (inr (long, less)) is = omega arith
+      no_bytes : (candidate : Candidate) → IsBefore 1 0 candidate.bytes → Kind candidate → ⊥
+      no_bytes candidate (inl shorter) is = omega (arith, (whole_length layers candidate.bytes (real candidate is).1).0)
+      no_bytes candidate (inr (long, less)) is = omega arith
 
   -- all codes of a length
   pub length_gathered : (len limit : ℕ) (Given : Candidate → Type 0) → 256 ^ len ≤ limit → AreJust len limit Kind Given → AreJust (len + 1) 0 Kind Given
-  length_gathered len limit Given all are one = (
-    λ given. let (before, is) = (are one).0 given in (longer one.bytes before, is),
-    λ (before, is). (are one).1 (old one.bytes (real one is).0 before, is),
+  length_gathered len limit Given all are candidate = (
+    λ given. let (before, is) = (are candidate).0 given in (longer candidate.bytes before, is),
+    λ (before, is). (are candidate).1 (old candidate.bytes (real candidate is).0 before, is),
   )
     where
       longer : (bytes : List ℕ) → IsBefore len limit bytes → IsBefore (len + 1) 0 bytes
@@ -56,27 +56,27 @@ module _ (layers : List Layer) (Kind : Candidate → Type 0) (real : (one : Cand
     either_before bytes (inr (long, less)) = elim (cases_lt (big_endian bytes) limit) [ inl before ↦ inl (inr (long, before)) | inr from ↦ inr (long, from, less) ]
 
     -- codes from the limit on, below a further one
-    pub more_gathered : (Given Row New : Candidate → Type 0) → ((one : Candidate) → New one ↔ (Given one ⊎ Row one)) → ((one : Candidate) → Row one ↔ (IsBetween len limit more one.bytes × Kind one)) → AreJust len limit Kind Given → AreJust len more Kind New
-    more_gathered Given Row New grows row are one = (
+    pub more_gathered : (Given Row New : Candidate → Type 0) → ((candidate : Candidate) → New candidate ↔ (Given candidate ⊎ Row candidate)) → ((candidate : Candidate) → Row candidate ↔ (IsBetween len limit more candidate.bytes × Kind candidate)) → AreJust len limit Kind Given → AreJust len more Kind New
+    more_gathered Given Row New grows row are candidate = (
       λ new.
-          elim ((grows one).0 new) [
-            | inl given ↦ let (before, is) = (are one).0 given in (still_before one.bytes before, is)
-            | inr added ↦ let (between, is) = (row one).0 added in (before_more one.bytes between, is)
+          elim ((grows candidate).0 new) [
+            | inl given ↦ let (before, is) = (are candidate).0 given in (still_before candidate.bytes before, is)
+            | inr added ↦ let (between, is) = (row candidate).0 added in (before_more candidate.bytes between, is)
           ],
       λ (before, is).
-          elim (either_before one.bytes before) [
-            | inl old ↦ (grows one).1 (inl ((are one).1 (old, is)))
-            | inr between ↦ (grows one).1 (inr ((row one).1 (between, is)))
+          elim (either_before candidate.bytes before) [
+            | inl old ↦ (grows candidate).1 (inl ((are candidate).1 (old, is)))
+            | inr between ↦ (grows candidate).1 (inr ((row candidate).1 (between, is)))
           ],
     )
 
     -- codes of which none is of the kind
-    pub none_more : (Given : Candidate → Type 0) → ((one : Candidate) → IsBetween len limit more one.bytes → Kind one → ⊥) → AreJust len limit Kind Given → AreJust len more Kind Given
-    none_more Given none are one = (
-      λ given. let (before, is) = (are one).0 given in (still_before one.bytes before, is),
+    pub none_more : (Given : Candidate → Type 0) → ((candidate : Candidate) → IsBetween len limit more candidate.bytes → Kind candidate → ⊥) → AreJust len limit Kind Given → AreJust len more Kind Given
+    none_more Given none are candidate = (
+      λ given. let (before, is) = (are candidate).0 given in (still_before candidate.bytes before, is),
       λ (before, is).
-          elim (either_before one.bytes before) [
-            | inl old ↦ (are one).1 (old, is)
-            | inr between ↦ absurd (none one between is)
+          elim (either_before candidate.bytes before) [
+            | inl old ↦ (are candidate).1 (old, is)
+            | inr between ↦ absurd (none candidate between is)
           ],
     )

@@ -19,11 +19,11 @@ code_at run key = ranked_after (key - run.range.start) run.first
 
 -- the run gives the code of these bytes to the key, with this rank
 abbrev pub Gives : ℕ → Candidate → CodeRun → Type 0
-Gives key one run = (run.range.start ≤ key) × (key ≤ run.range.end) × (one ≡ candidate_of (code_at run key))
+Gives key candidate run = (run.range.start ≤ key) × (key ≤ run.range.end) × (candidate ≡ candidate_of (code_at run key))
 
 -- of the codes that the runs give to the key, it is the first; or they give none
 abbrev pub IsFirstGiven : List CodeRun → ℕ → Option Candidate → Type 0
-IsFirstGiven runs key found = IsFirstAmong (λ one. Any (Gives key one) runs) found
+IsFirstGiven runs key found = IsFirstAmong (λ candidate. Any (Gives key candidate) runs) found
 
 -- the code that the last run gives that contains the key
 abbrev pub first_at : List CodeRun → ℕ → Option Ranked

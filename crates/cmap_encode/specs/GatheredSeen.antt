@@ -22,20 +22,20 @@ use Rattle.cmap_encode.specs.declared.runs_by_front.RunsByFront.{RunsByFront}
 
 -- those of a kind before a limit are given, and no others
 abbrev pub AreJust : ℕ → ℕ → (Candidate → Type 0) → (Candidate → Type 0) → Type 0
-AreJust len limit Kind Given = (one : Candidate) → Given one ↔ (IsBefore len limit one.bytes × Kind one)
+AreJust len limit Kind Given = (candidate : Candidate) → Given candidate ↔ (IsBefore len limit candidate.bytes × Kind candidate)
 
 abbrev pub IsStatedOne : Maps → List ℕ → Candidate → Type 0
-IsStatedOne maps text one = (one.rank ≡ Stated) × IsStated maps text one.bytes
+IsStatedOne maps text candidate = (candidate.rank ≡ Stated) × IsStated maps text candidate.bytes
 
 -- runs of silent codes by their glyphs all have the same rank
 abbrev pub IsSilentOne : Maps → ℕ → Candidate → Type 0
-IsSilentOne maps cid one = (one.rank ≡ Collection) × IsSilent maps cid one.bytes
+IsSilentOne maps cid candidate = (candidate.rank ≡ Collection) × IsSilent maps cid candidate.bytes
 
 pub record AreGathered (maps : Maps) (len limit : ℕ) (gathered : Gathered) : Type 0 where
   pub texts : AreRunsByFront gathered.texts
   pub cids : All IsCodeRun gathered.cids.items
   pub stated : (text : List ℕ) → AreJust len limit (IsStatedOne maps text) (GivesText gathered.texts text)
-  pub silent : (cid : ℕ) → AreJust len limit (IsSilentOne maps cid) (λ one. Any (Gives cid one) gathered.cids.items)
+  pub silent : (cid : ℕ) → AreJust len limit (IsSilentOne maps cid) (λ candidate. Any (Gives cid candidate) gathered.cids.items)
 
 -- the map has texts for codes from the first to the last one, which count on from this one
 abbrev pub HasTexts : Option (List Layer) → ℕ → ℕ → Text → Type 0
@@ -54,30 +54,30 @@ abbrev pub HaveGlyphs : Maps → ℕ → ℕ → ℕ → Glyphs → Type 0
 HaveGlyphs maps len first last glyphs = (count : ℕ) → first + count ≤ last → glyph_of maps (first + count) len ≡ glyph_after glyphs count
 
 -- it is the first code of a CID that has the text, from a first CID on and below a limit
-pub record GivesFirst (collection : Option (List Layer)) (firsts : List CodeRun) (first limit : ℕ) (text : List ℕ) (one : Candidate) : Type 0 where
+pub record GivesFirst (collection : Option (List Layer)) (firsts : List CodeRun) (first limit : ℕ) (text : List ℕ) (candidate : Candidate) : Type 0 where
   pub cid : ℕ
   pub from : first ≤ cid
   pub below : cid < limit
-  pub given : option_map (as_ranked Collection) (first_at firsts cid) ≡ Some one
+  pub given : option_map (as_ranked Collection) (first_at firsts cid) ≡ Some candidate
   pub has : HasText collection cid text
 
 -- the first codes of these CIDs are added
 abbrev pub AddsCids : Option (List Layer) → List CodeRun → ℕ → ℕ → RunsByFront → RunsByFront → Type 0
-AddsCids collection firsts first limit old new = (text : List ℕ) (one : Candidate) → GivesText new text one ↔ (GivesText old text one ⊎ GivesFirst collection firsts first limit text one)
+AddsCids collection firsts first limit old new = (text : List ℕ) (candidate : Candidate) → GivesText new text candidate ↔ (GivesText old text candidate ⊎ GivesFirst collection firsts first limit text candidate)
 
 -- a code for a character, from a first one on and below a limit, by its glyph: the first code of the glyph, or the code of the character in the form of the map from Unicode
-pub record GivesCharacter (maps : Maps) (unicode : Unicode) (firsts : List CodeRun) (first limit : ℕ) (text : List ℕ) (one : Candidate) : Type 0 where
+pub record GivesCharacter (maps : Maps) (unicode : Unicode) (firsts : List CodeRun) (first limit : ℕ) (text : List ℕ) (candidate : Candidate) : Type 0 where
   pub character : ℕ
   pub from : first ≤ character
   pub below : character < limit
   pub is_text : text ≡ character ∷ []
   pub cid : ℕ
   pub glyph : HasGlyph maps unicode character cid
-  pub chosen : (option_map (as_ranked Canonical) (first_at firsts cid) ≡ Some one) ⊎ ((one.rank ≡ OwnForm) × IsSilent maps cid one.bytes × (option_map code_bytes (code_in unicode.form character) ≡ Some one.bytes))
+  pub chosen : (option_map (as_ranked Canonical) (first_at firsts cid) ≡ Some candidate) ⊎ ((candidate.rank ≡ OwnForm) × IsSilent maps cid candidate.bytes × (option_map code_bytes (code_in unicode.form character) ≡ Some candidate.bytes))
 
 -- the codes for these characters are added
 abbrev pub AddsGlyphs : Maps → Unicode → List CodeRun → ℕ → ℕ → RunsByFront → RunsByFront → Type 0
-AddsGlyphs maps unicode firsts first limit old new = (text : List ℕ) (one : Candidate) → GivesText new text one ↔ (GivesText old text one ⊎ GivesCharacter maps unicode firsts first limit text one)
+AddsGlyphs maps unicode firsts first limit old new = (text : List ℕ) (candidate : Candidate) → GivesText new text candidate ↔ (GivesText old text candidate ⊎ GivesCharacter maps unicode firsts first limit text candidate)
 
 -- for all characters, if there is a map from Unicode
 abbrev pub AddsAllGlyphs : Maps → List CodeRun → RunsByFront → RunsByFront → Type 0

@@ -28,12 +28,12 @@ place_of Collection = 3
 
 -- the first candidate has a better rank than the second, or the same rank and bytes that come no later
 abbrev pub IsNoLater : Candidate → Candidate → Type 0
-IsNoLater one other = (place_of one.rank < place_of other.rank) ⊎ ((place_of one.rank ≡ place_of other.rank) × IsNotAfter one.bytes other.bytes)
+IsNoLater candidate other = (place_of candidate.rank < place_of other.rank) ⊎ ((place_of candidate.rank ≡ place_of other.rank) × IsNotAfter candidate.bytes other.bytes)
 
 -- of these candidates, it comes first; or there are none
 abbrev pub IsFirstAmong : (Candidate → Type 0) → Option Candidate → Type 0
 IsFirstAmong Among found = MatchOption found
-    ((one : Candidate) → Among one → ⊥)
+    ((candidate : Candidate) → Among candidate → ⊥)
     (λ first. Among first × ((other : Candidate) → Among other → IsNoLater first other))
 
 -- the code so many codes after this one

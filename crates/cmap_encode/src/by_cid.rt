@@ -1,5 +1,4 @@
-//! The codes of CIDs, by the texts that the map of a character collection gives these: those of the last
-//! rank.
+//! The codes of CIDs, by the texts that the map of a character collection gives these.
 
 ghost use Rattle.std.specs.Prelude.{◌^◌, ◌<◌, ◌≤◌, IfOk, OnOk};
 ghost use Rattle.std.specs.Option.{option_copied};

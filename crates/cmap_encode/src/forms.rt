@@ -34,13 +34,19 @@ impl Form {
     pub(crate) fn of(unicode: &Layers) -> Form
         ensures { IsFormOf unicode.now result }
     {
-        let number = 0;
-        let len = CodeLength::One;
-        if may_begin(unicode, Code { number, len }, 1) {
+        // prefixes of no bytes: any codespace range of the length has them
+        let one = Code {
+            number: 0,
+            len: CodeLength::One,
+        };
+        if may_begin(unicode, one, 1) {
             return Form::Utf8;
         }
-        let len = CodeLength::Two;
-        if may_begin(unicode, Code { number, len }, 2) {
+        let two = Code {
+            number: 0,
+            len: CodeLength::Two,
+        };
+        if may_begin(unicode, two, 2) {
             return Form::Utf16;
         }
         Form::Utf32
