@@ -3,6 +3,7 @@
 use cmap_files::failure::{Failure, fault};
 use cmap_files::inputs::{STANDARD_INPUT, needed};
 use cmap_files::path_text::is_plain;
+use std::str;
 
 /// The argument of `--codes` that stands for the strings of the standard input.
 pub(crate) const LISTED_STANDARD_INPUT: &str = "@-";
