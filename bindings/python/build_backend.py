@@ -1,16 +1,23 @@
 """Builds the wheel and the source archive of the package (PEP 517), by the standard library alone.
 
 The C library goes into the wheel where the environment variable HAYRO_CMAP_LIBRARY names it, or where it lies in the
-package's folder as libhayro_cmap.so. The wheel is then for Linux on x86-64, else for any system, and finds the library
-when it is imported. The version is that of the file VERSION, here in a source archive and else at the top of the
-project.
+package's folder as libhayro_cmap.so. A source archive has the crate of scripts/plain-rust --c-library, too: where there
+is no library and there is cargo, cargo makes it, for the system of this Python. A wheel with a library is for that
+system; one without it is for any, and finds the library when it is imported. The version is that of the file VERSION,
+here in a source archive and else at the top of the project.
 """
 
 import base64
 import hashlib
 import io
 import os
+import platform
+import shutil
+import subprocess
+import sys
+import sysconfig
 import tarfile
+import tempfile
 import time
 import zipfile
 from pathlib import Path
@@ -20,7 +27,9 @@ TOP = HERE if (HERE / "VERSION").exists() else HERE.parent.parent
 VERSION = (TOP / "VERSION").read_text().strip()
 LICENCES = ["LICENSE-APACHE", "LICENSE-MIT"]
 PACKAGE = "hayro_cmap"
-LIBRARY = "libhayro_cmap.so"
+# the name of the library, as cargo gives it and as the package looks for it
+LIBRARY = {"win32": "hayro_cmap.dll", "darwin": "libhayro_cmap.dylib"}.get(sys.platform, "libhayro_cmap.so")
+CRATE = "c-library"
 
 METADATA = f"""\
 Metadata-Version: 2.1
@@ -32,7 +41,7 @@ Requires-Python: >=3.8
 Provides-Extra: pdf
 Requires-Dist: pikepdf >= 6; extra == "pdf"
 Requires-Dist: fonttools; extra == "pdf"
-Classifier: Operating System :: POSIX :: Linux
+Classifier: Operating System :: OS Independent
 Classifier: Programming Language :: Python :: 3
 Classifier: Typing :: Typed
 Description-Content-Type: text/markdown
@@ -55,6 +64,41 @@ def library():
     asked = os.environ.get("HAYRO_CMAP_LIBRARY")
     beside = HERE / PACKAGE / LIBRARY
     return Path(asked) if asked else beside if beside.exists() else None
+
+
+def built_library(work):
+    """The path of the library that cargo makes in a folder of the crate in a source archive, or None."""
+    if not (HERE / CRATE).exists():
+        return None
+    if not shutil.which("cargo"):
+        print("hayro_cmap: no cargo, so the wheel has no library: it is looked for in the system", file=sys.stderr)
+        return None
+    shutil.copytree(HERE / CRATE, work / CRATE)
+    subprocess.run(["cargo", "build", "--release", "--offline", "--target-dir", work], cwd=work / CRATE, check=True)
+    # CARGO_BUILD_TARGET has a folder of its own
+    return next(path for path in [work / "release" / LIBRARY, *work.glob(f"*/release/{LIBRARY}")] if path.exists())
+
+
+def system_tag():
+    """The tag of a wheel for the system of this Python."""
+    system = os.environ.get("_PYTHON_HOST_PLATFORM") or sysconfig.get_platform()
+    # a library of cargo is for one kind of processor
+    system = system.replace("universal2", platform.machine())
+    return "py3-none-" + system.replace("-", "_").replace(".", "_")
+
+
+def crate_files():
+    """The names and the bytes of the crate of the C library, for a source archive."""
+    with tempfile.TemporaryDirectory() as name:
+        folder = HERE / CRATE
+        if not folder.exists():
+            folder = Path(name, CRATE)
+            sys.path.insert(0, str(TOP / "scripts"))
+            from plain_rust.crate import write_c_files, write_crate
+
+            write_crate(folder, write_c_files)
+        paths = sorted(path for path in folder.rglob("*") if path.is_file())
+        return {f"{CRATE}/{path.relative_to(folder).as_posix()}": path.read_bytes() for path in paths}
 
 
 def wheel_files(tag, shared):
@@ -92,16 +136,17 @@ def write_wheel(folder, files, tag):
         for path, data in files.items():
             entry = zipfile.ZipInfo(path, time.gmtime(written_at())[:6])
             entry.compress_type = zipfile.ZIP_DEFLATED
-            entry.external_attr = (0o100755 if path.endswith(".so") else 0o100644) << 16
+            entry.external_attr = (0o100755 if path.endswith(LIBRARY) else 0o100644) << 16
             archive.writestr(entry, data)
     return name
 
 
 def build_wheel(wheel_directory, config_settings=None, metadata_directory=None):
     """Writes the wheel, and gives its name."""
-    shared = library()
-    tag = "py3-none-linux_x86_64" if shared else "py3-none-any"
-    files, record = wheel_files(tag, shared)
+    with tempfile.TemporaryDirectory() as name:
+        shared = library() or built_library(Path(name))
+        tag = system_tag() if shared else "py3-none-any"
+        files, record = wheel_files(tag, shared)
     files[record] = record_of(files, record)
     return write_wheel(wheel_directory, files, tag)
 
@@ -115,6 +160,7 @@ def build_sdist(sdist_directory, config_settings=None):
     files.update({str(path.relative_to(HERE)): path.read_bytes() for path in [*sources(), *tests]})
     files.update({name: (TOP / name).read_bytes() for name in ["VERSION", *LICENCES]})
     files["PKG-INFO"] = metadata()
+    files.update(crate_files())
     with tarfile.open(Path(sdist_directory, f"{root}.tar.gz"), "w:gz") as archive:
         for path, data in files.items():
             entry = tarfile.TarInfo(f"{root}/{path}")

@@ -106,6 +106,8 @@ EXPORT = re.compile(
 )
 # what the libraries call of the C library, and what a linker adds to a shared one
 CALLED = {"free", "malloc", "memcpy", "memmove", "memset", "realloc"}
+# and those of plain Rust beside them
+CALLED |= {"abort", "bcmp", "memcmp"}
 ADDED = {"_ITM_deregisterTMCloneTable", "_ITM_registerTMCloneTable", "__cxa_finalize", "__gmon_start__"}
 
 

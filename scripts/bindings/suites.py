@@ -6,7 +6,7 @@ import sys
 
 from .checks import Failed, is_there, needs, run
 from .known import has_debian_files
-from .library import C_TESTS, CPP_TESTS, MEMCHECK, TOP
+from .library import C_TESTS, CPP_TESTS, MEMCHECK, NULL_TESTS, TOP
 
 CRATE = TOP / "bindings" / "rust"
 PACKAGE = TOP / "bindings" / "python"
@@ -84,6 +84,13 @@ def test_c_suite_under_memcheck(checks, setting):
     """Every block is freed, and no address is wrong."""
     ran = run(*MEMCHECK, setting.programs.path(C_TESTS))
     checks.ended("the tests in C under memcheck", ran, "ok\n")
+
+
+@needs("gcc")
+def test_c_nulls(checks, setting):
+    """Where a pointer is null, the library of plain Rust says that there is no answer."""
+    if setting.is_plain:
+        checks.ended("the tests of null in C", run(setting.programs.sanitized(NULL_TESTS)), "ok\n")
 
 
 @needs("g++")

@@ -184,6 +184,60 @@ fn blanks(alloc: Global, count: usize) -> Result<Vec<u8>, AllocError> {
     Vec::from_elem(alloc, b' ', (2 * count) as usize)
 }
 """),
+    ("a call for C, and clauses that lend", """
+use std::alloc::Global;
+
+/// The text.
+#[tactic(auto, using(crate::proofs::Texts::one))]
+#[unsafe(no_mangle)]
+pub extern "C" fn hayro_cmap_text<'a>(map: &'a mut Handle, alloc: Global, room: &mut [u8]) -> u32
+    ensures* rests { sem 𝓛 map.entry }
+    ensures same { map.new ≡ map.old }
+{
+    number(cause.to_string(alloc), str::from_utf8(text))
+}
+""", """
+use crate::fallible::Printed;
+use crate::fallible::alloc::Global;
+
+/// The text.
+pub fn hayro_cmap_text<'a>(map: &'a mut Handle, alloc: Global, room: &mut [u8]) -> u32 {
+    number(cause.to_string_in(alloc), core::str::from_utf8(text))
+}
+"""),
+    ("a struct for C", """
+/// A file.
+#[repr(C)]
+#[derive(Clone, Copy)]
+pub struct BaseFile<'a> {
+    pub(crate) name: &'a [u8],
+    pub(crate) len: usize,
+    /// The map.
+    pub ghost map: { Option Map } by { coded_option map.coded },
+}
+
+impl<'a> BaseFile<'a> {
+    fn name(&self) -> &'a [u8] {
+        first(self.name, self.len, self.name())
+    }
+}
+""", """
+use crate::fallible::Span;
+
+/// A file.
+#[repr(C)]
+#[derive(Clone, Copy)]
+pub struct BaseFile<'a> {
+    pub(crate) name: Span<'a>,
+    pub(crate) len: usize,
+}
+
+impl<'a> BaseFile<'a> {
+    fn name(&self) -> &'a [u8] {
+        first(self.name.bytes(), self.len, self.name())
+    }
+}
+"""),
     ("no word of a text or a comment", """
 // requires { nothing } of `Drop`, ghost
 const TEXT: &str = "ghost use std::io; ensures { ≡ }";
@@ -195,13 +249,78 @@ const BYTE: u8 = b'"';
 """),
 ]
 
+# the same of a program
+ERASED_PROGRAM = [
+    ("the system", """
+use std::env::{self, VarError};
+use std::io::{self, IsTerminal, Write};
+use std::process::ExitCode;
+
+fn main(rt: HostRuntime) -> ExitCode {
+    ExitCode::from(run(&rt))
+}
+""", """
+use crate::host::HostRuntime;
+use crate::host::env::{self, VarError};
+use std::io::{self, IsTerminal, Write};
+use std::process::ExitCode;
+
+fn main() -> ExitCode {
+    let rt = HostRuntime::of_process();
+    ExitCode::from(run(&rt))
+}
+"""),
+    ("texts that are printed", """
+fn say(rt: &HostRuntime, done: usize) -> Result<(), Failure> {
+    let text = format!(in rt.alloc(); "{done}, {}", f(1))?;
+    eprintln!(rt; "cmap: {text}")?;
+    Ok(eprint!(rt;
+        "{}",
+        done
+    )?)
+}
+""", """
+use crate::fallible::String;
+use crate::host::HostRuntime;
+
+fn say(rt: &HostRuntime, done: usize) -> Result<(), Failure> {
+    let text = String::from_fmt(rt.alloc(), format_args!("{done}, {}", f(1)))?;
+    rt.eprintln_fmt(format_args!("cmap: {text}"))?;
+    Ok(rt.eprint_fmt(format_args!(
+        "{}",
+        done
+    ))?)
+}
+"""),
+    ("what is newer than Rust 1.85", """
+fn why(name: &[u8]) -> ErrorKind {
+    match str::from_utf8(name) {
+        Ok(_) => ErrorKind::NotFound,
+        Err(_) => ErrorKind::InvalidFilename,
+    }
+}
+""", """
+fn why(name: &[u8]) -> ErrorKind {
+    match core::str::from_utf8(name) {
+        Ok(_) => ErrorKind::NotFound,
+        Err(_) => ErrorKind::InvalidInput,
+    }
+}
+"""),
+]
+
 # what it shows, a source, the line of the fault, and what is said
 REFUSED = [
+    ("the system in a library", "fn f(rt: &HostRuntime) {}\n", 1, "an unknown construct: HostRuntime"),
+    ("the files of the system in a library", "use std::fs;\n", 1, "an unknown path: std::fs"),
+    ("a union", "\nunion Both {\n    a: u8,\n}\n", 2, "an unknown construct: union"),
+    ("a text that is printed without the system", 'fn f() {\n    eprintln!("a");\n}\n', 2, "an unknown macro: eprintln!"),
     ("a destructor", "struct S;\n\nimpl Drop for S {\n    fn drop(self) {\n        f(&self);\n"
      "        let S {} = self;\n    }\n}\n", 3, "a `drop` that does more than to name the fields"),
     ("a `Drop` elsewhere", "use std::Drop;\n", 1, "a `Drop` that is no bound"),
     ("unsafe code", "fn f() {\n    unsafe { g() }\n}\n", 2, "an unknown construct: unsafe"),
-    ("an unknown attribute", "\n#[repr(C)]\nstruct S;\n", 2, "an unknown attribute: repr"),
+    ("an unknown attribute", "\n#[repr(u8)]\nenum E {}\n", 2, "an unknown attribute: repr"),
+    ("another call for C", "#[unsafe(no_mangle)]\nextern \"C\" fn f() {}\n", 1, "an unknown attribute: unsafe"),
     ("an unknown macro", "fn f() {\n    let v = vec![in alloc; 1]?;\n}\n", 2, "an unknown macro: vec!"),
     ("an unknown part of std", "use std::thread;\n", 1, "an unknown path: std::thread"),
     ("an unknown collection", "use std::collections::HashMap;\n", 1, "an unknown path: std::collections::HashMap"),

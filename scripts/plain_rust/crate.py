@@ -1,4 +1,4 @@
-"""The crate of plain Rust: which files it has, and where they come from."""
+"""The crates of plain Rust: which files they have, and where they come from."""
 
 import re
 import shutil
@@ -6,9 +6,12 @@ import shutil
 from programs import CRATES, TOP, and_below
 
 from .erasing import erased
+from .exports import exports_of
 from .source import Unknown
 
 BY_HAND = TOP / "bindings" / "plain-rust"
+# the crate of the C library
+C_BY_HAND = TOP / "bindings" / "plain-c"
 # the bindings over the C library have the same interface: types, and calls of others; tests and an example of them
 SHARED = TOP / "bindings" / "rust"
 SHARED_SOURCES = [
@@ -28,6 +31,9 @@ INLINED = {
     "cmap_tokens/src/utf16.rt": ["one_char"],
     "hayro_cmap/src/map.rt": ["lookup_bf_string", "next_code"],
 }
+# the crates with calls for C; and their files that are about pointers
+WITH_CALLS = ["cmap_c", "cmap_c_encoder", "cmap_c_maps", "cmap_c_writer"]
+POINTERS = ["cmap_c_encoder/src/slot.rt", "cmap_handles/src/slot.rt"]
 BESIDE = {name: f"crate::{name}" for name in (QUERIES, "hex")}
 
 
@@ -53,14 +59,15 @@ def erase_crate(crate, folder, root, paths):
         if made.exists():
             continue
         made.parent.mkdir(parents=True, exist_ok=True)
-        text = erased(path.relative_to(TOP), path.read_text(), paths)
-        made.write_text(with_inlined(text, INLINED.get(str(path.relative_to(CRATES)), [])))
+        name = str(path.relative_to(CRATES))
+        text = erased(path.relative_to(TOP), path.read_text(), paths, ["unsafe"] if name in POINTERS else [])
+        made.write_text(with_inlined(text, INLINED.get(name, [])))
 
 
-def write_reader(out):
-    """The sources of the reader, a module for each crate."""
+def write_reader(out, crates):
+    """The sources of crates, a module for each."""
     folder = out / "src" / "reader"
-    paths = {crate: f"crate::reader::{crate}" for crate in crates_of_reader()}
+    paths = {crate: f"crate::reader::{crate}" for crate in crates}
     for crate in paths:
         own = {"crate": paths[crate], "std": "crate::fallible", "itoa": "crate::fallible::itoa", **paths}
         erase_crate(crate, folder / crate, folder / f"{crate}.rs", own)
@@ -76,10 +83,32 @@ def write_rows(out):
     shutil.copy(CRATES / ROWS / "stdout", folder / "stdout")
 
 
-def write_crate(out):
-    """Makes the crate in a new folder; nothing where a construct is unknown."""
+def write_exports(out, crates):
+    """The root of the modules, and the calls for C."""
+    (out / "src" / "reader.rs").write_text("".join(f"pub(crate) mod {crate};\n" for crate in crates))
+    for crate in WITH_CALLS:
+        root = out / "src" / "reader" / f"{crate}.rs"
+        root.write_text(re.sub(r"^mod ", "pub(crate) mod ", root.read_text(), flags=re.M))
+    files = [path for crate in ["cmap_handles", *WITH_CALLS] for path in sorted((CRATES / crate / "src").rglob("*.rt"))]
+    (out / "src" / "exports.rs").write_text(exports_of(files))
+
+
+def write_c_files(out):
+    """The files of the crate of the C library."""
+    shutil.copytree(C_BY_HAND, out, ignore=shutil.ignore_patterns("target", "tests", "Cargo.lock"))
+    shutil.copytree(BY_HAND / "src" / "fallible", out / "src" / "fallible", dirs_exist_ok=True)
+    shutil.copy(BY_HAND / "rustfmt.toml", out / "rustfmt.toml")
+    for name in LICENSES:
+        shutil.copy(TOP / name, out / name)
+    crates = sorted({name for crate in WITH_CALLS for name in and_below(crate)})
+    write_reader(out, crates)
+    write_exports(out, crates)
+
+
+def write_crate(out, files=None):
+    """Makes a crate in a new folder, that of the reader or the one of `files`; nothing where a construct is unknown."""
     try:
-        write_files(out)
+        (files or write_files)(out)
     except Unknown:
         shutil.rmtree(out)
         raise
@@ -95,5 +124,5 @@ def write_files(out):
         shutil.copy(SHARED / "src" / f"{name}.rs", out / "src" / f"{name}.rs")
     for folder in ["tests", "examples"]:
         shutil.copytree(SHARED / folder, out / folder, dirs_exist_ok=True)
-    write_reader(out)
+    write_reader(out, crates_of_reader())
     write_rows(out)

@@ -7,32 +7,50 @@ sources use.
 
 from .source import Source
 
+# the system, which programs alone have
+HOST = "HostRuntime"
 # what no rule has erased, or what Rust means otherwise
-REFUSED = ["Drop", "HostRuntime", "Model", "async", "await", "cycle", "dyn", "ensures", "extern", "ghost", "invariant",
-           "macro_rules", "prove", "requires", "tactic", "union", "unsafe"]
+REFUSED = ["Drop", HOST, "Model", "async", "await", "cycle", "dyn", "ensures", "extern", "ghost", "invariant",
+           "macro_rules", "prove", "requires", "tactic", "unsafe"]
 ATTRIBUTES = ["cold", "default", "derive", "inline"]
-MACROS = ["matches", "unreachable", "write", "writeln"]
+LAYOUT = ["#", "[", "repr", "(", "C", ")", "]"]
+EXPORTED = ["#", "[", "unsafe", "(", "no_mangle", ")", "]", "pub", "extern"]
+MACROS = ["format_args", "matches", "unreachable", "value_parser", "write", "writeln"]
+# macros that are methods of the system
+PRINTING = ["eprint", "eprintln"]
 # modules of std that are in core, and those that are by hand, with the names that are there
-CORE = ["cell", "fmt", "marker", "mem", "ops", "str"]
-BY_HAND = {"alloc": ["AllocError", "AllocFailed", "Global"], "collections": ["BTreeMap", "BinaryHeap"]}
+CORE = ["cell", "fmt", "marker", "mem", "ops", "ptr", "str"]
+BY_HAND = {"alloc": ["AllocError", "AllocFailed", "Global"],
+           "collections": ["BTreeMap", "BTreeSet", "BinaryHeap", "VecDeque"], "rc": ["RcSlice"], "sync": ["Arc"]}
+# the modules of the system, by hand for programs alone, and those of Rust's std that are taken as they are
+HOSTED = ["env", "fs"]
+PLAIN = ["io", "process"]
+# what is newer than Rust 1.85: the path, and what does the same
+NEWER = {("str", "from_utf8"): ("core::str", "from_utf8"),
+         ("ErrorKind", "InvalidFilename"): ("ErrorKind", "InvalidInput")}
 PRELUDE = ["Box", "String", "Vec"]
 # methods with arguments that are by hand: the trait, and the name there
 METHODS = {"collect": ("CollectIn", "collect_in"), "split_off": ("TakeFront", "take_front"),
-           "try_map": ("TryEach", "try_each")}
+           "to_string": ("Printed", "to_string_in"), "try_map": ("TryEach", "try_each")}
 # and without
 BARE_METHODS = {"split_off_first": ("TakeFront", "take_one")}
+# what a field for C is that is a slice in the sources, and its path below that of `std`
+SPAN = "Span"
 
 
-def erased(path, text, paths):
-    """The text of a source file as Rust. `paths` says where a crate's items are in Rust, those of `crate` and `std` too."""
+def erased(path, text, paths, may=()):
+    """The text of a source file as Rust. `paths` says where a crate's items are in Rust, those of `crate` and `std` too,
+    and of a program those of `host`; `may` are words that are refused elsewhere, as `unsafe`."""
     source = Source(path, text)
-    for rule in (erase_models, erase_ghosts, erase_clauses, erase_attributes, erase_drops, erase_drop_bounds,
-                 erase_writers, erase_imports, plain_lists):
+    for rule in (erase_models, erase_ghosts, erase_clauses, erase_exports, erase_attributes, erase_drops,
+                 erase_drop_bounds, erase_writers, erase_imports, plain_lists, plain_fields, plain_texts, plain_main):
         rule(source)
-    refuse_unknown(source)
+    host = paths.get("host")
+    refuse_unknown(source, [*may, HOST] if host else may)
     plain_paths(source, paths)
-    plain_std(source, paths["std"])
-    add_imports(source, plain_methods(source), paths["std"])
+    plain_std(source, paths["std"], host)
+    plain_newer(source)
+    add_imports(source, plain_methods(source), paths["std"], host)
     return source.text()
 
 
@@ -43,6 +61,8 @@ def end_of_ghost(source, at):
     if source.tokens[at + 1].kind != "word" or source.word(at + 2) not in (":", "=") or source.word(at + 3) != "{":
         source.refuse(at, "an unknown ghost")
     end = source.closing(at + 3) + 1
+    if source.word(end) == "by":
+        end = source.closing(end + 1) + 1
     if source.word(end) not in (";", ",", "}"):
         source.refuse(at, "a ghost without an end")
     return end if source.word(end) == "}" else end + 1
@@ -76,7 +96,8 @@ def erase_clauses(source):
         while source.word(end) in (",", ")", "]"):
             start = end = source.find(end + 1, "requires", "ensures", "{", ";", "}", ")", "]", ",")
         while source.word(end) in ("requires", "ensures"):
-            braces = end + 1 if source.word(end + 1) == "{" else end + 2
+            name = end + 2 if source.word(end + 1) == "*" else end + 1
+            braces = name if source.word(name) == "{" else name + 1
             if source.word(braces) != "{":
                 source.refuse(end, "a clause without braces")
             end = source.closing(braces) + 1
@@ -94,6 +115,14 @@ def join_body(source, start, end):
     source.tokens[start].lead = lead
 
 
+def erase_exports(source):
+    """A call for C is a function of Rust: what C calls is made beside it, by `exports`."""
+    for at in source.indices("#"):
+        if source.words(at, *EXPORTED):
+            source.erase(at, at + 7)
+            source.erase(at + 1, at + 3)
+
+
 def erase_attributes(source):
     """The attributes for the prover; `Drop` among the derives."""
     for at in source.indices("#"):
@@ -102,7 +131,7 @@ def erase_attributes(source):
         end = source.closing(at + 1 + is_inner) + 1
         if name in ("tactic", "cycle"):
             (source.erase_item if is_inner else source.erase)(at, end)
-        elif name not in ATTRIBUTES:
+        elif name not in ATTRIBUTES and not source.words(at, *LAYOUT):
             source.refuse(at, f"an unknown attribute: {name}")
         elif source.words(at + 2, "derive", "(", "Drop", ")"):
             source.erase(at, end)
@@ -169,10 +198,11 @@ def erase_writers(source):
 
 
 def erase_imports(source):
-    """Imports that only what was erased has named."""
-    for name in ("Model", "Write"):
+    """Imports that only what was erased has named. A `Write` of `std::io` has methods, so its import stays."""
+    for name, module in (("Model", "marker"), ("Write", "fmt")):
         found = source.indices(name)
-        if len(found) != 1 or source.word(source.find_back(found[0], "use", ";", "}")) != "use":
+        start = source.find_back(found[0], "use", ";", "}") if len(found) == 1 else 0
+        if len(found) != 1 or source.word(start) != "use" or source.word(start + 3) != module:
             continue
         at = found[0]
         bracket = source.find_back(at, "{", "use")
@@ -198,12 +228,68 @@ def plain_lists(source):
         source.erase(at + 3, at + 4)
 
 
-def refuse_unknown(source):
+def plain_fields(source):
+    """A field of bytes of a struct for C, which C hands in as a pointer and a length: Rust's slice need not be that."""
+    for at in source.indices("#"):
+        if not source.words(at, *LAYOUT):
+            continue
+        start = source.find(at, "{")
+        names = [i - 1 for i in source.indices(":") if start < i < source.closing(start) and is_bytes(source, i + 1)]
+        for name in [source.word(i) for i in names]:
+            for use in source.indices(name):
+                if source.words(use - 2, "self", ".") and source.word(use + 1) != "(":
+                    source.tokens[use].text += ".bytes()"
+        for name in names:
+            for index, text in zip(range(name + 2, name + 5), [SPAN, "<" + source.word(name + 3), ">"]):
+                source.tokens[index].text = text
+            source.tokens[name + 4].lead = ""
+            source.erase(name + 5, name + 7)
+
+
+def is_bytes(source, at):
+    """Whether the type `&'a [u8]` stands there."""
+    return source.word(at) == "&" and source.tokens[at + 1].kind == "lifetime" and source.words(at + 2, "[", "u8", "]")
+
+
+def plain_texts(source):
+    """`format!(in alloc; ..)` is a call, and `eprintln!(rt; ..)` a method."""
+    for at in source.indices("format", *PRINTING):
+        if not source.words(at + 1, "!", "("):
+            continue
+        name, is_format = source.word(at), source.word(at + 3) == "in"
+        end, first = source.closing(at + 2), source.find(at + 3, ";", ")")
+        if first >= end or is_format != (name == "format") or not (is_format or first == at + 4):
+            continue
+        source.replace(end, end + 1, ")", ")")
+        source.tokens[first + 1].lead = source.tokens[first + 1].lead.lstrip(" ")
+        source.replace(first, first + 1, *([","] if is_format else []), *(["format_args", "!", "("]))
+        if is_format:
+            source.tokens[first + 1].lead = " "
+            source.replace(at, at + 4, "String", "::from_fmt", "(")
+            source.tokens[at + 3].lead = ""
+        else:
+            source.replace(at, at + 4, source.word(at + 3), ".", f"{name}_fmt", "(")
+
+
+def plain_main(source):
+    """`fn main(rt: HostRuntime)`: in Rust `main` asks for the system."""
+    for at in source.indices("main"):
+        if not source.words(at - 1, "fn", "main", "(", "rt", ":", HOST, ")"):
+            continue
+        source.erase(at + 2, at + 5)
+        body = source.find(at, "{")
+        source.replace(body, body + 1, "{", "let rt =", HOST, "::of_process();")
+        for token, lead in zip(source.tokens[body:], [" ", "\n    ", " "]):
+            token.lead = lead
+
+
+def refuse_unknown(source, may):
     """Stops at what isn't Rust, and at what Rust may mean otherwise."""
     for at, token in enumerate(source.tokens):
-        if token.kind == "text":
+        if token.kind == "text" or token.text in may:
             continue
-        if token.text in REFUSED or not token.text.isascii():
+        is_union = token.text == "union" and source.tokens[at + 1].kind == "word"
+        if is_union or token.text in REFUSED or not token.text.isascii():
             source.refuse(at, f"an unknown construct: {token.text}")
         is_macro = token.kind == "word" and source.word(at + 1) == "!" and not source.tokens[at + 1].lead
         if is_macro and source.word(at + 2) != "=" and token.text not in MACROS:
@@ -217,8 +303,8 @@ def plain_paths(source, paths):
             source.tokens[at].text = paths[source.word(at)]
 
 
-def plain_std(source, by_hand):
-    """`std::fmt` is `core::fmt`; what takes memory is by hand."""
+def plain_std(source, by_hand, host):
+    """`std::fmt` is `core::fmt`; what takes memory is by hand, and of a program what asks the system."""
     for at in source.indices("std"):
         if source.word(at + 1) != "::":
             continue
@@ -228,8 +314,20 @@ def plain_std(source, by_hand):
             source.tokens[at].text = "core"
         elif items and set(items) <= set(BY_HAND.get(modules[0], [])):
             source.tokens[at].text = by_hand
-        elif modules != ["io"]:
+        elif host and all(name in HOSTED for name in modules):
+            source.tokens[at].text = host
+        elif not all(name in (PLAIN if host else PLAIN[:1]) for name in modules):
             source.refuse(at, f"an unknown path: std::{'::'.join([*modules, *items])}")
+
+
+def plain_newer(source):
+    """Gives paths that are newer than the Rust of the crate names that it has; not where the module `str` is imported."""
+    if any(source.word(at - 1) in ("{", ",", "::") and source.word(at + 1) in ("}", ",", ";") for at in source.indices("str")):
+        return
+    for at in source.indices(*(front for front, _ in NEWER)):
+        path = (source.word(at), source.word(at + 2))
+        if source.word(at + 1) == "::" and source.word(at - 1) != "::" and path in NEWER:
+            source.tokens[at].text, source.tokens[at + 2].text = NEWER[path]
 
 
 def names_at(source, at):
@@ -251,14 +349,20 @@ def plain_methods(source):
     return traits
 
 
-def add_imports(source, traits, by_hand):
+def add_imports(source, traits, by_hand, host):
     """Imports what the prelude has and that of Rust's `core` hasn't, and the traits of methods."""
-    names = {source.word(at) for at in range(len(source.tokens))
+    words = {source.word(at) for at in range(len(source.tokens))
              if source.word(at - 1) != "::" and source.word(at + 1) != "("}
-    names = sorted(traits.union(names.intersection(PRELUDE)))
-    if not names:
-        return
+    if host and HOST in words:
+        add_import(source, [HOST], host)
+    names = sorted(traits.union(words.intersection([*PRELUDE, SPAN])))
+    if names:
+        add_import(source, names, by_hand)
+
+
+def add_import(source, names, front):
+    """Imports these names of a module."""
     at = next((at for at in range(len(source.tokens)) if source.word(at) == "use"), 0)
     at -= source.word(at - 1) == "pub"
     path = names[0] if len(names) == 1 else "{" + ", ".join(names) + "}"
-    source.insert(at, f"use {by_hand}::{path};", "\n" if source.word(at) in ("use", "pub") else "\n\n")
+    source.insert(at, f"use {front}::{path};", "\n" if source.word(at).split(" ")[0] in ("use", "pub") else "\n\n")

@@ -112,6 +112,13 @@ class Source:
         self.tokens[end].lead = kept + self.tokens[end].lead
         del self.tokens[first:end]
 
+    def replace(self, first, end, *texts):
+        """Puts words and marks in the place of the tokens from one on and before another."""
+        before = self.tokens[first]
+        made = [Token("word" if text[0].isalpha() else "mark", text, "", before.line) for text in texts]
+        made[0].lead = before.lead
+        self.tokens[first:end] = made
+
     def insert(self, at, text, space):
         """Inserts a text before a token, after the comments on the whole file, and this white space after it."""
         lead = self.tokens[at].lead

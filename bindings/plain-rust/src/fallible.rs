@@ -7,6 +7,7 @@ pub mod alloc;
 mod boxed;
 pub mod collections;
 pub(crate) mod itoa;
+pub mod rc;
 mod slices;
 mod sorting;
 mod string;
@@ -14,5 +15,5 @@ mod vec;
 
 pub use boxed::Box;
 pub use slices::{TakeFront, TryEach};
-pub use string::String;
+pub use string::{Printed, String};
 pub use vec::{CollectIn, Vec};

@@ -20,11 +20,12 @@ from ctypes import (
 )
 from pathlib import Path
 
-#: The name of the library in a system: its number is the first one of the project's version.
-SONAME = "libhayro_cmap.so.1"
-
-#: The file in the package's folder, where a wheel brings the library.
-IN_PACKAGE = "libhayro_cmap.so"
+#: The name of the library in a system, with the first number of the project's version; and that of the file in the
+#: package's folder, where a wheel brings the library.
+SONAME, IN_PACKAGE = {
+    "win32": ("hayro_cmap.dll", "hayro_cmap.dll"),
+    "darwin": ("libhayro_cmap.1.dylib", "libhayro_cmap.dylib"),
+}.get(sys.platform, ("libhayro_cmap.so.1", "libhayro_cmap.so"))
 
 # hayro_cmap_status
 OK, REFUSED, NO_MEMORY, OVER_BUDGET, NOT_A_BUNDLE, ABSENT, NO_ROOM = range(7)

@@ -22,6 +22,16 @@ impl<T> Box<T> {
             Err(_) => unreachable!("it has one item"),
         }
     }
+
+    /// The value in a list of one item of `alloc`, without a copy.
+    pub fn into_std(self) -> ::alloc::boxed::Box<[T; 1]> {
+        self.0
+    }
+
+    /// The value that is alone in a list of `alloc`, without a copy.
+    pub fn from_std(one: ::alloc::boxed::Box<[T; 1]>) -> Self {
+        Box(one)
+    }
 }
 
 impl<T: Debug> Debug for Box<T> {

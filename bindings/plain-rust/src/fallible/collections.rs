@@ -84,6 +84,21 @@ impl<K: Ord, V> BTreeMap<K, V> {
         }
     }
 
+    /// Takes a key out; the value that it had.
+    pub fn remove<Q: Ord + ?Sized>(&mut self, key: &Q) -> Option<V>
+    where
+        K: Borrow<Q>,
+    {
+        let index = self.part_of(key);
+        let part = self.parts.get_mut(index)?;
+        let at = part.binary_search_by(|(other, _)| other.borrow().cmp(key)).ok()?;
+        let (_, value) = part.remove(at);
+        if part.is_empty() {
+            self.parts.remove(index);
+        }
+        Some(value)
+    }
+
     /// The index of the part that has the key, if one has it.
     fn part_of<Q: Ord + ?Sized>(&self, key: &Q) -> usize
     where
@@ -117,6 +132,61 @@ fn part_with_room<'p, K: Ord, V>(
     let comes_last = last[0].0 <= *key;
     parts.insert(index + 1, last);
     Ok(&mut parts[index + usize::from(comes_last)])
+}
+
+/// Items, each once.
+pub struct BTreeSet<T>(BTreeMap<T, ()>);
+
+impl<T: Ord> BTreeSet<T> {
+    /// No item; it takes no memory.
+    pub fn new(alloc: Global) -> Self {
+        BTreeSet(BTreeMap::new(alloc))
+    }
+
+    /// Whether an item is there.
+    pub fn contains<Q: Ord + ?Sized>(&self, item: &Q) -> bool
+    where
+        T: Borrow<Q>,
+    {
+        self.0.contains_key(item)
+    }
+
+    /// Adds an item; whether it wasn't there.
+    pub fn insert(&mut self, item: T) -> Result<bool, AllocFailed<T>> {
+        match self.0.insert(item, ()) {
+            Ok(before) => Ok(before.is_none()),
+            Err(AllocFailed { value: (value, ()) }) => Err(AllocFailed { value }),
+        }
+    }
+}
+
+/// A queue with two ends.
+pub struct VecDeque<T>(collections::VecDeque<T>);
+
+impl<T> VecDeque<T> {
+    /// No item; it takes no memory.
+    pub fn new(_: Global) -> Self {
+        VecDeque(collections::VecDeque::new())
+    }
+
+    /// Adds an item at the end.
+    pub fn push_back(&mut self, value: T) -> Result<(), AllocFailed<T>> {
+        if self.0.try_reserve(1).is_err() {
+            return Err(AllocFailed { value });
+        }
+        self.0.push_back(value);
+        Ok(())
+    }
+
+    /// Takes the first item off.
+    pub fn pop_front(&mut self) -> Option<T> {
+        self.0.pop_front()
+    }
+
+    /// The first item.
+    pub fn front(&self) -> Option<&T> {
+        self.0.front()
+    }
 }
 
 #[cfg(test)]

@@ -1,4 +1,5 @@
 use crate::fallible::alloc::{AllocError, Global};
+use core::borrow::Borrow;
 use core::fmt::{self, Arguments, Debug, Display, Formatter, Write};
 use core::ops::Deref;
 
@@ -24,6 +25,18 @@ impl String {
         let mut copy = String::with_capacity(alloc, text.len())?;
         copy.0.push_str(text);
         Ok(copy)
+    }
+
+    /// A text of `alloc`, without a copy.
+    pub fn from_std(text: ::alloc::string::String) -> Self {
+        String(text)
+    }
+
+    /// What `format!` prints.
+    pub fn from_fmt(alloc: Global, printed: Arguments<'_>) -> Result<Self, AllocError> {
+        let mut text = String::new(alloc);
+        text.write_fmt(printed)?;
+        Ok(text)
     }
 
     /// The text.
@@ -65,6 +78,18 @@ impl String {
     }
 }
 
+/// `to_string` into a text.
+pub trait Printed: Display {
+    /// What the value prints.
+    fn to_string_in(&self, alloc: Global) -> Result<String, AllocError> {
+        let mut text = String::new(alloc);
+        text.write(self)?;
+        Ok(text)
+    }
+}
+
+impl<T: Display> Printed for T {}
+
 /// A text to which a formatter adds.
 struct Adding<'t>(&'t mut String);
 
@@ -79,6 +104,12 @@ impl Deref for String {
 
     #[inline]
     fn deref(&self) -> &str {
+        &self.0
+    }
+}
+
+impl Borrow<str> for String {
+    fn borrow(&self) -> &str {
         &self.0
     }
 }

@@ -22,6 +22,16 @@ impl<T> Vec<T> {
         Ok(items)
     }
 
+    /// A list of `alloc`, without a copy.
+    pub fn from_std(items: ::alloc::vec::Vec<T>) -> Self {
+        Vec(items)
+    }
+
+    /// The list as one of `alloc`, without a copy.
+    pub fn into_std(self) -> ::alloc::vec::Vec<T> {
+        self.0
+    }
+
     /// The items.
     #[inline]
     pub fn as_slice(&self) -> &[T] {
@@ -106,6 +116,15 @@ impl<T> Vec<T> {
     /// Drops the items from an index on.
     pub fn truncate(&mut self, len: usize) {
         self.0.truncate(len);
+    }
+
+    /// Sorts the items. Equal ones are in no order of their own.
+    pub fn sort(&mut self) -> Result<(), AllocError>
+    where
+        T: Ord,
+    {
+        self.0.sort_unstable();
+        Ok(())
     }
 
     /// Adds copies of a value at the end, or drops items there, so that there are `len`.

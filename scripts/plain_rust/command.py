@@ -1,0 +1,47 @@
+"""The package of the command in plain Rust: which files it has, and where they come from."""
+
+import re
+import shutil
+
+from programs import TOP, and_below
+
+from .crate import BY_HAND as LIBRARY
+from .crate import LICENSES, erase_crate
+
+BY_HAND = TOP / "bindings" / "plain-command"
+COMMAND = "cmap"
+# the crates of the kit whose interface is by hand, over the crates of the same names or without one
+KIT = ["clap", "hex", "serde_json", "ucd_category"]
+# the modules by hand
+MODULES = ["fallible", "host", "kit", "sources"]
+# proofs read some arguments alone, the library has more than the command, and the style is that of the sources
+ALLOWED = "#![allow(clippy::all, dead_code, unused_imports, unused_variables)]\n"
+
+
+def write_command(out):
+    """Makes the package in a new folder: the crates below the command are modules of one, the command is its root."""
+    shutil.copytree(BY_HAND, out, ignore=shutil.ignore_patterns("target", "Cargo.lock"))
+    for name in LICENSES:
+        shutil.copy(TOP / name, out / name)
+    source = out / "src"
+    shutil.copytree(LIBRARY / "src" / "fallible", source / "fallible")
+    shutil.copy(LIBRARY / "src" / "fallible.rs", source / "fallible.rs")
+    crates = sorted(and_below(COMMAND))
+    paths = {name: f"crate::sources::{name}" for name in crates if name != COMMAND}
+    known = {"std": "crate::fallible", "host": "crate::host", "itoa": "crate::fallible::itoa",
+             **{name: f"crate::kit::{name}" for name in KIT}, **paths}
+    for crate in paths:
+        own = {"crate": paths[crate], **known}
+        erase_crate(crate, source / "sources" / crate, source / "sources" / f"{crate}.rs", own)
+    modules = "".join(f"pub(crate) mod {name};\n" for name in paths)
+    (source / "sources.rs").write_text(f"//! The crates on which the command stands.\n\n{modules}")
+    erase_crate(COMMAND, source, source / "main.rs", {"crate": "crate", **known})
+    add_modules(source / "main.rs")
+
+
+def add_modules(root):
+    """Declares the modules by hand in the root."""
+    text = root.read_text()
+    declared = "".join(f"mod {name};\n" for name in MODULES)
+    front = f"\n#![forbid(unsafe_code)]\n{ALLOWED}\nextern crate alloc;\n\n{declared}"
+    root.write_text(re.sub(r"\A((?://![^\n]*\n)*)", lambda docs: docs[1] + front, text, count=1))

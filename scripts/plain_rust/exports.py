@@ -1,0 +1,101 @@
+"""The calls for C of the crates: functions that take C's pointers, and call those that are erased."""
+
+import re
+
+from programs import CRATES
+
+from .erasing import EXPORTED, LAYOUT
+from .source import Source
+
+# what a call gives where a pointer is null that must not be; a mode is a number, too
+NOTHING = {"u32": "ABSENT", "usize": "0", "bool": "false", "": ""}
+NO_MODE = {"hayro_cmap_writing_mode", "hayro_cmap_layer_writing_mode"}
+HEAD = """\
+//! The calls of `include/hayro_cmap.h`. Each checks for null, and calls the function of the same name.
+//!
+//! What is unsafe in them are the rules of the header, which nothing checks.
+
+use crate::fallible::alloc::Global;
+use crate::given::{ABSENT, NO_MODE, items, items_mut, one, one_mut};
+use crate::reader::*;
+"""
+
+
+def path_of(file):
+    """The module of a source file, below `reader`."""
+    inner = file.relative_to(CRATES).with_suffix("")
+    return "::".join(part for part in inner.parts if part not in ("src", "lib"))
+
+
+def structs_of(source, path):
+    """The structs of a file that C knows, with their modules."""
+    found = (source.find(at, "struct") for at in source.indices("#") if source.words(at, *LAYOUT))
+    return {source.word(at + 1): path for at in found}
+
+
+def parameters_of(source, at):
+    """The parameters of a function between the brackets at an index: their names and their types."""
+    end, found = source.closing(at), []
+    at += 1
+    while at < end:
+        comma = source.find(at + 2, ",", ")")
+        kind = "".join(token.lead.replace("\n", "") + token.text for token in source.tokens[at + 2:comma]).strip()
+        found.append((source.word(at), kind))
+        at = comma + 1
+    return found
+
+
+def in_place(kind, structs):
+    """A type with the module of its struct."""
+    name = kind.partition("<")[0]
+    return f"{structs[name]}::{kind}" if name in structs else kind
+
+
+class Parameter:
+    """A parameter of a call: what C hands in, what is made of it, and what may be missing."""
+
+    def __init__(self, name, kind, structs):
+        self.name, self.given, self.made = name, [], None
+        kind = kind.replace("<'a>", "<'_>")
+        if found := re.fullmatch(r"&(?:'\w+ )?(mut )?\[(.+)\]", kind):
+            self.given = [f"{name}: *{found[1] or 'const '}{in_place(found[2], structs)}", f"{name}_len: usize"]
+            self.made = f"items{'_mut' if found[1] else ''}({name}, {name}_len)"
+        elif found := re.fullmatch(r"&(mut )?(\w+(?:<'_>)?)", kind):
+            self.given = [f"{name}: *{found[1] or 'const '}{in_place(found[2], structs)}"]
+            self.made = f"one{'_mut' if found[1] else ''}({name})"
+        elif kind != "Global":
+            self.given = [f"{name}: {kind}"]
+        self.passed = "Global" if kind == "Global" else name
+
+
+def export_of(source, at, path, structs):
+    """What C calls for the function whose attribute stands at an index."""
+    name = source.word(at + 11)
+    first = source.find(at + 7, "(")
+    end = source.closing(first)
+    result = source.word(end + 2) if source.word(end + 1) == "->" else ""
+    parameters = [Parameter(*one, structs) for one in parameters_of(source, first)]
+    checked = [one for one in parameters if one.made]
+    given = ",\n    ".join(part for one in parameters for part in one.given)
+    nothing = "NO_MODE" if name in NO_MODE else NOTHING[result]
+    arrow = f" -> {result}" if result else ""
+    lines = [
+        "",
+        "#[unsafe(no_mangle)]",
+        f"pub unsafe extern \"C\" fn {name}(\n    {given},\n){arrow} {{",
+        f"    let ({', '.join(f'Some({one.name})' for one in checked)},) =",
+        f"        (unsafe {{ ({', '.join(one.made for one in checked)},) }})",
+        f"    else {{\n        return {nothing};\n    }};".replace("return ;", "return;"),
+        f"    {path}::{name}({', '.join(one.passed for one in parameters)})",
+        "}",
+    ]
+    return "\n".join(lines) + "\n"
+
+
+def exports_of(files):
+    """The text of the module with the calls of these files."""
+    sources = {path_of(file): Source(file, file.read_text()) for file in files}
+    structs = {name: at for path, source in sources.items() for name, at in structs_of(source, path).items()}
+    made = [export_of(source, at, path, structs) for path, source in sources.items()
+            for at in reversed(source.indices("#")) if source.words(at, *EXPORTED)]
+    return HEAD + "".join(made)
