@@ -3,15 +3,22 @@
 import re
 import shutil
 
-from programs import TOP, and_below
+from programs import CRATES, TOP, and_below
 
 from .crate import BY_HAND as LIBRARY
 from .crate import LICENSES, erase_crate
+from .source import Unknown
 
 BY_HAND = TOP / "bindings" / "plain-command"
 COMMAND = "cmap"
-# the crates of the kit whose interface is by hand, over the crates of the same names or without one
-KIT = ["clap", "hex", "serde_json", "ucd_category"]
+# the crates of the kit whose interface is by hand: over the crate of the same name, and the one of the rows
+KIT = ["clap", "hex"]
+HEX = LIBRARY / "tests" / "rows" / "hex.rs"
+# the licence of the table of hidden characters
+UNICODE = CRATES / "cmap_escape" / "LICENSE-UNICODE"
+# files with the version, and how it stands there
+VERSIONED = ["Cargo.toml", "Cargo.lock"]
+NO_VERSION = 'name = "cmap"\nversion = "0.0.0"\n'
 # the modules by hand
 MODULES = ["fallible", "host", "kit", "sources"]
 # proofs read some arguments alone, the library has more than the command, and the style is that of the sources
@@ -20,10 +27,13 @@ ALLOWED = "#![allow(clippy::all, dead_code, unused_imports, unused_variables)]\n
 
 def write_command(out):
     """Makes the package in a new folder: the crates below the command are modules of one, the command is its root."""
-    shutil.copytree(BY_HAND, out, ignore=shutil.ignore_patterns("target", "Cargo.lock"))
-    for name in LICENSES:
-        shutil.copy(TOP / name, out / name)
+    shutil.copytree(BY_HAND, out, ignore=shutil.ignore_patterns("target"))
+    for path in [*(TOP / name for name in LICENSES), UNICODE]:
+        shutil.copy(path, out / path.name)
+    for name in VERSIONED:
+        add_version(out / name)
     source = out / "src"
+    shutil.copy(HEX, source / "kit" / "hex.rs")
     shutil.copytree(LIBRARY / "src" / "fallible", source / "fallible")
     shutil.copy(LIBRARY / "src" / "fallible.rs", source / "fallible.rs")
     crates = sorted(and_below(COMMAND))
@@ -37,6 +47,14 @@ def write_command(out):
     (source / "sources.rs").write_text(f"//! The crates on which the command stands.\n\n{modules}")
     erase_crate(COMMAND, source, source / "main.rs", {"crate": "crate", **known})
     add_modules(source / "main.rs")
+
+
+def add_version(path):
+    """Writes the version of the project into a file of the package."""
+    text, version = path.read_text(), (TOP / "VERSION").read_text().strip()
+    if text.count(NO_VERSION) != 1:
+        raise Unknown(f"{path.name} has no place for the version")
+    path.write_text(text.replace(NO_VERSION, NO_VERSION.replace("0.0.0", version)))
 
 
 def add_modules(root):

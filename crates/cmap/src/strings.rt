@@ -80,8 +80,9 @@ fn add_list(rt: &HostRuntime, path: &str, strings: &mut Vec<Vec<u8>>) -> Result<
 
 /// The bytes that hexadecimal digits spell, two for each.
 pub(crate) fn spelled(rt: &HostRuntime, digits: &str) -> Result<Vec<u8>, Failure> {
-    match hex::decode(rt.alloc(), digits.as_bytes()) {
-        Ok(string) => Ok(string),
+    let mut string = vec![in rt.alloc(); 0; digits.len() / 2]?;
+    match hex::decode_to_slice(digits.as_bytes(), &mut string) {
+        Ok(()) => Ok(string),
         Err(_) => Err(fault(rt, digits, "not hexadecimal digits in pairs")),
     }
 }

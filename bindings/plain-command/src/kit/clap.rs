@@ -22,9 +22,9 @@ impl<'a> Command<'a> {
         Command(self.0.about(about), PhantomData)
     }
 
-    /// Its version.
-    pub fn version(self, version: &'static str) -> Self {
-        Command(self.0.version(version), PhantomData)
+    /// Its version, and that it is built of plain Rust.
+    pub fn version(self, version: &str) -> Self {
+        Command(self.0.version(&*format!("{version}, in plain Rust").leak()), PhantomData)
     }
 
     /// Whether it can't be without a subcommand.
@@ -55,7 +55,7 @@ impl<'a> Command<'a> {
     /// What these words ask for, the first of which is the name of the program.
     pub fn try_get_matches_from<'w>(self, words: &'w [String]) -> Result<ArgMatches<'w>, Error> {
         let words = words.iter().map(String::as_str);
-        Ok(ArgMatches::of(self.0.try_get_matches_from(words)?))
+        self.0.try_get_matches_from(words).map(ArgMatches::of)
     }
 }
 
