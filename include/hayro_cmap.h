@@ -8,8 +8,10 @@
  *         printf("%u\n", cid);
  *     hayro_cmap_free(&map);
  *
- * Every call is proved to return on any bytes, and docs/PROVED.md says what is proved of its answers.
- * Nothing checks that the caller keeps these rules:
+ * The library is one of two builds of the same sources, and `pkg-config --variable=build hayro_cmap` prints
+ * which: `proved`, of which every call is proved to return on any bytes, and docs/PROVED.md says what is
+ * proved of its answers; or `plain`, of plain Rust, of which the same is tested.
+ * Nothing checks that the caller keeps these rules, but for null pointers in the plain library:
  *
  * - A handle, of a map, a bundle or an encoder, begins as HAYRO_CMAP_EMPTY. Only the calls below change it.
  *   Other values, as a `full` that is neither 0 nor 1, are undefined behaviour.
@@ -24,6 +26,9 @@
  *   hayro_cmap_declaration or a hayro_cmap_facts. Where one may be null, hayro_cmap_bytes,
  *   hayro_cmap_files, hayro_cmap_room, hayro_cmap_declarations, hayro_cmap_chosen and hayro_cmap_shown
  *   give one to use in its place.
+ *   The plain library looks for null; in the proved one a null pointer is undefined behaviour. With the
+ *   length 0 null stands for no items, and in these three structs with any length. Where another pointer is
+ *   null, the call writes nothing, and gives HAYRO_CMAP_ABSENT, false, 0 or HAYRO_CMAP_NO_MODE by its type.
  *   Each points to as many items as its length says, aligned as their type requires; together they
  *   have no more than PTRDIFF_MAX bytes.
  * - A room, and what a pointer points to that a call only writes to (`cid`, `supplement`, `needed`,

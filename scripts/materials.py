@@ -1,4 +1,4 @@
-"""The bill of materials of what is installed, in SPDX 2.3: the project and the crates of the kit that are compiled in."""
+"""The bill of materials of what is installed, in SPDX 2.3: the project and the crates that are compiled in."""
 
 import hashlib
 import json
@@ -37,10 +37,14 @@ def package(name, version, licence):
     return entry | ({"versionInfo": version} if version else {})
 
 
-def bill(crates, kit, created):
-    """The text of the bill: `crates` are those of the kit with the files of their licences, `kit` its version."""
+def of_kit(crates, kit):
+    """The entries of crates of the kit, with the files of their licences; `kit` is its version."""
+    return [package(name, kit, licence_of(name, files)) for name, files in crates.items()]
+
+
+def bill(others, created):
+    """The text of the bill: `others` are the entries of what is compiled in."""
     own = package("hayro_cmap", VERSION, OWN_LICENCE)
-    others = [package(name, kit, licence_of(name, files)) for name, files in crates.items()]
     contained = [
         {"spdxElementId": own["SPDXID"], "relationshipType": "CONTAINS", "relatedSpdxElement": it["SPDXID"]}
         for it in others

@@ -1,10 +1,10 @@
 """Builds the wheel and the source archive of the package (PEP 517), by the standard library alone.
 
 The C library goes into the wheel where the environment variable HAYRO_CMAP_LIBRARY names it, or where it lies in the
-package's folder as libhayro_cmap.so. A source archive has the crate of scripts/plain-rust --c-library, too: where there
-is no library and there is cargo, cargo makes it, for the system of this Python. A wheel with a library is for that
-system; one without it is for any, and finds the library when it is imported. The version is that of the file VERSION,
-here in a source archive and else at the top of the project.
+package's folder as libhayro_cmap.so. A source archive has the crate of plain Rust, too: where there is no library and
+there is cargo, cargo builds it, for the system of this Python. A wheel with a library is for that system; one without it
+is for any, and finds the library when it is imported. The version is that of the file VERSION, here in a source archive
+and else at the top of the project.
 """
 
 import base64
@@ -67,7 +67,7 @@ def library():
 
 
 def built_library(work):
-    """The path of the library that cargo makes in a folder of the crate in a source archive, or None."""
+    """The path of the library that cargo builds in a folder, of the crate in a source archive, or None."""
     if not (HERE / CRATE).exists():
         return None
     if not shutil.which("cargo"):
@@ -88,15 +88,15 @@ def system_tag():
 
 
 def crate_files():
-    """The names and the bytes of the crate of the C library, for a source archive."""
+    """The names and the bytes of the crate of plain Rust, for a source archive."""
     with tempfile.TemporaryDirectory() as name:
         folder = HERE / CRATE
         if not folder.exists():
             folder = Path(name, CRATE)
             sys.path.insert(0, str(TOP / "scripts"))
-            from plain_rust.crate import write_c_files, write_crate
+            from plain_rust.workspace import C_LIBRARY, write_alone
 
-            write_crate(folder, write_c_files)
+            write_alone(folder, C_LIBRARY)
         paths = sorted(path for path in folder.rglob("*") if path.is_file())
         return {f"{CRATE}/{path.relative_to(folder).as_posix()}": path.read_bytes() for path in paths}
 

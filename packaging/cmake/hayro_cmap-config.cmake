@@ -1,5 +1,8 @@
 # The C library hayro_cmap, as find_package(hayro_cmap) finds it: hayro_cmap::shared and hayro_cmap::static.
 
+# `proved`, or `plain` for the library of plain Rust
+set(hayro_cmap_BUILD "@BUILD@")
+
 if(TARGET hayro_cmap::shared)
   return()
 endif()

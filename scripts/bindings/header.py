@@ -106,8 +106,8 @@ EXPORT = re.compile(
 )
 # what the libraries call of the C library, and what a linker adds to a shared one
 CALLED = {"free", "malloc", "memcpy", "memmove", "memset", "realloc"}
-# and those of plain Rust beside them
-CALLED |= {"abort", "bcmp", "memcmp"}
+# what that of plain Rust calls beside them
+CALLED_BY_PLAIN = {"abort", "bcmp", "memcmp"}
 ADDED = {"_ITM_deregisterTMCloneTable", "_ITM_registerTMCloneTable", "__cxa_finalize", "__gmon_start__"}
 
 
@@ -295,5 +295,6 @@ def test_libraries_show_the_calls_alone(checks, setting):
     checks.same("the names of the archive", sorted(public_names(setting.library.archive)), names)
     checks.same("the names of the shared library", sorted(public_names(setting.library.shared, "-D")), names)
     needed = run("nm", "-D", "--undefined-only", "--just-symbols", setting.library.shared).out.split()
-    beyond = {name.partition("@")[0] for name in needed} - CALLED - ADDED
+    called = CALLED | (CALLED_BY_PLAIN if setting.library.is_plain else set())
+    beyond = {name.partition("@")[0] for name in needed} - called - ADDED
     checks.same("what the shared library calls beyond the C library's memory", sorted(beyond), [])

@@ -28,6 +28,7 @@ class Library:
         self.folder = prefix / "lib"
         self.archive = self.folder / "libhayro_cmap.a"
         self.shared = self.folder / "libhayro_cmap.so"
+        self.is_plain = "\nbuild=plain\n" in (self.folder / "pkgconfig" / "hayro_cmap.pc").read_text()
 
     def pkg_config(self):
         """The flags by which a program is built over the shared library."""

@@ -4,6 +4,7 @@ import functools
 import re
 import sys
 
+from . import header
 from .checks import Failed, is_there, needs, run
 from .known import has_debian_files
 from .library import C_TESTS, CPP_TESTS, MEMCHECK, NULL_TESTS, TOP
@@ -46,13 +47,24 @@ class Package:
 
     @functools.cache
     def folder(self):
-        """Where pip has installed the package, with the library in it."""
+        """Where pip has installed the package, with the library in it; one of plain Rust cargo builds from a source archive."""
         folder = self.work / "python"
+        source, environment = PACKAGE, self.over_library()
+        if self.library.is_plain:
+            source, environment = self.source_archive(), {"HAYRO_CMAP_LIBRARY": ""}
         pip = [self.python, "-m", "pip", "install", "--quiet", "--no-build-isolation", "--no-index", "--no-deps"]
-        ran = run(*pip, "--target", folder, PACKAGE, **self.over_library())
+        ran = run(*pip, "--target", folder, source, **environment)
         if ran.status != 0:
             raise Failed(f"pip installs no package: {ran.err}")
         return folder
+
+    def source_archive(self):
+        """The source archive of the package."""
+        build = "import build_backend, sys; print(build_backend.build_sdist(sys.argv[1]))"
+        ran = run(self.python, "-B", "-c", build, self.work, folder=PACKAGE)
+        if ran.status != 0:
+            raise Failed(f"no source archive is made: {ran.err}")
+        return self.work / ran.out.strip()
 
     def over_library(self):
         """The variable that names the library."""
@@ -88,8 +100,11 @@ def test_c_suite_under_memcheck(checks, setting):
 
 @needs("gcc")
 def test_c_nulls(checks, setting):
-    """Where a pointer is null, the library of plain Rust says that there is no answer."""
-    if setting.is_plain:
+    """Where a pointer is null, the library of plain Rust says that there is no answer; each call is asked."""
+    if setting.library.is_plain:
+        asked = NULL_TESTS.read_text()
+        missing = [name for name in header.declarations() if not re.search(rf"{name}\([^;]*NULL", asked)]
+        checks.same("the calls without a test of null in C", missing, [])
         checks.ended("the tests of null in C", run(setting.programs.sanitized(NULL_TESTS)), "ok\n")
 
 

@@ -1,13 +1,11 @@
 """The package of the command in plain Rust: which files it has, and where they come from."""
 
-import re
 import shutil
 
 from programs import CRATES, TOP, and_below
 
 from .crate import BY_HAND as LIBRARY
-from .crate import LICENSES, erase_crate
-from .source import Unknown
+from .crate import after_docs, copy_licenses, erase_crate
 
 BY_HAND = TOP / "bindings" / "plain-command"
 COMMAND = "cmap"
@@ -16,9 +14,6 @@ KIT = ["clap", "hex"]
 HEX = LIBRARY / "tests" / "rows" / "hex.rs"
 # the licence of the table of hidden characters
 UNICODE = CRATES / "cmap_escape" / "LICENSE-UNICODE"
-# files with the version, and how it stands there
-VERSIONED = ["Cargo.toml", "Cargo.lock"]
-NO_VERSION = 'name = "cmap"\nversion = "0.0.0"\n'
 # the modules by hand
 MODULES = ["fallible", "host", "kit", "sources"]
 # proofs read some arguments alone, the library has more than the command, and the style is that of the sources
@@ -27,11 +22,9 @@ ALLOWED = "#![allow(clippy::all, dead_code, unused_imports, unused_variables)]\n
 
 def write_command(out):
     """Makes the package in a new folder: the crates below the command are modules of one, the command is its root."""
-    shutil.copytree(BY_HAND, out, ignore=shutil.ignore_patterns("target"))
-    for path in [*(TOP / name for name in LICENSES), UNICODE]:
-        shutil.copy(path, out / path.name)
-    for name in VERSIONED:
-        add_version(out / name)
+    shutil.copytree(BY_HAND, out, ignore=shutil.ignore_patterns("target", "Cargo.lock"))
+    copy_licenses(out)
+    shutil.copy(UNICODE, out / UNICODE.name)
     source = out / "src"
     shutil.copy(HEX, source / "kit" / "hex.rs")
     shutil.copytree(LIBRARY / "src" / "fallible", source / "fallible")
@@ -49,17 +42,8 @@ def write_command(out):
     add_modules(source / "main.rs")
 
 
-def add_version(path):
-    """Writes the version of the project into a file of the package."""
-    text, version = path.read_text(), (TOP / "VERSION").read_text().strip()
-    if text.count(NO_VERSION) != 1:
-        raise Unknown(f"{path.name} has no place for the version")
-    path.write_text(text.replace(NO_VERSION, NO_VERSION.replace("0.0.0", version)))
-
-
 def add_modules(root):
     """Declares the modules by hand in the root."""
-    text = root.read_text()
     declared = "".join(f"mod {name};\n" for name in MODULES)
-    front = f"\n#![forbid(unsafe_code)]\n{ALLOWED}\nextern crate alloc;\n\n{declared}"
-    root.write_text(re.sub(r"\A((?://![^\n]*\n)*)", lambda docs: docs[1] + front, text, count=1))
+    added = f"#![forbid(unsafe_code)]\n{ALLOWED}\nextern crate alloc;\n\n{declared}\n"
+    root.write_text(after_docs(added, root.read_text()))

@@ -1,4 +1,4 @@
-"""The crates of plain Rust: which files they have, and where they come from."""
+"""The crate of the reader in plain Rust: which files it has, and where they come from."""
 
 import re
 import shutil
@@ -6,12 +6,9 @@ import shutil
 from programs import CRATES, TOP, and_below
 
 from .erasing import erased
-from .exports import exports_of
 from .source import Unknown
 
 BY_HAND = TOP / "bindings" / "plain-rust"
-# the crate of the C library
-C_BY_HAND = TOP / "bindings" / "plain-c"
 # the bindings over the C library have the same interface: types, and calls of others; tests and an example of them
 SHARED = TOP / "bindings" / "rust"
 SHARED_SOURCES = [
@@ -31,8 +28,7 @@ INLINED = {
     "cmap_tokens/src/utf16.rt": ["one_char"],
     "hayro_cmap/src/map.rt": ["lookup_bf_string", "next_code"],
 }
-# the crates with calls for C; and their files that are about pointers
-WITH_CALLS = ["cmap_c", "cmap_c_encoder", "cmap_c_maps", "cmap_c_writer"]
+# files about the pointers of C
 POINTERS = ["cmap_c_encoder/src/slot.rt", "cmap_handles/src/slot.rt"]
 BESIDE = {name: f"crate::{name}" for name in (QUERIES, "hex")}
 
@@ -51,17 +47,27 @@ def with_inlined(text, names):
     return text
 
 
+def erased_file(path, paths):
+    """The text of a source file as Rust; only where it is about the pointers of C may it have unsafe code."""
+    name = str(path.relative_to(CRATES))
+    if name not in POINTERS:
+        return with_inlined(erased(path.relative_to(TOP), path.read_text(), paths), INLINED.get(name, []))
+    return after_docs("#![allow(unsafe_code)]\n\n", erased(path.relative_to(TOP), path.read_text(), paths, ["unsafe"]))
+
+
+def after_docs(added, text):
+    """The text of a file with lines after the comments on the whole file."""
+    return re.sub(r"\A((?://![^\n]*\n)*)\n*", lambda docs: docs[1] + "\n" * bool(docs[1]) + added, text, count=1)
+
+
 def erase_crate(crate, folder, root, paths):
     """Writes the sources of a crate into a folder, its root as `root`; what is there by hand stays."""
     for path in sorted((CRATES / crate / "src").rglob("*.rt")):
         inner = path.relative_to(CRATES / crate / "src").with_suffix(".rs")
         made = root if inner.name in ("lib.rs", "main.rs") and inner.parent.name == "" else folder / inner
-        if made.exists():
-            continue
-        made.parent.mkdir(parents=True, exist_ok=True)
-        name = str(path.relative_to(CRATES))
-        text = erased(path.relative_to(TOP), path.read_text(), paths, ["unsafe"] if name in POINTERS else [])
-        made.write_text(with_inlined(text, INLINED.get(name, [])))
+        if not made.exists():
+            made.parent.mkdir(parents=True, exist_ok=True)
+            made.write_text(erased_file(path, paths))
 
 
 def write_reader(out, crates):
@@ -83,42 +89,10 @@ def write_rows(out):
     shutil.copy(CRATES / ROWS / "stdout", folder / "stdout")
 
 
-def write_exports(out, crates):
-    """The root of the modules, and the calls for C."""
-    (out / "src" / "reader.rs").write_text("".join(f"pub(crate) mod {crate};\n" for crate in crates))
-    for crate in WITH_CALLS:
-        root = out / "src" / "reader" / f"{crate}.rs"
-        root.write_text(re.sub(r"^mod ", "pub(crate) mod ", root.read_text(), flags=re.M))
-    files = [path for crate in ["cmap_handles", *WITH_CALLS] for path in sorted((CRATES / crate / "src").rglob("*.rt"))]
-    (out / "src" / "exports.rs").write_text(exports_of(files))
-
-
-def write_c_files(out):
-    """The files of the crate of the C library."""
-    shutil.copytree(C_BY_HAND, out, ignore=shutil.ignore_patterns("target", "tests", "Cargo.lock"))
-    shutil.copytree(BY_HAND / "src" / "fallible", out / "src" / "fallible", dirs_exist_ok=True)
-    shutil.copy(BY_HAND / "rustfmt.toml", out / "rustfmt.toml")
-    for name in LICENSES:
-        shutil.copy(TOP / name, out / name)
-    crates = sorted({name for crate in WITH_CALLS for name in and_below(crate)})
-    write_reader(out, crates)
-    write_exports(out, crates)
-
-
-def write_crate(out, files=None):
-    """Makes a crate in a new folder, that of the reader or the one of `files`; nothing where a construct is unknown."""
-    try:
-        (files or write_files)(out)
-    except Unknown:
-        shutil.rmtree(out)
-        raise
-
-
-def write_files(out):
+def write_library(out):
     """The files by hand, those of the bindings over the C library, and the sources."""
     shutil.copytree(BY_HAND, out, ignore=shutil.ignore_patterns("target", "Cargo.lock", "compare"))
-    for name in LICENSES:
-        shutil.copy(TOP / name, out / name)
+    copy_licenses(out)
     shutil.copy(SHARED / README, out / README)
     for name in SHARED_SOURCES:
         shutil.copy(SHARED / "src" / f"{name}.rs", out / "src" / f"{name}.rs")
@@ -126,3 +100,9 @@ def write_files(out):
         shutil.copytree(SHARED / folder, out / folder, dirs_exist_ok=True)
     write_reader(out, crates_of_reader())
     write_rows(out)
+
+
+def copy_licenses(out):
+    """The licences of the project."""
+    for name in LICENSES:
+        shutil.copy(TOP / name, out / name)

@@ -1,9 +1,8 @@
 //! The C library of hayro_cmap, whose calls `include/hayro_cmap.h` describes.
 //!
 //! The modules below `reader` are the sources of the proved library, without their contracts; `exports` is made of their
-//! calls for C. By hand are `given`, `alone`, `fallible` and `reader::cmap_handles::loose`. Where a pointer is null that
-//! mustn't be, a call does nothing and gives HAYRO_CMAP_ABSENT, false, 0 or HAYRO_CMAP_NO_MODE. What panics ends the
-//! program.
+//! calls for C. By hand are `given`, `alone`, `fallible` and `reader::cmap_handles::loose`. Unsafe code is in the modules
+//! that allow it. A null pointer with a length other than 0 is a status. A panic ends the program.
 #![no_std]
 #![deny(unsafe_code)]
 
@@ -21,7 +20,7 @@ mod fallible;
 #[allow(unsafe_code)]
 mod given;
 // Proofs read some arguments alone, other crates of the project use some items, and the style is that of the sources.
-#[allow(clippy::all, dead_code, unsafe_code, unused_imports, unused_variables)]
+#[allow(clippy::all, dead_code, unused_imports, unused_variables)]
 mod reader;
 
 #[cfg(target_pointer_width = "16")]

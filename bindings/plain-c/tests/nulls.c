@@ -1,5 +1,5 @@
-/* What the library of plain Rust does where a pointer is null, which the header forbids: it changes nothing, and gives
- * HAYRO_CMAP_ABSENT, false, 0 or HAYRO_CMAP_NO_MODE. With a length of 0 null is as good as any pointer. */
+/* What the library of plain Rust does where a pointer is null: it changes nothing, and gives HAYRO_CMAP_ABSENT, false, 0
+ * or HAYRO_CMAP_NO_MODE. With a length of 0 null is as good as any pointer. */
 #include "hayro_cmap.h"
 #include <stdio.h>
 #include <string.h>
@@ -20,6 +20,7 @@ int main(void) {
     hayro_cmap_extracted extracted = {7, 7, 7};
     hayro_cmap_character character;
     hayro_cmap_code code;
+    hayro_cmap_finding finding;
     uint8_t room[64];
     uint16_t units[4];
     uint32_t cid = 7;
@@ -53,6 +54,13 @@ int main(void) {
     IS_ABSENT(hayro_cmap_explain(&other, data, len, &bundle, NULL, 0, HAYRO_CMAP_NO_BUDGET, &fault, room, 64, NULL));
     IS_ABSENT(hayro_cmap_salvage(&other, data, len, &bundle, NULL, 0, HAYRO_CMAP_NO_BUDGET, &fault, 1, NULL, room, 64, &needed));
     IS_ABSENT(hayro_cmap_message(NULL, room, 64, &needed));
+    IS_ABSENT(hayro_cmap_lint(NULL, data, len, false, NULL, 0, &finding, 1, &needed));
+    IS_ABSENT(hayro_cmap_lint(&map, NULL, len, false, NULL, 0, &finding, 1, &needed));
+    IS_ABSENT(hayro_cmap_lint(&map, data, len, false, NULL, 1, &finding, 1, &needed));
+    IS_ABSENT(hayro_cmap_lint(&map, data, len, false, NULL, 0, NULL, 1, &needed));
+    IS_ABSENT(hayro_cmap_lint(&map, data, len, false, NULL, 0, &finding, 1, NULL));
+    IS_ABSENT(hayro_cmap_warning_name(1, NULL, 64, &needed));
+    IS_ABSENT(hayro_cmap_warning_name(1, room, 64, NULL));
     IS_ABSENT(hayro_cmap_open(NULL, data, 1, &bundle, NULL, 0, HAYRO_CMAP_NO_BUDGET));
     IS_ABSENT(hayro_cmap_uses(data, len, NULL, NULL, 0, &made, room, 64, &needed));
     IS_ABSENT(hayro_cmap_bundle_open(NULL, data, len));

@@ -1,5 +1,7 @@
 //! A box as its pointer.
 
+#![allow(unsafe_code)]
+
 use crate::fallible::Box;
 use crate::fallible::alloc::Global;
 use core::ptr::NonNull;

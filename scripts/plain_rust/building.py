@@ -1,0 +1,72 @@
+"""How cargo builds the C library and the command of plain Rust, and what is compiled into them."""
+
+import json
+import re
+import shutil
+import subprocess
+from pathlib import Path
+
+from materials import package
+from programs import TOP
+
+from .workspace import C_LIBRARY, write_workspace
+
+ARCHIVE, SHARED = "libhayro_cmap.a", "libhayro_cmap.so"
+# what of Rust's standard library is compiled in
+RUST = ["alloc", "compiler_builtins", "core", "std"]
+LICENCES = ("COPYING", "COPYRIGHT", "LICENSE", "UNLICENSE")
+
+
+class Workspace:
+    """The workspace with these members in a folder, and what cargo builds of it for a target, by default this system."""
+
+    def __init__(self, work, members, target=None):
+        self.work, self.folder, self.members, self.target = work, work / "workspace", members, target
+        write_workspace(self.folder, members)
+
+    def build(self):
+        """Builds the members; the folder of what is built. A library alone needs nothing from a network."""
+        words = [word for name in self.members for word in ("--package", name)]
+        words += ["--target", self.target] if self.target else []
+        words += ["--offline"] if self.members == [C_LIBRARY] else []
+        self.run("cargo", "build", "--release", "--manifest-path", self.folder / "Cargo.toml", "--target-dir", "made", *words)
+        return self.work / "made" / (self.target or "") / "release"
+
+    def run(self, *words):
+        """Runs a program in the folder."""
+        subprocess.run(words, cwd=self.work, check=True)
+
+    def tool(self, name):
+        """A program of binutils, for the target where there is one of its own."""
+        prefix = re.sub("-unknown|-pc", "", self.target) + "-" if self.target else ""
+        return prefix + name if shutil.which(prefix + name) else name
+
+    def link_libraries(self, made):
+        """Makes the libraries of what is built, without symbols that no program needs; the archive shows the calls alone."""
+        header = (TOP / "include" / "hayro_cmap.h").read_text()
+        wanted = [f"--undefined={name}" for name in re.findall(r"^\w+ (hayro_cmap_\w+)\(", header, re.M)]
+        self.run(self.tool("ld"), "-r", "-o", "all.o", *wanted, made / ARCHIVE)
+        shown = ["--wildcard", "--keep-global-symbol=hayro_cmap_*", "--strip-debug"]
+        self.run(self.tool("objcopy"), *shown, "all.o", "hayro_cmap.o")
+        self.run(self.tool("ar"), "rcsD", ARCHIVE, "hayro_cmap.o")
+        self.run(self.tool("strip"), "--strip-unneeded", "-o", SHARED, made / SHARED)
+
+    def crates(self):
+        """The crates of others in the members, as `cargo metadata` tells them."""
+        words = ["cargo", "metadata", "--format-version=1", "--offline", "--manifest-path", self.folder / "Cargo.toml"]
+        ran = subprocess.run(words, check=True, capture_output=True, text=True)
+        return [found for found in json.loads(ran.stdout)["packages"] if found["source"]]
+
+
+def licences_of(crates):
+    """The files of the licences of these crates, by their names."""
+    folders = {found["name"]: Path(found["manifest_path"]).parent for found in crates}
+    return {name: sorted(path for path in folder.iterdir() if path.name.startswith(LICENCES))
+            for name, folder in sorted(folders.items())}
+
+
+def packages_of(crates):
+    """The entries of the bill of materials for these crates and for the crates of Rust."""
+    rust = subprocess.run(["rustc", "--version"], check=True, capture_output=True, text=True).stdout.split()[1]
+    return [*(package(name, rust, "MIT OR Apache-2.0") for name in RUST),
+            *(package(found["name"], found["version"], found["license"].replace("/", " OR ")) for found in crates)]

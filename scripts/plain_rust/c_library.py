@@ -1,0 +1,47 @@
+"""The crate of the C library in plain Rust: which files it has, and where they come from."""
+
+import re
+import shutil
+
+from programs import CRATES, TOP, and_below
+
+from .crate import BY_HAND as LIBRARY
+from .crate import copy_licenses, write_reader
+from .exports import exports_of
+
+BY_HAND = TOP / "bindings" / "plain-c"
+# the crates with calls for C, and the one with their handles
+WITH_CALLS = ["cmap_c", "cmap_c_encoder", "cmap_c_maps", "cmap_c_writer"]
+HANDLES = "cmap_handles"
+# what `fallible` has here beside that of the reader
+ADDED = """
+#[allow(unsafe_code)]
+pub mod sync;
+
+pub use crate::given::Span;
+"""
+
+
+def write_c_library(out):
+    """The files by hand, the module `fallible` with what handles need beside it, the sources, and the calls."""
+    shutil.copytree(BY_HAND, out, ignore=shutil.ignore_patterns("target", "tests", "Cargo.lock"))
+    shutil.copytree(LIBRARY / "src" / "fallible", out / "src" / "fallible", dirs_exist_ok=True)
+    (out / "src" / "fallible.rs").write_text((LIBRARY / "src" / "fallible.rs").read_text() + ADDED)
+    copy_licenses(out)
+    write_reader(out, crates_of_c_library())
+    write_exports(out)
+
+
+def crates_of_c_library():
+    """The crates of the C library."""
+    return sorted({name for crate in WITH_CALLS for name in and_below(crate)})
+
+
+def write_exports(out):
+    """The root of the modules, and the calls for C."""
+    (out / "src" / "reader.rs").write_text("".join(f"pub(crate) mod {name};\n" for name in crates_of_c_library()))
+    for crate in WITH_CALLS:
+        root = out / "src" / "reader" / f"{crate}.rs"
+        root.write_text(re.sub(r"^mod ", "pub(crate) mod ", root.read_text(), flags=re.M))
+    files = [path for crate in [HANDLES, *WITH_CALLS] for path in sorted((CRATES / crate / "src").rglob("*.rt"))]
+    (out / "src" / "exports.rs").write_text(exports_of(files))

@@ -1,0 +1,51 @@
+"""The workspace of plain Rust: the crate of the reader at its root, and below it those of the C library and the command."""
+
+import shutil
+
+from .c_library import write_c_library
+from .command import BY_HAND as COMMAND_BY_HAND
+from .command import write_command
+from .crate import write_library
+from .source import Unknown
+
+# the members below the root, each in a folder of its name
+C_LIBRARY, COMMAND = "hayro-cmap-c", "cmap"
+MEMBERS = {C_LIBRARY: write_c_library, COMMAND: write_command}
+# which crates of others the command was tested with
+LOCK = COMMAND_BY_HAND / "Cargo.lock"
+# how members are built; code without `std` can't unwind
+PROFILES = """
+[profile.dev]
+panic = "abort"
+
+[profile.release]
+codegen-units = 1
+lto = "fat"
+panic = "abort"
+"""
+
+
+def write_workspace(out, members=tuple(MEMBERS)):
+    """Makes the workspace in a new folder, with these members below its root."""
+    writers = {"": write_library, **{name: MEMBERS[name] for name in members}}
+    listed = ", ".join(f'"{name}"' for name in members)
+    write_all(out, writers, f"members = [{listed}]\n")
+    if COMMAND in members:
+        shutil.copy(LOCK, out / LOCK.name)
+
+
+def write_alone(out, name):
+    """Makes the workspace of one member, at its root."""
+    write_all(out, {"": MEMBERS[name]}, "")
+
+
+def write_all(out, writers, members):
+    """Writes crates into a new folder and the folders of these names below it; nothing where a construct is unknown."""
+    try:
+        for name, write in writers.items():
+            write(out / name)
+    except Unknown:
+        shutil.rmtree(out)
+        raise
+    with (out / "Cargo.toml").open("a") as manifest:
+        manifest.write(f"\n[workspace]\n{members}{PROFILES}")
