@@ -6,7 +6,7 @@ use Rattle.ucd_table.specs.Rows.{HasExactly, IsRising}
 use Rattle.ucd_table.proofs.Computing.{tables}
 use Rattle.ucd_table.proofs.Stepped.{map_stepped}
 use Rattle.cmap_escape.specs.Shown.{is_hidden}
-use Rattle.cmap_escape.specs.declared.hidden.TheConstants.{HIDDEN}
+use Rattle.cmap_escape.specs.declared.hidden.ranges.TheConstants.{HIDDEN}
 use Rattle.cmap_escape.proofs.Ranges.{has_exactly}
 
 pub hidden_rising : IsRising HIDDEN
