@@ -108,7 +108,7 @@ impl Arg<'_> {
         Arg(self.0.required(is_required), PhantomData)
     }
 
-    /// It has to be there where another one isn't.
+    /// It has to be there unless another one is.
     pub fn required_unless_present(self, id: &'static str) -> Result<Self, AllocError> {
         Ok(Arg(self.0.required_unless_present(id), PhantomData))
     }
@@ -123,7 +123,7 @@ pub struct ArgMatches<'w> {
 }
 
 impl<'w> ArgMatches<'w> {
-    /// The texts live as long as the program: they are those of one command line.
+    /// The texts live as long as the program: there is one command line.
     fn of(mut found: ::clap::ArgMatches) -> Self {
         let mut texts = HashMap::new();
         for id in found.ids() {
