@@ -8,6 +8,7 @@ and else at the top of the project.
 """
 
 import base64
+import gzip
 import hashlib
 import io
 import os
@@ -161,9 +162,11 @@ def build_sdist(sdist_directory, config_settings=None):
     files.update({name: (TOP / name).read_bytes() for name in ["VERSION", *LICENCES]})
     files["PKG-INFO"] = metadata()
     files.update(crate_files())
-    with tarfile.open(Path(sdist_directory, f"{root}.tar.gz"), "w:gz") as archive:
+    packed = io.BytesIO()
+    with tarfile.open(fileobj=packed, mode="w") as archive:
         for path, data in files.items():
             entry = tarfile.TarInfo(f"{root}/{path}")
             entry.size, entry.mtime = len(data), written_at()
             archive.addfile(entry, io.BytesIO(data))
+    Path(sdist_directory, f"{root}.tar.gz").write_bytes(gzip.compress(packed.getvalue(), mtime=written_at()))
     return f"{root}.tar.gz"

@@ -47,7 +47,7 @@ class Package:
 
     @functools.cache
     def folder(self):
-        """Where pip has installed the package, with the library in it; one of plain Rust cargo builds from a source archive."""
+        """Where pip has installed the package, with the library in it, which cargo builds where it is plain Rust."""
         folder = self.work / "python"
         source, environment = PACKAGE, self.over_library()
         if self.library.is_plain:

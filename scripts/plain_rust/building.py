@@ -18,7 +18,7 @@ LICENCES = ("COPYING", "COPYRIGHT", "LICENSE", "UNLICENSE")
 
 
 class Workspace:
-    """The workspace with these members in a folder, and what cargo builds of it for a target, by default this system."""
+    """The workspace with these members in a folder, and what cargo builds of it for a target, else for this system."""
 
     def __init__(self, work, members, target=None):
         self.work, self.folder, self.members, self.target = work, work / "workspace", members, target
@@ -26,10 +26,11 @@ class Workspace:
 
     def build(self):
         """Builds the members; the folder of what is built. A library alone needs nothing from a network."""
-        words = [word for name in self.members for word in ("--package", name)]
+        words = ["--release", "--manifest-path", self.folder / "Cargo.toml", "--target-dir", "made"]
+        words += [word for name in self.members for word in ("--package", name)]
         words += ["--target", self.target] if self.target else []
         words += ["--offline"] if self.members == [C_LIBRARY] else []
-        self.run("cargo", "build", "--release", "--manifest-path", self.folder / "Cargo.toml", "--target-dir", "made", *words)
+        self.run("cargo", "build", *words)
         return self.work / "made" / (self.target or "") / "release"
 
     def run(self, *words):
@@ -42,7 +43,7 @@ class Workspace:
         return prefix + name if shutil.which(prefix + name) else name
 
     def link_libraries(self, made):
-        """Makes the libraries of what is built, without symbols that no program needs; the archive shows the calls alone."""
+        """Makes the libraries of what is built, without what no program needs; the archive shows the calls alone."""
         header = (TOP / "include" / "hayro_cmap.h").read_text()
         wanted = [f"--undefined={name}" for name in re.findall(r"^\w+ (hayro_cmap_\w+)\(", header, re.M)]
         self.run(self.tool("ld"), "-r", "-o", "all.o", *wanted, made / ARCHIVE)

@@ -5,8 +5,7 @@ import shutil
 
 from programs import CRATES, TOP, and_below
 
-from .crate import BY_HAND as LIBRARY
-from .crate import copy_licenses, write_reader
+from .crate import copy_fallible, copy_licenses, write_reader
 from .exports import exports_of
 
 BY_HAND = TOP / "bindings" / "plain-c"
@@ -25,8 +24,7 @@ pub use crate::given::Span;
 def write_c_library(out):
     """The files by hand, the module `fallible` with what handles need beside it, the sources, and the calls."""
     shutil.copytree(BY_HAND, out, ignore=shutil.ignore_patterns("target", "tests", "Cargo.lock"))
-    shutil.copytree(LIBRARY / "src" / "fallible", out / "src" / "fallible", dirs_exist_ok=True)
-    (out / "src" / "fallible.rs").write_text((LIBRARY / "src" / "fallible.rs").read_text() + ADDED)
+    copy_fallible(out, ADDED)
     copy_licenses(out)
     write_reader(out, crates_of_c_library())
     write_exports(out)

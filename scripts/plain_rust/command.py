@@ -5,7 +5,7 @@ import shutil
 from programs import CRATES, TOP, and_below
 
 from .crate import BY_HAND as LIBRARY
-from .crate import after_docs, copy_licenses, erase_crate
+from .crate import after_docs, copy_fallible, copy_licenses, erase_crate
 
 BY_HAND = TOP / "bindings" / "plain-command"
 COMMAND = "cmap"
@@ -14,6 +14,8 @@ KIT = ["clap", "hex"]
 HEX = LIBRARY / "tests" / "rows" / "hex.rs"
 # the licence of the table of hidden characters
 UNICODE = CRATES / "cmap_escape" / "LICENSE-UNICODE"
+# what `fallible` has here beside that of the reader
+ADDED = "\npub mod rc;\n"
 # the modules by hand
 MODULES = ["fallible", "host", "kit", "sources"]
 # proofs read some arguments alone, the library has more than the command, and the style is that of the sources
@@ -26,9 +28,8 @@ def write_command(out):
     copy_licenses(out)
     shutil.copy(UNICODE, out / UNICODE.name)
     source = out / "src"
+    copy_fallible(out, ADDED)
     shutil.copy(HEX, source / "kit" / "hex.rs")
-    shutil.copytree(LIBRARY / "src" / "fallible", source / "fallible")
-    shutil.copy(LIBRARY / "src" / "fallible.rs", source / "fallible.rs")
     crates = sorted(and_below(COMMAND))
     paths = {name: f"crate::sources::{name}" for name in crates if name != COMMAND}
     known = {"std": "crate::fallible", "host": "crate::host", "itoa": "crate::fallible::itoa",

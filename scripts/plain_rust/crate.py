@@ -102,6 +102,12 @@ def write_library(out):
     write_rows(out)
 
 
+def copy_fallible(out, added):
+    """The module `fallible` of another crate, with lines of its own at its end."""
+    shutil.copytree(BY_HAND / "src" / "fallible", out / "src" / "fallible", dirs_exist_ok=True)
+    (out / "src" / "fallible.rs").write_text((BY_HAND / "src" / "fallible.rs").read_text() + added)
+
+
 def copy_licenses(out):
     """The licences of the project."""
     for name in LICENSES:

@@ -1,4 +1,4 @@
-"""The workspace of plain Rust: the crate of the reader at its root, and below it those of the C library and the command."""
+"""The workspace of plain Rust: the crate of the reader, and below it those of the C library and of the command."""
 
 import shutil
 

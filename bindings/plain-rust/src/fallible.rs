@@ -7,7 +7,6 @@ pub mod alloc;
 mod boxed;
 pub mod collections;
 pub(crate) mod itoa;
-pub mod rc;
 mod slices;
 mod sorting;
 mod string;

@@ -227,6 +227,35 @@ mod tests {
     }
 
     #[test]
+    fn keys_are_taken_out() {
+        let mut map = BTreeMap::new(Global);
+        for key in 0..2000_u32 {
+            map.insert(key, key + 1).unwrap();
+        }
+        for key in (0..2000).step_by(2) {
+            assert_eq!(map.remove(&key), Some(key + 1));
+            assert_eq!(map.remove(&key), None);
+        }
+        assert!((0..2000).all(|key| map.get(&key).is_some() == (key % 2 == 1)));
+    }
+
+    #[test]
+    fn a_set_has_an_item_once() {
+        let mut set = BTreeSet::new(Global);
+        assert!(set.insert(7_u32).unwrap() && !set.insert(7).unwrap());
+        assert!(set.contains(&7) && !set.contains(&8));
+    }
+
+    #[test]
+    fn the_first_item_of_a_queue_is_taken() {
+        let mut queue = VecDeque::new(Global);
+        queue.push_back(1).unwrap();
+        queue.push_back(2).unwrap();
+        assert_eq!((queue.front().copied(), queue.pop_front(), queue.pop_front()), (Some(1), Some(1), Some(2)));
+        assert_eq!((queue.front(), queue.pop_front()), (None, None));
+    }
+
+    #[test]
     fn keys_in_order_are_all_found() {
         let mut map = BTreeMap::new(Global);
         for key in (0..3000_u32).chain((3000..6000).rev()) {

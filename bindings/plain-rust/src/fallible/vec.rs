@@ -303,6 +303,13 @@ mod tests {
     }
 
     #[test]
+    fn items_are_sorted() {
+        let mut items = list(&[3, 1, 2, 1]);
+        items.sort().unwrap();
+        assert_eq!(items.into_std(), [1, 1, 2, 3]);
+    }
+
+    #[test]
     fn a_sort_keeps_the_order_of_equal_keys() {
         let mut items = list(&[(2, 'a'), (1, 'b'), (2, 'c'), (0, 'd'), (1, 'e'), (2, 'f')]);
         items.sort_by_key(|item| item.0).unwrap();
