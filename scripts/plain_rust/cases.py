@@ -305,6 +305,8 @@ REFUSED = [
     ("a `Drop` elsewhere", "use std::Drop;\n", 1, "a `Drop` that is no bound"),
     ("unsafe code", "fn f() {\n    unsafe { g() }\n}\n", 2, "an unknown construct: unsafe"),
     ("an unknown attribute", "\n#[repr(u8)]\nenum E {}\n", 2, "an unknown attribute: repr"),
+    ("a slice in a struct for C", "#[repr(C)]\nstruct S<'a> {\n    len: [u8; 2],\n    codes: &'a [u32],\n}\n", 4,
+     "a slice in a struct for C that isn't one of bytes"),
     ("another call for C", "#[unsafe(no_mangle)]\nextern \"C\" fn f() {}\n", 1, "an unknown attribute: unsafe"),
     ("an unknown macro", "fn f() {\n    let v = vec![in alloc; 1]?;\n}\n", 2, "an unknown macro: vec!"),
     ("an unknown part of std", "use std::thread;\n", 1, "an unknown path: std::thread"),
@@ -322,4 +324,66 @@ REFUSED = [
     ("a sign of a specification", "fn f() {\n    let x = a ≡ b;\n}\n", 2, "an unknown construct: ≡"),
     ("a trait object", "fn f(x: &dyn Read) {}\n", 1, "an unknown construct: dyn"),
     ("a bracket that isn't closed", "#[inline(always]\nfn f() {}\n", 1, "a bracket isn't closed"),
+]
+
+# what it shows, a source, and what C calls
+CALLS = [
+    ("numbers and a handle", """
+#[unsafe(no_mangle)]
+pub extern "C" fn hayro_cmap_cid(map: &mut Handle, code: u32, cid: &mut u32) -> bool
+    ensures { Cid map.old code cid.new }
+{
+    map.cid(code, cid)
+}
+""", """
+#[unsafe(no_mangle)]
+pub unsafe extern "C" fn hayro_cmap_cid(
+    map: *mut handles::Handle,
+    code: u32,
+    cid: *mut u32,
+) -> bool {
+    let (Some(map), Some(cid),) =
+        (unsafe { (one_mut(map), one_mut(cid),) })
+    else {
+        return false;
+    };
+    calls::hayro_cmap_cid(map, code, cid)
+}
+"""),
+    ("files, a buffer and an allocator", """
+#[unsafe(no_mangle)]
+pub extern "C" fn hayro_cmap_read<'a>(alloc: Global, files: &[File<'a>], room: &mut [u8]) -> u32 {
+    read(alloc, files, room)
+}
+""", """
+#[unsafe(no_mangle)]
+pub unsafe extern "C" fn hayro_cmap_read(
+    files: *const files::File<'_>,
+    files_len: usize,
+    room: *mut u8,
+    room_len: usize,
+) -> u32 {
+    let (Some(files), Some(room),) =
+        (unsafe { (items(files, files_len), items_mut(room, room_len),) })
+    else {
+        return ABSENT;
+    };
+    calls::hayro_cmap_read(Global, files, room)
+}
+"""),
+]
+# what it shows, a source, and what is said
+REFUSED_CALLS = [
+    ("a struct that C doesn't know", """
+#[unsafe(no_mangle)]
+pub extern "C" fn hayro_cmap_cid(map: &Map) -> u32 {}
+""", "an unknown type of a call for C: Map"),
+    ("a struct that is no pointer", """
+#[unsafe(no_mangle)]
+pub extern "C" fn hayro_cmap_free(map: Handle) {}
+""", "an unknown type of a call for C: Handle"),
+    ("another result", """
+#[unsafe(no_mangle)]
+pub extern "C" fn hayro_cmap_cid(code: u32) -> u64 {}
+""", "file:3: an unknown result of a call for C: u64"),
 ]

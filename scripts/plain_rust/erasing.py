@@ -230,6 +230,7 @@ def plain_fields(source):
         if not source.words(at, *LAYOUT):
             continue
         start = source.find(at, "{")
+        refuse_slices(source, start)
         names = [i - 1 for i in source.indices(":") if start < i < source.closing(start) and is_bytes(source, i + 1)]
         for name in [source.word(i) for i in names]:
             for use in source.indices(name):
@@ -240,6 +241,13 @@ def plain_fields(source):
                 source.tokens[index].text = text
             source.tokens[name + 4].lead = ""
             source.erase(name + 5, name + 7)
+
+
+def refuse_slices(source, start):
+    """Stops at another slice in a struct for C, whose fields begin at an index: its layout is Rust's alone."""
+    for at in range(start, source.closing(start)):
+        if source.word(at) == "[" and source.word(at - 1) != ":" and not is_bytes(source, at - 2):
+            source.refuse(at, "a slice in a struct for C that isn't one of bytes")
 
 
 def is_bytes(source, at):

@@ -5,11 +5,13 @@ import re
 from programs import CRATES
 
 from .erasing import EXPORTED, LAYOUT
-from .source import Source
+from .source import Source, Unknown
 
 # what a call gives where a pointer is null that must not be; a mode is a number, too
 NOTHING = {"u32": "ABSENT", "usize": "0", "bool": "false", "": ""}
 NO_MODE = {"hayro_cmap_writing_mode", "hayro_cmap_layer_writing_mode"}
+# what C hands in as it is
+VALUES = ["bool", "i32", "u16", "u32", "u64", "u8", "usize"]
 HEAD = """\
 //! The calls of `include/hayro_cmap.h`. Each checks for null, and calls the function of the same name.
 //!
@@ -46,8 +48,10 @@ def parameters_of(source, at):
 
 
 def in_place(kind, structs):
-    """A type with the module of its struct."""
+    """A type that C knows, with the module of its struct."""
     name = kind.partition("<")[0]
+    if name not in structs and kind not in VALUES:
+        raise Unknown(f"an unknown type of a call for C: {kind}")
     return f"{structs[name]}::{kind}" if name in structs else kind
 
 
@@ -64,7 +68,7 @@ class Parameter:
             self.given = [f"{name}: *{found[1] or 'const '}{in_place(found[2], structs)}"]
             self.made = f"one{'_mut' if found[1] else ''}({name})"
         elif kind != "Global":
-            self.given = [f"{name}: {kind}"]
+            self.given = [f"{name}: {in_place(kind, {})}"]
         self.passed = "Global" if kind == "Global" else name
 
 
@@ -74,6 +78,8 @@ def export_of(source, at, path, structs):
     first = source.find(at + 7, "(")
     end = source.closing(first)
     result = source.word(end + 2) if source.word(end + 1) == "->" else ""
+    if result not in NOTHING:
+        source.refuse(end + 2, f"an unknown result of a call for C: {result}")
     parameters = [Parameter(*one, structs) for one in parameters_of(source, first)]
     checked = [one for one in parameters if one.made]
     given = ",\n    ".join(part for one in parameters for part in one.given)
@@ -96,6 +102,10 @@ def exports_of(files):
     """The text of the module with the calls of these files."""
     sources = {path_of(file): Source(file, file.read_text()) for file in files}
     structs = {name: at for path, source in sources.items() for name, at in structs_of(source, path).items()}
-    made = [export_of(source, at, path, structs) for path, source in sources.items()
-            for at in reversed(source.indices("#")) if source.words(at, *EXPORTED)]
-    return HEAD + "".join(made)
+    return HEAD + "".join(exports_in(source, path, structs) for path, source in sources.items())
+
+
+def exports_in(source, path, structs):
+    """The text of the calls of a file, whose module is at this path."""
+    exported = [at for at in reversed(source.indices("#")) if source.words(at, *EXPORTED)]
+    return "".join(export_of(source, at, path, structs) for at in exported)

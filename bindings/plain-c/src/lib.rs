@@ -7,10 +7,10 @@
 #![deny(unsafe_code)]
 
 extern crate alloc;
-#[cfg(any(feature = "std", windows, target_family = "wasm"))]
+#[cfg(any(test, feature = "std", windows, target_family = "wasm"))]
 extern crate std;
 
-#[cfg(not(any(feature = "std", windows, target_family = "wasm")))]
+#[cfg(not(any(test, feature = "std", windows, target_family = "wasm")))]
 #[allow(unsafe_code)]
 mod alone;
 #[allow(clippy::missing_safety_doc, unsafe_code)]

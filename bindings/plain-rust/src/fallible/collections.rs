@@ -252,7 +252,8 @@ mod tests {
         queue.push_back(1).unwrap();
         queue.push_back(2).unwrap();
         assert_eq!((queue.front().copied(), queue.pop_front(), queue.pop_front()), (Some(1), Some(1), Some(2)));
-        assert_eq!((queue.front(), queue.pop_front()), (None, None));
+        assert_eq!(queue.pop_front(), None);
+        assert_eq!(queue.front(), None);
     }
 
     #[test]
