@@ -202,7 +202,7 @@ use crate::fallible::alloc::Global;
 
 /// The text.
 pub fn hayro_cmap_text<'a>(map: &'a mut Handle, alloc: Global, room: &mut [u8]) -> u32 {
-    number(cause.to_string_in(alloc), core::str::from_utf8(text))
+    number(cause.to_string_in(alloc), str::from_utf8(text))
 }
 """),
     ("a struct for C", """
@@ -290,21 +290,6 @@ fn say(rt: &HostRuntime, done: usize) -> Result<(), Failure> {
         "{}",
         done
     ))?)
-}
-"""),
-    ("what is newer than Rust 1.85", """
-fn why(name: &[u8]) -> ErrorKind {
-    match str::from_utf8(name) {
-        Ok(_) => ErrorKind::NotFound,
-        Err(_) => ErrorKind::InvalidFilename,
-    }
-}
-""", """
-fn why(name: &[u8]) -> ErrorKind {
-    match core::str::from_utf8(name) {
-        Ok(_) => ErrorKind::NotFound,
-        Err(_) => ErrorKind::InvalidInput,
-    }
 }
 """),
 ]

@@ -2,14 +2,18 @@
 
 import shutil
 
-from programs import TOP, and_below
+from programs import CRATES, TOP, and_below
 
+from .crate import BY_HAND as LIBRARY
 from .crate import after_docs, copy_fallible, copy_licenses, erase_crate
 
 BY_HAND = TOP / "bindings" / "plain-command"
 COMMAND = "cmap"
-# the crates of the kit whose interface is by hand, over the crates of the same names or without one
-KIT = ["clap", "hex", "serde_json", "ucd_category"]
+# the crates of the kit whose interface is by hand: over the crate of the same name, and the one of the rows
+KIT = ["clap", "hex"]
+HEX = LIBRARY / "tests" / "rows" / "hex.rs"
+# the licence of the table of hidden characters
+UNICODE = CRATES / "cmap_escape" / "LICENSE-UNICODE"
 # what `fallible` has here beside that of the reader
 ADDED = "\npub mod rc;\n"
 # the modules by hand
@@ -22,8 +26,10 @@ def write_command(out):
     """Makes the package in a new folder: the crates below the command are modules of one, the command is its root."""
     shutil.copytree(BY_HAND, out, ignore=shutil.ignore_patterns("target", "Cargo.lock"))
     copy_licenses(out)
+    shutil.copy(UNICODE, out / UNICODE.name)
     source = out / "src"
     copy_fallible(out, ADDED)
+    shutil.copy(HEX, source / "kit" / "hex.rs")
     crates = sorted(and_below(COMMAND))
     paths = {name: f"crate::sources::{name}" for name in crates if name != COMMAND}
     known = {"std": "crate::fallible", "host": "crate::host", "itoa": "crate::fallible::itoa",

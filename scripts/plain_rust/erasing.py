@@ -25,9 +25,6 @@ BY_HAND = {"alloc": ["AllocError", "AllocFailed", "Global"],
 # the modules of the system, by hand for programs alone, and those of Rust's std that are taken as they are
 HOSTED = ["env", "fs"]
 PLAIN = ["io", "process"]
-# what is newer than Rust 1.85: the path, and what does the same
-NEWER = {("str", "from_utf8"): ("core::str", "from_utf8"),
-         ("ErrorKind", "InvalidFilename"): ("ErrorKind", "InvalidInput")}
 PRELUDE = ["Box", "String", "Vec"]
 # methods with arguments that are by hand: the trait, and the name there
 METHODS = {"collect": ("CollectIn", "collect_in"), "split_off": ("TakeFront", "take_front"),
@@ -49,7 +46,6 @@ def erased(path, text, paths, may=()):
     refuse_unknown(source, [*may, HOST] if host else may)
     plain_paths(source, paths)
     plain_std(source, paths["std"], host)
-    plain_newer(source)
     add_imports(source, plain_methods(source), paths["std"], host)
     return source.text()
 
@@ -326,16 +322,6 @@ def plain_std(source, by_hand, host):
             source.tokens[at].text = host
         elif not all(name in (PLAIN if host else PLAIN[:1]) for name in modules):
             source.refuse(at, f"an unknown path: std::{'::'.join([*modules, *items])}")
-
-
-def plain_newer(source):
-    """Gives paths that are newer than the Rust of the crate names that it has; not where the module `str` is imported."""
-    if any(source.word(at - 1) in ("{", ",", "::") and source.word(at + 1) in ("}", ",", ";") for at in source.indices("str")):
-        return
-    for at in source.indices(*(front for front, _ in NEWER)):
-        path = (source.word(at), source.word(at + 2))
-        if source.word(at + 1) == "::" and source.word(at - 1) != "::" and path in NEWER:
-            source.tokens[at].text, source.tokens[at + 2].text = NEWER[path]
 
 
 def names_at(source, at):

@@ -3,6 +3,7 @@
 import shutil
 
 from .c_library import write_c_library
+from .command import BY_HAND as COMMAND_BY_HAND
 from .command import write_command
 from .crate import write_library
 from .source import Unknown
@@ -10,6 +11,8 @@ from .source import Unknown
 # the members below the root, each in a folder of its name
 C_LIBRARY, COMMAND = "hayro-cmap-c", "cmap"
 MEMBERS = {C_LIBRARY: write_c_library, COMMAND: write_command}
+# which crates of others the command was tested with
+LOCK = COMMAND_BY_HAND / "Cargo.lock"
 # how members are built; code without `std` can't unwind
 PROFILES = """
 [profile.dev]
@@ -27,6 +30,8 @@ def write_workspace(out, members=tuple(MEMBERS)):
     writers = {"": write_library, **{name: MEMBERS[name] for name in members}}
     listed = ", ".join(f'"{name}"' for name in members)
     write_all(out, writers, f"members = [{listed}]\n")
+    if COMMAND in members:
+        shutil.copy(LOCK, out / LOCK.name)
 
 
 def write_alone(out, name):

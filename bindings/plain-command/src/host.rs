@@ -15,7 +15,7 @@ pub struct HostRuntime {
 }
 
 impl HostRuntime {
-    /// That of the running program.
+    /// The system of the running program.
     pub(crate) fn of_process() -> HostRuntime {
         HostRuntime { arguments: std::env::args_os().collect() }
     }

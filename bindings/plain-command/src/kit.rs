@@ -2,5 +2,3 @@
 
 pub mod clap;
 pub mod hex;
-pub mod serde_json;
-pub mod ucd_category;

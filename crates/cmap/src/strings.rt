@@ -3,6 +3,7 @@
 use cmap_files::failure::{Failure, fault};
 use cmap_files::inputs::{STANDARD_INPUT, needed};
 use cmap_files::path_text::is_plain;
+use std::str;
 
 /// The argument of `--codes` that stands for the strings of the standard input.
 pub(crate) const LISTED_STANDARD_INPUT: &str = "@-";
@@ -79,8 +80,9 @@ fn add_list(rt: &HostRuntime, path: &str, strings: &mut Vec<Vec<u8>>) -> Result<
 
 /// The bytes that hexadecimal digits spell, two for each.
 pub(crate) fn spelled(rt: &HostRuntime, digits: &str) -> Result<Vec<u8>, Failure> {
-    match hex::decode(rt.alloc(), digits.as_bytes()) {
-        Ok(string) => Ok(string),
+    let mut string = vec![in rt.alloc(); 0; digits.len() / 2]?;
+    match hex::decode_to_slice(digits.as_bytes(), &mut string) {
+        Ok(()) => Ok(string),
         Err(_) => Err(fault(rt, digits, "not hexadecimal digits in pairs")),
     }
 }

@@ -76,9 +76,11 @@ fn put(
     is_compared: bool,
 ) -> Result<(), Failure> {
     let beside = Beside::write(rt, output, bytes)?;
-    if is_compared && let Err(failure) = compare(rt, output, &beside, files) {
-        beside.remove(rt);
-        return Err(failure);
+    if is_compared {
+        if let Err(failure) = compare(rt, output, &beside, files) {
+            beside.remove(rt);
+            return Err(failure);
+        }
     }
     beside.put_in_place(rt)
 }

@@ -4,11 +4,11 @@ use cmap_binary::is_marked_binary;
 use cmap_escape::escape::{escaped_name, escaped_names, push_name};
 use cmap_escape::json::push_line;
 use cmap_escape::object::Object;
+use cmap_escape::value::Value;
 use cmap_files::failure::Failure;
 use cmap_sources::uses::uses_by_layer;
 use cmap_values::names::{KNOWN_COUNT, KNOWN_NAMES};
 use hayro_cmap::{Bundle, BundleFiles, NamedFiles};
-use serde_json::Value;
 use std::alloc::{AllocError, Global};
 
 /// A file of a bundle.

@@ -41,9 +41,7 @@ fn line_of(
     unwritable: Unwritable,
 ) -> Result<String, AllocError> {
     let mut line = String::new(alloc);
-    if let Some(index) = unwritable.index
-        && let Some(chosen) = files.get(index)
-    {
+    if let Some(chosen) = unwritable.index.and_then(|index| files.get(index)) {
         push_text(&mut line, chosen.candidate.path.as_str())?;
         line.push_str(": ")?;
     }

@@ -15,6 +15,7 @@ use cmap_handles::room::put;
 use cmap_handles::status::Status;
 use cmap_values::fault::Fault;
 use std::alloc::Global;
+use std::str;
 
 /// The encoding of a text in UTF-8.
 #[unsafe(no_mangle)]

@@ -11,6 +11,7 @@ use crate::written::NoText;
 use cmap_values::fault::Fault;
 use cmap_values::units::Units;
 use std::alloc::{AllocError, Global};
+use std::str;
 
 /// The units of a text in UTF-8. One that is empty or isn't UTF-8 is refused.
 pub(crate) fn units_of(alloc: Global, text: &[u8]) -> Result<Units, Fault<NoText>>

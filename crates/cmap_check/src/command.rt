@@ -4,6 +4,7 @@ use crate::progress::Progress;
 use crate::tally::Tally;
 use crate::warnings::{LintOptions, push_warnings, subject_of};
 use cmap_escape::object::Object;
+use cmap_escape::value::Value;
 use cmap_escape::{escape, json};
 use cmap_files::failure::{Failure, fault, report_message};
 use cmap_files::inputs::{read, report_unreadable};
@@ -11,7 +12,6 @@ use cmap_files::paths::{PathList, Paths, paths_of};
 use cmap_sources::bases::Bases;
 use cmap_sources::format::format_of;
 use cmap_sources::reading::{Form, Input, Manner, Reading, read_over};
-use serde_json::Value;
 use std::alloc::{AllocError, Global};
 use std::io;
 

@@ -5,12 +5,12 @@ ghost use Rattle.cmap_escape.specs.Escapes.{AddsLine, AddsOfLine};
 
 use cmap_escape::digits::{byte_digits, code_digits, push_code};
 use cmap_escape::object::Object;
+use cmap_escape::value::Value;
 use cmap_escape::{escape, json};
 use cmap_lint::finding::{Finding, Place};
 use cmap_lint::warning::Warning;
 use cmap_queries::code_lengths::printed_len;
 use hayro_cmap::runs::Range;
-use serde_json::Value;
 use std::alloc::{AllocError, Global};
 
 /// Adds a warning about a file, as `FILE: warning: overlap: 25 codes, first <8140>`, and ends the line.

@@ -1,6 +1,6 @@
 -- What calls add to a text, one after another.
 use Rattle.std.proofs.Common.{◌≡◌, ℕ, ◌<◌, List, [], ◌∷◌, ◌++◌, All, refl, sym, ap, ◌∙◌, append-nil, append_assoc, arith, if◌then◌else◌, Bool, true, false, inl}
-use Rattle.std.specs.Prelude.{encode_utf8, encode_utf8_all, not}
+use Rattle.std.specs.Prelude.{encode_utf8, encode_utf8_all}
 use Rattle.std.proofs.lemmas.Str.{encodes-append, encode_ascii}
 use Rattle.std.proofs.lemmas.List.Elements.{All-nil, All-cons, All-append, All-head, All-tail, All-weaker}
 use Rattle.cmap_escape.specs.Escapes.{IsPrintable, AddsPrintable}
@@ -44,11 +44,6 @@ shows_one true old new character is shown = (
   All-cons IsShown character [] shown (All-nil IsShown),
 )
 shows_one false old new character is shown = shows_nothing old new is
-
--- what isn't hidden
-pub not_hidden : (hidden shown : Bool) → shown ≡ not hidden → shown ≡ true → hidden ≡ false
-not_hidden true shown is holds = sym holds ∙ is
-not_hidden false shown is holds = refl
 
 -- a quotation mark
 pub shows_mark : (done : Bool) (old new : List ℕ) → new ≡ (if done then old ++ encode_utf8 0x22 else old) → AddsShown old new

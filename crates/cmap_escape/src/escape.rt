@@ -1,16 +1,15 @@
 //! Names and texts as they may be printed on a terminal.
 
-ghost use Rattle.std.specs.Prelude.{◌≡◌, ◌++◌, IfOk, OnOk, map, not, string_bytes};
+ghost use Rattle.std.specs.Prelude.{◌≡◌, ◌++◌, IfOk, OnOk, map, string_bytes};
 ghost use Rattle.cmap_escape.specs.Escapes.{AddsPrintable, byte_shown, name_shown};
-ghost use Rattle.cmap_escape.specs.Shown.{AddsShown, character_shown, is_hidden, number_shown, quoted_shown, text_shown};
+ghost use Rattle.cmap_escape.specs.Shown.{AddsShown, character_shown, number_shown, quoted_shown, text_shown};
+ghost use Rattle.cmap_escape.specs.Values.{view};
 ghost use Rattle.serde_json.specs.Data.{string};
-ghost use Rattle.serde_json.specs.View.{view};
-ghost use Rattle.ucd_category.specs.GeneralCategory.{general_category};
 
 use crate::digits::{Letters, push_byte, push_number};
-use serde_json::Value;
+use crate::hidden::is_hidden;
+use crate::value::Value;
 use std::alloc::{AllocError, Global};
-use ucd_category::GeneralCategory;
 
 /// Adds a name. A byte from 0x20 to 0x7E is added as it is, but `\` as `\\`, and any other as `\xHH`.
 pub fn push_name(out: &mut String, name: &[u8]) -> Result<(), AllocError>
@@ -99,8 +98,8 @@ fn push_character(out: &mut String, character: char) -> Result<(), AllocError>
     match character {
         '\\' => out.push_str("\\\\"),
         '"' => out.push_str("\\\""),
-        _ if is_shown(character) => out.push(character),
-        _ => push_by_number(out, character),
+        _ if is_hidden(character) => push_by_number(out, character),
+        _ => out.push(character),
     }
 }
 
@@ -113,21 +112,4 @@ fn push_by_number(out: &mut String, character: char) -> Result<(), AllocError>
     out.push_str("\\u{")?;
     push_number(out, u32::from(character))?;
     out.push('}')
-}
-
-/// Whether a character is printed as it is: it isn't a control or format character, a separator of lines or
-/// paragraphs, for private use, or unassigned.
-fn is_shown(character: char) -> bool
-    ensures { result ≡ not (is_hidden (general_category character)) }
-{
-    !matches!(
-        GeneralCategory::for_char(character),
-        GeneralCategory::Control
-            | GeneralCategory::Format
-            | GeneralCategory::LineSeparator
-            | GeneralCategory::ParagraphSeparator
-            | GeneralCategory::Surrogate
-            | GeneralCategory::PrivateUse
-            | GeneralCategory::Unassigned
-    )
 }

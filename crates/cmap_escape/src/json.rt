@@ -1,33 +1,35 @@
 //! Values of JSON as text, in bytes from 0x20 to 0x7E. RFC 8259.
 
-ghost use Rattle.std.specs.Prelude.{◌≡◌, [], ◌∷◌, ◌++◌, OnOk, false, string_bytes};
+ghost use Rattle.std.specs.Prelude.{◌≡◌, [], ◌∷◌, ◌++◌, OnOk, string_bytes};
 ghost use Rattle.std.specs.Char.Escape.{encode_utf16};
 ghost use Rattle.std.specs.List.{flat_map};
 ghost use Rattle.cmap_escape.specs.Escapes.{AddsLine, AddsOfLine, AddsPrintable};
 ghost use Rattle.cmap_escape.specs.Json.{character_escaped, escaped, unit_escaped};
-ghost use Rattle.serde_json.specs.View.{view};
-ghost use Rattle.serde_json.specs.Written.{compact_text, has_float};
+ghost use Rattle.cmap_escape.specs.Values.{view};
+ghost use Rattle.serde_json.specs.Written.{compact_text};
 
+use crate::compact::push_compact;
 use crate::digits::{Letters, push_byte};
-use serde_json::Value;
+use crate::value::Value;
 use std::alloc::{AllocError, Global};
 
 /// Adds the text of a value, without spaces. A character outside 0x20 to 0x7E is added by its
 /// units in UTF-16, as `\uhhhh`.
 pub fn push_value(alloc: Global, out: &mut String, value: &Value) -> Result<(), AllocError>
-    ensures text { OnOk result (has_float (view value.now) ≡ false → string_bytes out.new
+    ensures text { OnOk result (string_bytes out.new
         ≡ string_bytes out.old ++ escaped (compact_text (view value.now))) }
 
     // Also where memory runs out.
     ensures printable { AddsPrintable (string_bytes out.old) (string_bytes out.new) }
 {
-    let text = value.to_string(alloc)?;
+    let mut text = String::new(alloc);
+    push_compact(&mut text, value)?;
     push_text(out, text.as_str())
 }
 
 /// Adds the text of a value, and ends the line.
 pub fn push_line(alloc: Global, out: &mut String, value: &Value) -> Result<(), AllocError>
-    ensures text { OnOk result (has_float (view value.now) ≡ false → string_bytes out.new
+    ensures text { OnOk result (string_bytes out.new
         ≡ string_bytes out.old ++ escaped (compact_text (view value.now)) ++ 0x0A ∷ []) }
     ensures line { OnOk result (AddsLine (string_bytes out.old) (string_bytes out.new)) }
 

@@ -1,13 +1,14 @@
 //! Objects of JSON, made member by member.
 
-use serde_json::{Map, Value, put};
+use crate::value::Value;
 use std::alloc::{AllocError, Global};
+use std::collections::BTreeMap;
 
 /// An object that is being made. If memory runs out for a member, `finish` fails.
 #[derive(Drop)]
 pub struct Object {
     alloc: Global,
-    members: Map<String, Value>,
+    members: BTreeMap<String, Value>,
     is_whole: bool,
 }
 
@@ -16,14 +17,14 @@ impl Object {
     pub fn new(alloc: Global) -> Object {
         Object {
             alloc,
-            members: Map::new(alloc),
+            members: BTreeMap::new(alloc),
             is_whole: true,
         }
     }
 
     /// Sets a member to a value.
     pub fn set(&mut self, key: &str, value: Value) {
-        if put(&mut self.members, self.alloc, key, value).is_err() {
+        if self.put(key, value).is_err() {
             self.is_whole = false;
         }
     }
@@ -55,6 +56,12 @@ impl Object {
             Ok(list) => self.set(key, Value::Array(list)),
             Err(AllocError) => self.is_whole = false,
         }
+    }
+
+    fn put(&mut self, key: &str, value: Value) -> Result<(), AllocError> {
+        self.members
+            .insert(String::from_str(self.alloc, key)?, value)?;
+        Ok(())
     }
 
     /// The object.

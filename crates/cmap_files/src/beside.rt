@@ -106,7 +106,7 @@ fn found_place(rt: &HostRuntime, target: &str) -> io::Result<Option<Place>> {
 /// The path to which a link leads; a path without a link as it is.
 fn linked_path(rt: &HostRuntime, path: &str) -> io::Result<String> {
     if !is_plain(path) {
-        return Err(io::Error::from(ErrorKind::InvalidFilename));
+        return Err(io::Error::from(ErrorKind::InvalidInput));
     }
     match fs::symlink_metadata(rt, path) {
         Ok(metadata) if metadata.is_symlink() => Ok(fs::canonicalize(rt, path)?.into_string()),

@@ -4,6 +4,8 @@ ghost use Rattle.std.specs.Prelude.{◌≡◌, ◌↔◌, IsTrue, MatchOption};
 ghost use Rattle.std.specs.Str.{IsUtf8};
 ghost use Rattle.cmap_files.specs.FileNames.{IsFileName};
 
+use std::str;
+
 /// The name of a file in a folder that isn't hidden. Names come from untrusted files, so a name that leads to
 /// another folder gives `None`.
 pub fn file_name(name: &[u8]) -> Option<&str>

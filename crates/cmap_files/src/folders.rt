@@ -73,7 +73,7 @@ enum Kind {
 /// What has this path. Links are followed.
 fn kind_of(rt: &HostRuntime, path: &str) -> io::Result<Kind> {
     if !is_plain(path) {
-        return Err(io::Error::from(ErrorKind::InvalidFilename));
+        return Err(io::Error::from(ErrorKind::InvalidInput));
     }
     let metadata = fs::metadata(rt, path)?;
     Ok(if metadata.is_dir() {

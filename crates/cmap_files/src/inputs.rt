@@ -30,7 +30,7 @@ fn read_file(rt: &HostRuntime, path: &str) -> io::Result<Vec<u8>> {
     if is_plain(path) {
         fs::read(rt, path)
     } else {
-        Err(io::Error::from(ErrorKind::InvalidFilename))
+        Err(io::Error::from(ErrorKind::InvalidInput))
     }
 }
 

@@ -11,6 +11,7 @@ ghost use Rattle.cmap_files.specs.PathTexts.{AreBytes, AreSpelled, IsTextOf, Tak
 use cmap_escape::digits::byte_digits;
 use cmap_escape::escape::push_text;
 use std::alloc::{AllocError, Global};
+use std::str;
 
 /// The character before the digits of a byte.
 const MARK: char = '\0';

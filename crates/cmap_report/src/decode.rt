@@ -5,10 +5,10 @@ ghost use Rattle.cmap_escape.specs.Escapes.{AddsLine, AddsOfLine};
 
 use cmap_escape::digits::{byte_digits, code_digits, push_code};
 use cmap_escape::object::Object;
+use cmap_escape::value::Value;
 use cmap_escape::{escape, json};
 use cmap_unicode::{Character, Extractor};
 use hayro_cmap::{BfString, StringCode};
-use serde_json::Value;
 use std::alloc::{AllocError, Global};
 
 /// What is printed for a code without a text.

@@ -7,8 +7,8 @@ use cmap_encode::{Encoder, Unencodable};
 use cmap_escape::digits::byte_digits;
 use cmap_escape::json;
 use cmap_escape::object::Object;
+use cmap_escape::value::Value;
 use cmap_values::fault::Fault;
-use serde_json::Value;
 use std::alloc::{AllocError, Global};
 
 /// What a text is encoded as.

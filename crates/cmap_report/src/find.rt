@@ -6,13 +6,13 @@ ghost use Rattle.cmap_escape.specs.Escapes.{AddsLine, AddsOfLine};
 use crate::list::line::push_range;
 use cmap_escape::digits::code_digits;
 use cmap_escape::object::Object;
+use cmap_escape::value::Value;
 use cmap_escape::{escape, json};
 use cmap_queries::arguments::decimal;
 use cmap_queries::code_lengths::{LENGTHS, fewest_bytes, has_codes, text_code_len};
 use cmap_unicode::Extractor;
 use hayro_cmap::runs::Range;
 use hayro_cmap::{CodeLength, Layers};
-use serde_json::Value;
 use std::alloc::{AllocError, Global};
 
 /// The most codes of a range that are looked at one by one.
@@ -289,12 +289,11 @@ fn is_long(range: Range) -> bool {
 
 /// Adds a code, to the range before if it ends with the code before.
 fn add_code(found: &mut Vec<Codes>, byte_len: u8, code: u32) -> Result<(), AllocError> {
-    if let Some(last) = found.last_mut()
-        && last.byte_len == byte_len
-        && last.range.end.checked_add(1) == Some(code)
-    {
-        last.range.end = code;
-        return Ok(());
+    if let Some(last) = found.last_mut() {
+        if last.byte_len == byte_len && last.range.end.checked_add(1) == Some(code) {
+            last.range.end = code;
+            return Ok(());
+        }
     }
     let (start, end) = (code, code);
     found.push(Codes {

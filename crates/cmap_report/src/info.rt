@@ -5,12 +5,12 @@ ghost use Rattle.cmap_escape.specs.Escapes.{AddsLine, AddsOfLine};
 
 use cmap_escape::digits::{code_digits, push_code};
 use cmap_escape::object::Object;
+use cmap_escape::value::Value;
 use cmap_escape::{escape, json};
 use cmap_queries::code_lengths::LENGTHS;
 use hayro_cmap::{
     ByLength, CMap, CharacterCollection, CodeLength, Codespace, Layer, Metadata, WritingMode,
 };
-use serde_json::Value;
 use std::alloc::{AllocError, Global};
 
 /// Adds the paragraph of a file: what it states, and what the files state that it is based on. `uses` has the

@@ -6,9 +6,9 @@ ghost use Rattle.cmap_escape.specs.Escapes.{AddsLine, AddsOfLine};
 use crate::decode::{push_text_or_dash, text_value};
 use cmap_escape::json;
 use cmap_escape::object::Object;
+use cmap_escape::value::Value;
 use cmap_queries::query::{Asked, Query};
 use hayro_cmap::CMap;
-use serde_json::Value;
 use std::alloc::{AllocError, Global};
 
 /// Adds a line: the argument of the query in thirteen columns, and its answer.

@@ -13,6 +13,7 @@ use cmap_values::file::File;
 use cmap_values::metadata::Metadata;
 use cmap_values::writing_mode::WritingMode;
 use std::alloc::{AllocError, Global};
+use std::str;
 
 /// What the arguments of `make` ask for.
 #[derive(Clone, Copy)]

@@ -204,10 +204,10 @@ fn missing_names(
 ) -> Result<Vec<Vec<u8>>, AllocError> {
     let mut names = Vec::new(alloc);
     for fault in faults {
-        if let Some(name) = missing_name(fault)
-            && bases.has_unread(name)
-        {
-            names.push(Vec::from_slice(alloc, name)?)?;
+        if let Some(name) = missing_name(fault) {
+            if bases.has_unread(name) {
+                names.push(Vec::from_slice(alloc, name)?)?;
+            }
         }
     }
     Ok(names)

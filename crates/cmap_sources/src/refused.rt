@@ -5,9 +5,9 @@ use cmap_binary::is_marked_binary;
 use cmap_escape::escape::{escaped_names, push_name, push_text};
 use cmap_escape::json::push_value;
 use cmap_escape::object::Object;
+use cmap_escape::value::Value;
 use hayro_cmap::token::Scanner;
 use hayro_cmap::{Bundle, Cause, NamedFile, NamedFiles, Reason, Refusal, Stop};
-use serde_json::Value;
 use std::alloc::{AllocError, Global};
 use std::fmt::Write;
 

@@ -5,25 +5,25 @@ use crate::fallible::alloc::AllocError;
 use crate::host::HostRuntime;
 use std::env;
 
-/// Why an argument isn't there.
+/// Why there is no argument.
 pub enum FillError {
     /// There are fewer.
     NotPresent,
-    /// It is longer than the room for it.
+    /// It is longer than the buffer for it.
     TooLong,
 }
 
 /// The arguments.
 pub trait Env {
-    /// Fills the front of `room` with the argument at an index; its length.
-    fn arg(&self, index: usize, room: &mut [u8]) -> Result<usize, FillError>;
+    /// Copies the argument at an index to the head of a buffer, and gives its length.
+    fn arg(&self, index: usize, buffer: &mut [u8]) -> Result<usize, FillError>;
 }
 
 impl Env for HostRuntime {
-    fn arg(&self, index: usize, room: &mut [u8]) -> Result<usize, FillError> {
+    fn arg(&self, index: usize, buffer: &mut [u8]) -> Result<usize, FillError> {
         let argument = self.arguments.get(index).ok_or(FillError::NotPresent)?.as_encoded_bytes();
-        let room = room.get_mut(..argument.len()).ok_or(FillError::TooLong)?;
-        room.copy_from_slice(argument);
+        let buffer = buffer.get_mut(..argument.len()).ok_or(FillError::TooLong)?;
+        buffer.copy_from_slice(argument);
         Ok(argument.len())
     }
 }

@@ -98,7 +98,7 @@ impl Files for HostRuntime {
 pub struct Names(Cursor<std::vec::Vec<u8>>);
 
 impl Read for Names {
-    fn read(&mut self, room: &mut [u8]) -> io::Result<usize> {
-        self.0.read(room)
+    fn read(&mut self, buffer: &mut [u8]) -> io::Result<usize> {
+        self.0.read(buffer)
     }
 }

@@ -22,9 +22,9 @@ impl<'a> Command<'a> {
         Command(self.0.about(about), PhantomData)
     }
 
-    /// Its version.
-    pub fn version(self, version: &'static str) -> Self {
-        Command(self.0.version(version), PhantomData)
+    /// Its version, and that it is built of plain Rust.
+    pub fn version(self, version: &str) -> Self {
+        Command(self.0.version(&*format!("{version}, in plain Rust").leak()), PhantomData)
     }
 
     /// Whether it can't be without a subcommand.
@@ -55,7 +55,7 @@ impl<'a> Command<'a> {
     /// What these words ask for, the first of which is the name of the program.
     pub fn try_get_matches_from<'w>(self, words: &'w [String]) -> Result<ArgMatches<'w>, Error> {
         let words = words.iter().map(String::as_str);
-        Ok(ArgMatches::of(self.0.try_get_matches_from(words)?))
+        self.0.try_get_matches_from(words).map(ArgMatches::of)
     }
 }
 
@@ -108,7 +108,7 @@ impl Arg<'_> {
         Arg(self.0.required(is_required), PhantomData)
     }
 
-    /// It has to be there where another one isn't.
+    /// It has to be there unless another one is.
     pub fn required_unless_present(self, id: &'static str) -> Result<Self, AllocError> {
         Ok(Arg(self.0.required_unless_present(id), PhantomData))
     }
@@ -123,7 +123,7 @@ pub struct ArgMatches<'w> {
 }
 
 impl<'w> ArgMatches<'w> {
-    /// The texts live as long as the program: they are those of one command line.
+    /// The texts live as long as the program: there is one command line.
     fn of(mut found: ::clap::ArgMatches) -> Self {
         let mut texts = HashMap::new();
         for id in found.ids() {

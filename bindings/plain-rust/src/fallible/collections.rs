@@ -61,6 +61,11 @@ impl<K: Ord, V> BTreeMap<K, V> {
         Some(&part[at].1)
     }
 
+    /// The entries, in the order of their keys.
+    pub fn iter(&self) -> impl Iterator<Item = (&K, &V)> {
+        self.parts.iter().flatten().map(|(key, value)| (key, value))
+    }
+
     /// Whether a key has a value.
     pub fn contains_key<Q: Ord + ?Sized>(&self, key: &Q) -> bool
     where
@@ -218,6 +223,7 @@ mod tests {
         for key in 0..0x8000 {
             assert_eq!(map.get(&key), expected.get(&key));
         }
+        assert!(map.iter().eq(&expected));
     }
 
     #[test]

@@ -8,11 +8,11 @@ use cmap_escape::digits::{code_digits, push_code};
 use cmap_escape::escape::push_quoted;
 use cmap_escape::json;
 use cmap_escape::object::Object;
+use cmap_escape::value::Value;
 use cmap_queries::code_lengths::{printed_len, text_code_len};
 use cmap_queries::texts::text_string;
 use hayro_cmap::runs::Range;
 use hayro_cmap::{BfRange, CMap, utf16};
-use serde_json::Value;
 use std::alloc::{AllocError, Global};
 
 /// A declaration of a layer, or what codes in a row have over all layers.

@@ -1,7 +1,7 @@
 use Rattle.std.proofs.Common.{◌≡◌, map, take, vec_items}
 use Rattle.serde_json.specs.Data.{string}
-use Rattle.serde_json.specs.View.{view}
 use Rattle.cmap_escape.specs.Escapes.{name_shown}
+use Rattle.cmap_escape.specs.Values.{view}
 use Rattle.cmap_escape.proofs.escape.escaped_names.Given as goal
 
 abbrev pub invariant-loop-name : goal.invariant-loop-name
