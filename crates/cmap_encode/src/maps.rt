@@ -52,11 +52,7 @@ pub(crate) struct Maps<'m> {
 impl<'m> Maps<'m> {
     /// Those of a font, with the map of its character collection from Unicode, if there is one. Where only
     /// texts read back count, a code has the CID of all layers, as a reader sees it.
-    pub(crate) fn of(
-        font: &Extractor<'m>,
-        unicode: Option<&'m Layers>,
-        exact: bool,
-    ) -> Maps<'m>
+    pub(crate) fn of(font: &Extractor<'m>, unicode: Option<&'m Layers>, exact: bool) -> Maps<'m>
         ensures { AreMapsOf (font_of font.now) (option_copied unicode.entry) exact (maps_seen result) }
     {
         let all = font.encoding.as_slice();
