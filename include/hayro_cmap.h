@@ -185,7 +185,7 @@ typedef struct hayro_cmap_facts {
 typedef enum hayro_cmap_status {
     HAYRO_CMAP_OK = 0,           /* there is an answer, and it is written */
     HAYRO_CMAP_REFUSED = 1,      /* the file, or one that it uses, is outside the grammar or missing;
-                                    or no file says what one is to say; or no string shows the text */
+                                    or no file says what one is to say; or the text can't be encoded */
     HAYRO_CMAP_NO_MEMORY = 2,    /* out of memory: an allocation failed */
     HAYRO_CMAP_OVER_BUDGET = 3,  /* the files that are opened have more bytes than the budget */
     HAYRO_CMAP_NOT_A_BUNDLE = 4, /* the bundle is invalid */
@@ -655,22 +655,24 @@ hayro_cmap_status hayro_cmap_encoder_share(hayro_cmap_encoder *encoder, hayro_cm
 /* Empties the handle, and frees the encoder if no other handle has it. */
 void hayro_cmap_encoder_free(hayro_cmap_encoder *encoder);
 
-/* The string of the font that shows a text, which is UTF-8: hayro_cmap_extract reads the string as codes in
- * codespace ranges, whose texts, one after another, are this text. Of several strings it is the shortest, and
- * of several as short the one whose bytes are least. It takes time by the characters of the text, times at most
- * those of the longest text of a code.
+/* The string of the font for a text, which is UTF-8: the codes of its pieces. A piece is a letter, a character
+ * and the marks after it, if that has a code and the rest can be encoded; else less of the letter, and at last
+ * more than it. A piece has the code, in a codespace range and of no notdef, of which it is the text, of several
+ * the shortest, and of these the least. A character without one has that of a character that looks or means the
+ * same, and a variation selector no bytes. It takes time by the characters of the text, times at most those of
+ * the longest text of a code.
  *
  * With HAYRO_CMAP_OK the string stands at the head of `room`, and `needed` is how many bytes it has. With
- * HAYRO_CMAP_NO_ROOM `needed` is how many it has, and the room is as it was. With HAYRO_CMAP_REFUSED no string
- * shows the text, and only `offset` is written: of the fronts of the text that strings show, the longest ends
- * there, in bytes; of a text that isn't UTF-8 the longest front that is. An empty handle is HAYRO_CMAP_ABSENT.
+ * HAYRO_CMAP_NO_ROOM `needed` is how many it has, and the room is as it was. With HAYRO_CMAP_REFUSED the text
+ * can't be encoded, and only `offset` is written: the longest prefix that can be ends there, in bytes; of a text
+ * that isn't UTF-8 the longest prefix that is. An empty handle is HAYRO_CMAP_ABSENT.
  * Then, and with HAYRO_CMAP_NO_MEMORY, nothing is written. */
 hayro_cmap_status hayro_cmap_encode(hayro_cmap_encoder *encoder, const uint8_t *text, size_t text_len,
                                     uint8_t *room, size_t room_len, size_t *needed, size_t *offset);
 
-/* The same as far as strings show the text: the longest front that some string shows, then the bytes of
- * `missing` for the character after it, as 3F for a question mark, then what is left of the text likewise. With
- * HAYRO_CMAP_REFUSED the text isn't UTF-8, and nothing is written. */
+/* The same as far as the text can be encoded: its longest prefix that can be, then the bytes of `missing` for the
+ * character after it, as 3F for a question mark, then what is left of the text likewise. With HAYRO_CMAP_REFUSED
+ * the text isn't UTF-8, and nothing is written. */
 hayro_cmap_status hayro_cmap_encode_lossy(hayro_cmap_encoder *encoder, const uint8_t *text,
                                           size_t text_len, const uint8_t *missing, size_t missing_len,
                                           uint8_t *room, size_t room_len, size_t *needed);

@@ -852,8 +852,7 @@ public:
         return other;
     }
 
-    // The string whose codes lie in codespace ranges and have texts that are this text, one after another.
-    // Of several strings it is the shortest, and of several as short the one whose bytes are least.
+    // The string of a text, piece by piece, as hayro_cmap_encode has it.
     Encoded encode(Bytes text) {
         std::size_t offset = 0;
         auto string = detail::written_to(room_for(text), [&](auto room, auto len, auto needed) {
@@ -863,7 +862,7 @@ public:
         return *std::move(string);
     }
 
-    // The same as far as strings show the text: the longest front that some string shows, `missing` for the
+    // The same as far as the text can be encoded: its longest prefix that can be, `missing` for the
     // character after it, then what is left likewise. Nothing where the text isn't UTF-8.
     std::optional<std::string> encode_lossy(Bytes text, Bytes missing) {
         return detail::written_to(room_for(text), [&](auto room, auto len, auto needed) {

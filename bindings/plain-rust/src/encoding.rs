@@ -36,9 +36,11 @@ impl Extractor {
 }
 
 impl Encoder {
-    /// The string that shows a text: its codes lie in codespace ranges, and have texts that are this
-    /// text, one after another. Of several strings it is the shortest, and of several as short the one
-    /// whose bytes are least.
+    /// The string of a text: the codes of its pieces. A piece is a letter, a character and the marks after
+    /// it, if that has a code and the rest can be encoded; else less of the letter, and at last more than
+    /// it. A piece has the code, in a codespace range and of no notdef, of which it is the text, of several
+    /// the shortest, and of these the least. A character without one has that of a character that looks or
+    /// means the same, and a variation selector no bytes.
     pub fn encode(&self, text: &str) -> Result<Vec<u8>, EncodeError> {
         match self.held.encode(Global, text) {
             Ok(string) => Ok(string.to_vec()),
@@ -47,7 +49,7 @@ impl Encoder {
         }
     }
 
-    /// The same as far as strings show the text: the string of the longest front that they show, then
+    /// The same as far as the text can be encoded: the string of its longest prefix that can be, then
     /// `missing` for the character after it, then what is left of the text likewise.
     ///
     /// ```

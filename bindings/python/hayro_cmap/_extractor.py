@@ -114,12 +114,14 @@ class Extractor:
         ]
 
     def encode(self, text: str, missing: Optional[Buffer] = None) -> bytes:
-        """The string that shows a text: its codes lie in codespace ranges, and have texts that are this text, one after
-        another. Of several strings it is the shortest, and of several as short the one whose bytes are least.
+        """The string of a text: the codes of its pieces. A piece is a letter, a character and the marks after it, if that
+        has a code and the rest can be encoded; else less of the letter, and at last more than it. A piece has the code, in
+        a codespace range and of no notdef, of which it is the text, of several the shortest, and of these the least. A
+        character without one has that of a character that looks or means the same, and a variation selector no bytes.
 
-        A text that no string shows is Unencodable. But where `missing` is given, as b"\\x00\\x3f" for a question mark, the
-        string is that of the longest prefix that strings show, then these bytes for the character after it, then what
-        is left of the text likewise.
+        A text that has no such pieces is Unencodable. But where `missing` is given, as b"\\x00\\x3f" for a question mark,
+        the string is that of the longest prefix that has them, then these bytes for the character after it, then what is
+        left of the text likewise.
 
         What is needed for it is made of all codes of the font when it is first called, and kept.
         """

@@ -252,10 +252,11 @@ class Items(unittest.TestCase):
 
 
 class Encoding(unittest.TestCase):
-    def test_the_shortest_string(self):
-        texts = {1: "f", 2: "i", 3: "ffi", 4: "日", 5: "\U0001F600", 6: "f"}
+    def test_letters_come_first(self):
+        texts = {1: "f", 2: "i", 3: "ffi", 4: "日", 5: "\U0001F600", 6: "f", 7: "st"}
         with identity_font(to_unicode(texts)) as font:
-            self.assertEqual(font.encode("ffif日\U0001F600"), b"\0\3\0\1\0\4\0\5")
+            self.assertEqual(font.encode("ffif日\U0001F600"), b"\0\1\0\1\0\2\0\1\0\4\0\5")
+            self.assertEqual(font.encode("fist"), b"\0\1\0\2\0\7")
             self.assertEqual(font.encode(""), b"")
             self.assertEqual(font.encode("fi" * 20_000), b"\0\1\0\2" * 20_000)
 
@@ -288,12 +289,13 @@ class Encoding(unittest.TestCase):
 
     @needs_resources
     def test_texts_of_predefined_maps(self):
-        """The string of each text has it again, and no code with the text comes before it."""
+        """The string of each text has it again, and no code of a glyph with the text comes before it."""
         for name in ["90ms-RKSJ-H", "UniGB-UCS2-H", "KSCms-UHC-H", "ETen-B5-H"]:
             with CMap.open(name) as cmap, Extractor(cmap, files=hayro_cmap.predefined) as font:
                 first = {}
                 for code, text in font.items():
-                    first.setdefault(text, code)
+                    if len(text) == 1 and text != "\uFFFD" and code[0] > 0x1F:  # codes before it may be notdefs
+                        first.setdefault(text, code)
                 self.assertGreater(len(first), 6000)
                 for text, code in first.items():
                     string = font.encode(text)
@@ -341,7 +343,7 @@ class Pdftotext(unittest.TestCase):
         with identity_font(data) as font:
             string = font.encode("office日\U0001F600éfi")
             lossy = font.encode("officé ©", missing=b"\0\5")
-        self.assertEqual(len(string) // 2, 9)
+        self.assertEqual(len(string) // 2, 11)
         self.assertEqual(self.text_of(pdf_showing(string, to_unicode=data)), "office日\U0001F600éfi")
         self.assertEqual(self.text_of(pdf_showing(lossy, to_unicode=data)), "officé日日")
 

@@ -19,14 +19,14 @@ fn encoder() -> Encoder {
 }
 
 #[test]
-fn the_shortest_string_is_taken() {
-    assert_eq!(encoder().encode("ffif日😀").unwrap(), b"\0\x03\0\x01\0\x04\0\x05");
+fn letters_come_first() {
+    assert_eq!(encoder().encode("ffif日😀").unwrap(), b"\0\x01\0\x01\0\x02\0\x01\0\x04\0\x05");
     assert_eq!(encoder().encode("").unwrap(), b"");
     assert_eq!(encoder().encode(&"fi".repeat(1000)).unwrap(), b"\0\x01\0\x02".repeat(1000));
 }
 
 #[test]
-fn a_text_is_refused_where_the_longest_front_ends() {
+fn a_text_is_refused_where_its_longest_prefix_ends() {
     let refused = |text| encoder().encode(text).map_err(|EncodeError { offset, .. }| offset);
     assert_eq!(refused("日x"), Err(3));
     assert_eq!(refused("ffx"), Err(2));
@@ -51,7 +51,7 @@ fn threads_share_an_encoder() {
         for encoder in clones.iter().chain([&encoder, &encoder]) {
             scope.spawn(move || {
                 for _ in 0..1000 {
-                    assert_eq!(encoder.encode("ffi").unwrap(), b"\0\x03");
+                    assert_eq!(encoder.encode("ffi").unwrap(), b"\0\x01\0\x01\0\x02");
                 }
             });
         }

@@ -3,7 +3,7 @@ use Rattle.std.proofs.Common.{◌≡◌, ℕ, List, Option, None, Some, Result, 
 use Rattle.std.specs.Prelude.{IfOk}
 use Rattle.std.specs.Result.{MatchResult}
 use Rattle.std.specs.Global.{Vec}
-use Rattle.std.specs.Str.{IsUtf8}
+use Rattle.std.specs.Str.{IsUtf8, chars}
 use Rattle.std.specs.declared.alloc.AllocError.{AllocError}
 use Rattle.cmap_values.specs.Outcomes.{Outcome}
 use Rattle.cmap_values.specs.declared.fault.Fault.{Fault}
@@ -13,6 +13,7 @@ use Rattle.cmap_handles.specs.Statuses.{number}
 use Rattle.cmap_handles.specs.declared.status.Status.TheVariants.{Done, NoMemory}
 use Rattle.cmap_unicode.specs.TextsOfCodes.{Font}
 use Rattle.cmap_encode.specs.EncoderSeen.{IsEncoderFor}
+use Rattle.cmap_encode.specs.Encodings.{IsEncodingOf, IsStuckAt}
 use Rattle.cmap_encode.specs.Maps.{Maps}
 use Rattle.cmap_encode.specs.declared.encoder.Encoder.{Encoder}
 use Rattle.cmap_encode.specs.declared.encoder.Unencodable.{Unencodable}
@@ -29,6 +30,14 @@ pub built : {B : Type 0} (value : B → Encoder) (made : Result B AllocError) (f
     → MatchResult made (λ b. (status ≡ number Done) × (now ≡ Some (value b))) (λ _. (status ≡ number NoMemory) × (now ≡ None)) → IsBuilt font now status
 built value (Ok b) font status now is kept = inl (value b, is, kept.1, kept.0)
 built value (Err e) font status now is kept = inr (kept.1, kept.0)
+
+-- of a text that is UTF-8, the string that it has, or where it is refused
+pub string_known : (maps : Maps) (text given : List ℕ) (made : Result (Vec ℕ) (Fault Unencodable)) → given ≡ text → IsUtf8 text
+    → Outcome (λ string. IsEncodingOf maps (chars given) string.items) (λ refused. IsStuckAt maps (chars given) refused.offset) made
+    → Outcome (λ string. IsStringOf maps text string.items) (λ refused. IsRefusedAt maps text refused.offset) made
+string_known maps text given (Ok string) same utf8 is = ((utf8, subst (λ t. IsEncodingOf maps (chars t) string.items) same is.0), tt)
+string_known maps text given (Err (fault.Refused refused)) same utf8 is = (tt, inl (utf8, subst (λ t. IsStuckAt maps (chars t) refused.offset) same is.1))
+string_known maps text given (Err fault.Memory) same utf8 is = (tt, tt)
 
 -- a string that was made is put, or the text is refused
 pub string_put : (maps : Maps) (text : List ℕ) (made : Result (Vec ℕ) (Fault Unencodable)) (old new : List ℕ) (old_needed needed old_offset offset status : ℕ)

@@ -1,5 +1,5 @@
 -- What an encoder has stands for texts by its maps, and nothing else does.
-use Rattle.std.proofs.Common.{◌≡◌, ℕ, List, Option, None, Some, Result, Ok, Err, false, refl, sym, ap, ◌∙◌, subst, inl, inr, arith}
+use Rattle.std.proofs.Common.{◌≡◌, ℕ, List, Option, None, Some, Result, Ok, Err, refl, sym, ap, ◌∙◌, subst, inl, inr, arith}
 use Rattle.std.specs.Prelude.{IfOk, option_map}
 use Rattle.std.specs.Global.{Vec}
 use Rattle.std.specs.declared.alloc.AllocError.{AllocError}
@@ -8,7 +8,7 @@ use Rattle.cmap_values.specs.declared.fault.Fault.{Fault}
 use Rattle.cmap_values.specs.declared.fault.Fault.TheVariants as fault
 use Rattle.cmap_encode.specs.ChoicesSeen.{choices_of, grade_of, own_choice, owned}
 use Rattle.cmap_encode.specs.EncoderSeen.{IsEncoderOf}
-use Rattle.cmap_encode.specs.Encodings.{AreChoicesOf, IsEncodingBy, IsEncodingOf, IsLossyEncodingBy, IsLossyEncodingOf, IsOwnChoice, IsStuckAt, IsStuckBy}
+use Rattle.cmap_encode.specs.Encodings.{AreChoicesOf, IsEncodingBy, IsEncodingOf, IsLossyEncodingBy, IsLossyEncodingOf, IsStuckAt, IsStuckBy}
 use Rattle.cmap_encode.specs.IndexSeen.{own_in}
 use Rattle.cmap_encode.specs.Maps.{Maps}
 use Rattle.cmap_encode.specs.Pieces.{Choice, Choices}

@@ -1,6 +1,6 @@
 -- Which prefixes of a text fall into pieces.
-use Rattle.std.proofs.Common.{◌≡◌, ℕ, zero, suc, ◌+◌, ◌-◌, ◌<◌, ◌≤◌, ◌⊎◌, Bool, true, false, List, [], ◌∷◌, ◌++◌, get_or, length, take, drop, Option, Some, None, refl, sym, ap, ◌∙◌, subst, inl, inr, arith, length-append, length-drop}
-use Rattle.std.specs.Prelude.{◌↔◌, Any, IsSome, IsTrue, if◌then◌else◌, is_some, option_and_then, option_map}
+use Rattle.std.proofs.Common.{◌≡◌, ℕ, zero, suc, ◌+◌, ◌-◌, ◌<◌, ◌≤◌, Bool, true, false, List, [], ◌∷◌, ◌++◌, get_or, length, take, drop, Option, Some, None, refl, sym, ap, ◌∙◌, subst, inl, inr, arith, length-append, length-drop}
+use Rattle.std.specs.Prelude.{◌↔◌, Any, IsSome, IsTrue, if◌then◌else◌, option_and_then}
 use Rattle.std.proofs.lemmas.Bool.{cases_lt, false≢true}
 use Rattle.std.proofs.lemmas.List.{drop-take, drop_all, drop_at, get_or-drop, length-take-le, take-append-drop, take-take, take_at}
 use Rattle.std.proofs.lemmas.List.Quantifiers.{Any-push}
@@ -9,7 +9,7 @@ use Rattle.cmap_encode.specs.ChoicesSeen.{choices_of, owned, owned_at}
 use Rattle.cmap_encode.specs.Encodings.{IsLongestEncodable}
 use Rattle.cmap_encode.specs.Pieces as pieces
 use Rattle.cmap_encode.specs.Pieces.{IsEncodable, nothing}
-use Rattle.cmap_encode.specs.Prefixes.{AreNodes, EndsPiece, IsAfterPieces, IsLongestBelow, WentOn}
+use Rattle.cmap_encode.specs.Prefixes.{AreNodes, EndsPiece, IsLongestBelow, WentOn}
 use Rattle.cmap_encode.specs.Standing.{one}
 use Rattle.cmap_encode.specs.TreeSeen.{node_of, step_of}
 use Rattle.cmap_encode.specs.declared.choices.Choices.{Choices}

@@ -1,5 +1,5 @@
 -- The encoding to which ways lead.
-use Rattle.std.proofs.Common.{◌≡◌, ℕ, ◌+◌, ◌-◌, ◌≤◌, ◌<◌, List, [], ◌∷◌, ◌++◌, length, take, drop, get_or, Option, Some, None, refl, sym, ap, ◌∙◌, subst, arith, append_assoc, append-nil, length-drop}
+use Rattle.std.proofs.Common.{◌≡◌, ℕ, ◌+◌, ◌-◌, ◌≤◌, ◌<◌, List, [], ◌∷◌, ◌++◌, length, drop, get_or, Option, Some, None, refl, sym, ap, ◌∙◌, subst, arith, append_assoc, append-nil, length-drop}
 use Rattle.std.specs.Prelude.{IfSome, flat_map, slice_get}
 use Rattle.std.proofs.lemmas.Option.{slice_get-get_or}
 use Rattle.std.proofs.lemmas.List.{drop-drop, drop_all}
@@ -8,7 +8,6 @@ use Rattle.cmap_encode.specs.Encodings.{IsEncodingBy}
 use Rattle.cmap_encode.specs.Pieces.{AreChoices, Choice, Choices, IsEncodable, next, nothing}
 use Rattle.cmap_encode.specs.Ways.{IsWay, last_of}
 use Rattle.cmap_encode.specs.declared.ways.Way.{Way}
-use Rattle.cmap_encode.proofs.PiecesParted.{encoded_encodable}
 
 abbrev bytes_of : List Choice → List ℕ
 bytes_of pieces = flat_map (λ (piece : Choice). piece.bytes) pieces

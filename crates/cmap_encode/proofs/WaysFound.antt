@@ -1,6 +1,6 @@
 -- The ways of the last characters of a text, one after another.
 use Rattle.std.proofs.Common.{◌≡◌, ℕ, suc, ◌+◌, ◌-◌, ◌<◌, ◌≤◌, ◌⊎◌, Bool, true, false, cond, get_or, List, [], ◌∷◌, ◌++◌, length, take, drop, Option, Some, None, refl, sym, ap, ◌∙◌, subst, inl, inr, arith, length-drop}
-use Rattle.std.specs.Prelude.{◌↔◌, IfSome, IsSome, IsTrue, MatchOption, if◌then◌else◌, is_some, option_map, slice_get, take_while}
+use Rattle.std.specs.Prelude.{◌↔◌, IfSome, IsSome, IsTrue, MatchOption, if◌then◌else◌, is_some, slice_get, take_while}
 use Rattle.std.specs.Option.{option_or}
 use Rattle.std.proofs.lemmas.Bool.{cases_lt, false≢true}
 use Rattle.std.proofs.Math.Seq.{drop-cons}
@@ -8,9 +8,8 @@ use Rattle.std.proofs.lemmas.List.{drop-drop, drop_all, length_push}
 use Rattle.std.proofs.lemmas.List.Sums.{take_while-cons}
 use Rattle.cmap_encode.specs.ChoicesSeen.{choice_seen}
 use Rattle.cmap_encode.specs.Letters.{is_mark}
-use Rattle.cmap_encode.specs.Pieces.{BeginsWith, Choices, IsEncodable, IsSooner, MayBegin, letter_of, nothing}
-use Rattle.cmap_encode.specs.Ways.{AreInside, AreWays, IsInside, IsSettled, IsTry, IsTryOf, IsWay, IsWayOf, last_of, marks_of}
-use Rattle.cmap_encode.specs.declared.choices.Choice.{Choice}
+use Rattle.cmap_encode.specs.Pieces.{Choices, IsEncodable, IsSooner, MayBegin, letter_of, nothing}
+use Rattle.cmap_encode.specs.Ways.{AreInside, AreWays, IsInside, IsSettled, IsTry, IsTryOf, IsWayOf, last_of, marks_of}
 use Rattle.cmap_encode.specs.declared.ways.Way.{Way}
 use Rattle.cmap_encode.proofs.ListElements.{push_get, push_last}
 use Rattle.cmap_encode.proofs.PiecesParted.{begins_somehow, may_encodable}

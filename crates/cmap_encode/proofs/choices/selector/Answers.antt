@@ -1,5 +1,4 @@
-use Rattle.std.proofs.Common.{◌≡◌, [], None, Some, refl, sym, ap, ◌∙◌, true, false}
-use Rattle.std.specs.Prelude.{if◌then◌else◌}
+use Rattle.std.proofs.Common.{refl, sym, ◌∙◌}
 use Rattle.cmap_encode.proofs.choices.selector.Goals as goal
 
 pub returns : goal.returns

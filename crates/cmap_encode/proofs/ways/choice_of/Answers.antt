@@ -1,4 +1,4 @@
-use Rattle.std.proofs.Common.{◌≡◌, ◌∙◌, arith}
+use Rattle.std.proofs.Common.{◌∙◌, arith}
 use Rattle.cmap_encode.proofs.TextsOwned.{longer_chosen}
 use Rattle.cmap_encode.proofs.ways.choice_of.Goals as goal
 

@@ -1,4 +1,4 @@
-use Rattle.std.proofs.Common.{◌++◌, sym, append-nil}
+use Rattle.std.proofs.Common.{sym, append-nil}
 use Rattle.cmap_encode.proofs.choices.Choice.push_to.Goals as goal
 
 pub returns-in-Some : goal.returns-in-Some

@@ -1,4 +1,4 @@
-use Rattle.std.proofs.Common.{◌≡◌, refl, sym}
+use Rattle.std.proofs.Common.{sym}
 use Rattle.cmap_encode.specs.Maps.{maps_seen}
 use Rattle.cmap_encode.proofs.encoder.Encoder.build_with.Goals as goal
 

@@ -1,4 +1,4 @@
-use Rattle.std.proofs.Common.{◌≡◌, sym, ◌∙◌, subst}
+use Rattle.std.proofs.Common.{sym, ◌∙◌, subst}
 use Rattle.cmap_values.specs.Outcomes.{RefusesWith}
 use Rattle.cmap_encode.specs.ChoicesSeen.{choices_of}
 use Rattle.cmap_encode.specs.Encodings.{IsEncodingBy, IsStuckBy}
