@@ -1,0 +1,11 @@
+use Rattle.std.proofs.Common.{◌≡◌, ℕ, List, map, refl, ap, ◌∙◌}
+use Rattle.cmap_encode.specs.Alike.{alike_lines, line_of}
+use Rattle.cmap_encode.specs.declared.alike.TheConstants.{ALIKE}
+use Rattle.cmap_encode.proofs.alike.alike_to.Goals as goal
+
+-- the table of the code is that of the definition
+same : map (λ line. line.now) ALIKE.now ≡ alike_lines
+same = refl
+
+pub returns : goal.returns
+returns c = c.line_of.ensures ∙ ap (λ lines. line_of lines c.args.character) same
