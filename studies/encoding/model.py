@@ -97,7 +97,7 @@ class Font:
         self.stated, self.texts = texts(to_unicode), texts(collection)
         self.seen = given(encoding)
         lower = encoding if exact else split(encoding)
-        cids = glyphs(lower, encoding)
+        cids = self.cids = glyphs(lower, encoding)
         characters = self.characters_of(unicode, len(lower) < len(encoding)) if unicode else {}
         self.form = form_of(unicode) if unicode else None
         self.best = {}
