@@ -2,7 +2,7 @@
 
 use crate::examples::{lossy_string_of_text, string_of_text, text_of_string};
 use crate::maps::{map_over, simple_font};
-use cmap_encode::Unencodable;
+use cmap_encode::{Encoder, Unencodable};
 use cmap_unicode::{Extractor, simple_encoding};
 use hayro_cmap::{CMap, Fault};
 use std::alloc::{AllocError, Global};
@@ -19,6 +19,25 @@ beginbfchar <07A0> <8A9E> <0CD4> <65E5> <0E8A> <672C> endbfchar";
 /// Texts of two characters that overlap, a text with a shorter and a longer code, and one with two codes.
 const TO_UNICODE: &[u8] =
     b"beginbfchar <01> <00610062> <02> <0061> <03> <00620063> <05> <0061> endbfchar";
+
+/// Codes of two bytes that are CIDs.
+const IDENTITY: &[u8] = b"begincodespacerange <0000> <FFFF> endcodespacerange
+begincidrange <0000> <FFFF> 0 endcidrange";
+
+/// A narrow and a wide glyph of one letter in Adobe-Japan1, and a glyph that is read as a radical.
+const GLYPHS: &[u8] = b"beginbfchar <020E> <3042> <034B> <3042> <04B0> <2F00> endbfchar";
+
+/// The glyphs that the collection means by these characters.
+const UNICODE: &[u8] = b"begincodespacerange <0000> <FFFF> endcodespacerange
+begincidchar <3042> 843 <4E00> 1200 endcidchar";
+
+/// Whether an encoder gives this string to a text.
+fn gives(alloc: Global, encoder: &Encoder, text: &str, bytes: &[u8]) -> bool {
+    match encoder.encode(alloc, text) {
+        Ok(string) => string.as_slice() == bytes,
+        Err(_) => false,
+    }
+}
 
 /// Whether a text is shown by a string, which is read as this text.
 fn is_shown_by(alloc: Global, font: &Extractor<'_>, text: &str, bytes: &[u8]) -> bool {
@@ -122,4 +141,49 @@ fn a_missing_character_ends_the_longest_front(rt: HostRuntime) {
     assert!(rt; after_the_longest);
     let at_the_end = is_shown_in_part(alloc, &font, "bcb", b"\x03?");
     assert!(rt; at_the_end);
+}
+
+#[test]
+fn a_map_from_unicode_chooses_glyphs(rt: HostRuntime) {
+    let alloc = rt.alloc();
+    let encoding = map_over(alloc, IDENTITY, &[]).expect(&rt, "refused");
+    let collection = map_over(alloc, GLYPHS, &[]).expect(&rt, "refused");
+    let unicode = map_over(alloc, UNICODE, &[]).expect(&rt, "refused");
+    let font = japanese(&encoding, &collection);
+    let alone = Encoder::build(alloc, &font).expect(&rt, "out of memory");
+    let narrow = gives(alloc, &alone, "あ", b"\x02\x0E");
+    assert!(rt; narrow);
+    let chosen = Encoder::build_with(alloc, &font, Some(unicode.layers()), false).expect(
+        &rt,
+        "out of memory",
+    );
+    let wide = gives(alloc, &chosen, "あ一", b"\x03\x4B\x04\xB0");
+    assert!(rt; wide);
+    let exact = Encoder::build_with(alloc, &font, Some(unicode.layers()), true).expect(
+        &rt,
+        "out of memory",
+    );
+    let read_back = gives(alloc, &exact, "あ", b"\x03\x4B");
+    assert!(rt; read_back);
+    let other = gives(alloc, &exact, "一", b"\x04\xB0");
+    assert!(rt; !other);
+}
+
+#[test]
+fn a_character_alike_stands_in(rt: HostRuntime) {
+    let alloc = rt.alloc();
+    let encoding = map_over(alloc, IDENTITY, &[]).expect(&rt, "refused");
+    let collection = map_over(
+        alloc,
+        b"beginbfchar <0001> <2002> <0002> <FF5E> endbfchar",
+        &[],
+    )
+    .expect(&rt, "refused");
+    let font = japanese(&encoding, &collection);
+    let encoder = Encoder::build(alloc, &font).expect(&rt, "out of memory");
+    let both = gives(alloc, &encoder, " 〜\u{FE00}", b"\0\x01\0\x02");
+    assert!(rt; both);
+    let exact = Encoder::build_with(alloc, &font, None, true).expect(&rt, "out of memory");
+    let neither = gives(alloc, &exact, " ", b"\0\x01");
+    assert!(rt; !neither);
 }
