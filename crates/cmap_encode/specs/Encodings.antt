@@ -1,11 +1,12 @@
 -- Texts encoded piece by piece, by what stands for the pieces.
-use Rattle.std.specs.Prelude.{◌≡◌, ℕ, ◌+◌, ◌<◌, ◌≤◌, List, ◌++◌, Option, drop, flat_map, length, option_map, take}
+use Rattle.std.specs.Prelude.{◌≡◌, ℕ, ◌+◌, ◌<◌, ◌≤◌, List, [], ◌∷◌, ◌++◌, Option, Some, drop, flat_map, length, option_map, take}
 use Rattle.std.specs.Char.{encode_utf8}
 use Rattle.cmap_encode.specs.ChoicesSeen.{own_choice}
 use Rattle.cmap_encode.specs.Maps.{Maps}
-use Rattle.cmap_encode.specs.Pieces.{AreChoices, Choice, Choices, IsEncodable}
+use Rattle.cmap_encode.specs.Pieces.{AreChoices, BeginsWith, Choice, Choices, IsEncodable}
 use Rattle.cmap_encode.specs.StandsFor.{IsOwn}
 use Rattle.cmap_encode.specs.Standing.{standing}
+use Rattle.cmap_encode.specs.declared.pieces.Piece.{Piece}
 use Rattle.cmap_encode.specs.declared.rank.Ranked.{Ranked}
 
 -- the text falls into pieces, and the string is what stands for them, one after another
@@ -13,6 +14,18 @@ pub record IsEncodingBy (choices : Choices) (text string : List ℕ) : Type 0 wh
   pub pieces : List Choice
   pub are : AreChoices choices text pieces
   pub is : string ≡ flat_map (λ piece. piece.bytes) pieces
+
+-- the piece has so many bytes in UTF-8, and this stands for it
+pub record IsPieceOf (len : ℕ) (choice : Choice) (piece : Piece) : Type 0 where
+  pub text : piece.text_len ≡ len
+  pub code : piece.code_len ≡ length choice.bytes
+  pub grade : piece.grade ≡ choice.grade
+
+-- the pieces into which the text falls, one after another
+pub data ArePiecesBy (choices : Choices) : List ℕ → List Piece → Type 0 where
+  nothing : ArePiecesBy choices [] []
+  next : (text : List ℕ) (len : ℕ) (choice : Choice) (first : Piece) (rest : List Piece) → BeginsWith choices text len → choices (take len text) ≡ Some choice
+      → IsPieceOf (length (flat_map encode_utf8 (take len text))) choice first → ArePiecesBy choices (drop len text) rest → ArePiecesBy choices text (first ∷ rest)
 
 -- of the prefixes of the text that fall into pieces, the longest has so many characters
 pub record IsLongestEncodable (choices : Choices) (text : List ℕ) (count : ℕ) : Type 0 where
@@ -53,6 +66,12 @@ pub record IsEncodingOf (maps : Maps) (text string : List ℕ) : Type 0 where
   pub choices : Choices
   pub are : AreChoicesOf maps choices
   pub encoding : IsEncodingBy choices text string
+
+-- the pieces of the text
+pub record ArePiecesOf (maps : Maps) (text : List ℕ) (pieces : List Piece) : Type 0 where
+  pub choices : Choices
+  pub are : AreChoicesOf maps choices
+  pub pieces_by : ArePiecesBy choices text pieces
 
 -- the text has no encoding; its longest prefix that has one ends at this offset, in bytes of UTF-8
 pub record IsStuckAt (maps : Maps) (text : List ℕ) (offset : ℕ) : Type 0 where

@@ -1,5 +1,5 @@
 -- Characters that belong to the one before them.
-use Rattle.std.specs.Prelude.{ℕ, Bool, ◌&&◌, ◌||◌, nat_le}
+use Rattle.std.specs.Prelude.{ℕ, zero, suc, ◌+◌, Bool, ◌&&◌, ◌||◌, List, [], ◌∷◌, ◌++◌, nat_le}
 
 abbrev pub is_between : ℕ → ℕ → ℕ → Bool
 is_between first last character = nat_le first character && nat_le character last
@@ -7,6 +7,15 @@ is_between first last character = nat_le first character && nat_le character las
 -- variation selectors. The Unicode Standard, 23.4
 abbrev pub is_selector : ℕ → Bool
 is_selector character = is_between 0xFE00 0xFE0F character || is_between 0xE0100 0xE01EF character
+
+-- so many numbers from a first one on
+abbrev pub counted : ℕ → ℕ → List ℕ
+counted first zero = []
+counted first (suc count) = first ∷ counted (first + 1) count
+
+-- all of them, one after another
+abbrev pub selectors : List ℕ
+selectors = counted 0xFE00 16 ++ counted 0xE0100 240
 
 -- marks of the letter before them: variation selectors, diacritical marks, vowels and finals of old and new jamo, marks for symbols, and voiced sound marks
 abbrev pub is_mark : ℕ → Bool

@@ -2,7 +2,7 @@
 use Rattle.std.specs.Prelude.{ℕ, Bool, ◌||◌, ◌==◌, bytes_eq, if◌then◌else◌, [], ◌∷◌, Option, None, Some, option_and_then, option_map}
 use Rattle.std.specs.Option.{option_or}
 use Rattle.cmap_encode.specs.Alike.{alike_to, first_given, national_of}
-use Rattle.cmap_encode.specs.Letters.{is_selector}
+use Rattle.cmap_encode.specs.Letters.{is_selector, selectors}
 use Rattle.cmap_encode.specs.Pieces.{Choice, Choices}
 use Rattle.cmap_encode.specs.declared.choices.Grade.TheVariants.{Alike, National}
 
@@ -10,7 +10,7 @@ use Rattle.cmap_encode.specs.declared.choices.Grade.TheVariants.{Alike, National
 abbrev pub is_no_character : ℕ → Bool
 is_no_character character = character == 0 || character == 0xFFFD || character == 0xFFFF
 
--- the code of another character, in its place
+-- the code of another text, in the place of the character
 abbrev pub alike_as : Option Choice → Option Choice
 alike_as own = option_map (λ choice. record { bytes = choice.bytes; grade = Alike }) own
 
@@ -23,9 +23,13 @@ abbrev pub selector : ℕ → Option Choice
 selector character = if is_selector character then Some (record { bytes = []; grade = Alike }) else None
 
 module _ (own : Choices) (exact : Bool) where
-  -- the code of the first character that is alike and has one
-  abbrev pub alike : ℕ → Option Choice
-  alike character = alike_as (first_given (λ other. own (other ∷ [])) (alike_to character))
+  -- the code of the character with a variation selector, the first with which it has one
+  abbrev pub selected : ℕ → Option Choice
+  selected character = first_given (λ last. own (character ∷ last ∷ [])) selectors
+
+  -- or else that of the first character that is alike and has one
+  abbrev pub near : ℕ → Option Choice
+  near character = alike_as (option_or (selected character) (first_given (λ other. own (other ∷ [])) (alike_to character)))
 
   -- the byte of the character, as the code of one that national versions of ISO 646 show by it
   abbrev pub national : ℕ → Option Choice
@@ -33,7 +37,7 @@ module _ (own : Choices) (exact : Bool) where
 
   -- what stands for a character that has no code of its own
   abbrev pub other : ℕ → Option Choice
-  other character = if exact then None else option_or (alike character) (option_or (national character) (selector character))
+  other character = if exact then None else option_or (near character) (option_or (national character) (selector character))
 
   -- what stands for a character
   abbrev pub one : ℕ → Option Choice

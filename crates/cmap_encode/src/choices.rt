@@ -2,6 +2,7 @@
 
 ghost use Rattle.std.specs.Prelude.{◌≡◌, ◌++◌, ◌∷◌, [], Some, OnOk, option_and_then, option_map};
 ghost use Rattle.cmap_encode.specs.Alike.{first_given};
+ghost use Rattle.cmap_encode.specs.Letters.{counted};
 ghost use Rattle.cmap_encode.specs.ChoicesSeen.{choice_seen, own_choice, owned, owned_at};
 ghost use Rattle.cmap_encode.specs.Standing as standing;
 ghost use Rattle.cmap_encode.specs.TreeSeen.{step_of};
@@ -9,7 +10,7 @@ ghost use Rattle.cmap_encode.specs.TreeSeen.{step_of};
 use crate::alike::{alike_to, national_of};
 use crate::code::Code;
 use crate::index::Index;
-use crate::letters::is_selector;
+use crate::letters::{SELECTORS, Selectors, is_selector};
 use crate::rank::Ranked;
 use crate::tree::EMPTY;
 use std::alloc::AllocError;
@@ -77,7 +78,7 @@ impl Choices {
     pub(crate) fn longer(&self, node: Option<usize>, last: char) -> Option<Choice>
         ensures { option_map choice_seen result ≡ owned_at self.now.index node last }
     {
-        Some(self.index.find(node, last)?.choice())
+        Some(self.index.find(node, u32::from(last))?.choice())
     }
 
     /// What stands for a character that has no code of its own.
@@ -88,22 +89,51 @@ impl Choices {
         if self.exact {
             return None;
         }
-        match self.alike(character) {
-            Some(alike) => Some(alike),
+        match self.near(character) {
+            Some(near) => Some(near),
             None => self.national(character).or(selector(character)),
         }
     }
 
-    /// The code of the first character that is alike and has one.
-    fn alike(&self, character: char) -> Option<Choice>
+    /// The code of the character with a variation selector, or else that of a character alike.
+    fn near(&self, character: char) -> Option<Choice>
         ensures { option_map choice_seen result
-            ≡ standing.alike (owned self.now.index) self.now.exact character }
+            ≡ standing.near (owned self.now.index) self.now.exact character }
     {
-        let own = self.first_own(alike_to(character))?;
+        let own = match self.selected(character) {
+            Some(own) => own,
+            None => self.first_own(alike_to(character))?,
+        };
         Some(Choice {
             code: Some(own.code),
             grade: Grade::Alike,
         })
+    }
+
+    /// The code of the character with a variation selector, the least with which it has one.
+    fn selected(&self, character: char) -> Option<Ranked>
+        ensures { option_map own_choice result
+            ≡ standing.selected (owned self.now.index) self.now.exact character }
+    {
+        let node = self.index.after(Some(EMPTY), character)?;
+        let (first, second) = SELECTORS;
+        match self.first_after(node, first) {
+            Some(own) => Some(own),
+            None => self.first_after(node, second),
+        }
+    }
+
+    /// The code of the text of a node and the first of these characters with which it has one.
+    fn first_after(&self, node: usize, last: Selectors) -> Option<Ranked>
+        ensures { option_map own_choice result
+            ≡ first_given (owned_at self.now.index (Some node)) (counted last.first last.count) }
+    {
+        for last in last.first..last.first + last.count {
+            if let Some(own) = self.index.find(Some(node), last) {
+                return Some(own);
+            }
+        }
+        None
     }
 
     /// The code of the first of these characters that has one.
@@ -112,7 +142,7 @@ impl Choices {
             ≡ first_given (λ one. owned self.now.index (one ∷ [])) characters.now }
     {
         for character in characters {
-            if let Some(own) = self.index.find(Some(EMPTY), *character) {
+            if let Some(own) = self.index.find(Some(EMPTY), u32::from(*character)) {
                 return Some(own);
             }
         }
@@ -145,7 +175,7 @@ impl Choices {
         ensures { option_map choice_seen result
             ≡ standing.national_as character (owned self.now.index (other ∷ [])) }
     {
-        let own = self.index.find(Some(EMPTY), other)?;
+        let own = self.index.find(Some(EMPTY), u32::from(other))?;
         if !own.code.is_byte(character) {
             return None;
         }

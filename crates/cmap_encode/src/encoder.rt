@@ -1,22 +1,26 @@
 //! Strings that show a text.
 
-ghost use Rattle.std.specs.Prelude.{◌≡◌, ◌≤◌, None, IfOk, MatchOption, false, length};
+ghost use Rattle.std.specs.Prelude.{◌≡◌, ◌↔◌, ◌≤◌, None, IfOk, IsTrue, MatchOption, false, length};
 ghost use Rattle.std.specs.Option.{option_copied};
 ghost use Rattle.std.specs.Str.{chars};
 ghost use Rattle.cmap_unicode.specs.Characters.{font_of};
 ghost use Rattle.cmap_values.specs.Outcomes.{Outcome, RefusesWith};
 ghost use Rattle.cmap_encode.specs.ChoicesSeen.{choices_of};
 ghost use Rattle.cmap_encode.specs.EncoderSeen.{IsEncoderFor, IsEncoderOf};
-ghost use Rattle.cmap_encode.specs.Encodings.{IsEncodingBy, IsEncodingOf, IsLossyEncodingBy, IsLossyEncodingOf, IsStuckAt, IsStuckBy};
+ghost use Rattle.cmap_encode.specs.Encodings.{ArePiecesBy, ArePiecesOf, IsEncodingBy, IsEncodingOf, IsLossyEncodingBy, IsLossyEncodingOf, IsStuckAt, IsStuckBy};
 ghost use Rattle.cmap_encode.specs.Maps as maps;
 ghost use Rattle.cmap_encode.specs.Pieces.{IsEncodable};
+ghost use Rattle.cmap_encode.specs.StringsOfCodes.{AreCodes};
 ghost use Rattle.cmap_encode.specs.Prefixes.{IsLongestAdded};
 
 use crate::choices::Choices;
+use crate::codespaces::{are_codes, codespaces_of};
 use crate::index::Index;
 use crate::maps::Maps;
+use crate::pieces::{Piece, pieces_of};
 use crate::prefixes::{longest_prefix, stuck_at};
 use crate::ways::{all_ways, string_of};
+use cmap_codespaces::Spaces;
 use cmap_layers::layers::Layers;
 use cmap_unicode::Extractor;
 use cmap_values::fault::Fault;
@@ -26,6 +30,8 @@ use std::alloc::{AllocError, Global};
 #[derive(Drop)]
 pub struct Encoder {
     choices: Choices,
+    /// Those of the font.
+    codespaces: Spaces,
 }
 
 /// A text that the codes of a font don't show.
@@ -61,7 +67,11 @@ impl Encoder {
     {
         let index = Index::build(alloc, &Maps::of(font, unicode, exact))?;
         let choices = Choices { index, exact };
-        Ok(Encoder { choices })
+        let codespaces = codespaces_of(alloc, font.encoding)?;
+        Ok(Encoder {
+            choices,
+            codespaces,
+        })
     }
 
     /// The string of a text: the codes that stand for its pieces, one after another. A text begins with its
@@ -74,6 +84,25 @@ impl Encoder {
             (λ refused. IsStuckAt maps (chars text.now) refused.offset) result }
     {
         self.encoded(alloc, text)
+    }
+
+    /// The pieces of a text, whose codes `encode` gives one after another, each with its grade. It is refused
+    /// as `encode` refuses it.
+    pub fn pieces(&self, alloc: Global, text: &str) -> Result<Vec<Piece>, Fault<Unencodable>>
+        ensures { (maps : maps.Maps) → IsEncoderOf maps self.now → Outcome
+            (λ pieces. ArePiecesOf maps (chars text.now) pieces.items)
+            (λ refused. IsStuckAt maps (chars text.now) refused.offset) result }
+    {
+        self.parted(alloc, text)
+    }
+
+    /// Whether a string has only whole codes of the font, one after another, or none. Other bytes in a string
+    /// may change how the bytes after them are read.
+    pub fn are_codes(&self, string: &[u8]) -> bool
+        ensures { (maps : maps.Maps) → IsEncoderOf maps self.now
+            → IsTrue result ↔ AreCodes maps.font.encoding string.now }
+    {
+        are_codes(&self.codespaces, string)
     }
 
     /// The string of a text as far as it can be encoded: the longest prefix of the text that can be is encoded
@@ -102,6 +131,20 @@ impl Encoder {
         let characters = characters_of(alloc, text)?;
         match self.encoding_of(alloc, &characters)? {
             Some(string) => Ok(string),
+            None => Err(self.refusal(alloc, &characters)),
+        }
+    }
+
+    /// The pieces of a text, by what stands for them.
+    fn parted(&self, alloc: Global, text: &str) -> Result<Vec<Piece>, Fault<Unencodable>>
+        ensures { Outcome
+            (λ pieces. ArePiecesBy (choices_of self.now.choices) (chars text.now) pieces.items)
+            (λ refused. IsStuckBy (choices_of self.now.choices) (chars text.now) refused.offset) result }
+    {
+        let characters = characters_of(alloc, text)?;
+        let ways = all_ways(alloc, &self.choices, &characters)?;
+        match pieces_of(alloc, &characters, &ways)? {
+            Some(pieces) => Ok(pieces),
             None => Err(self.refusal(alloc, &characters)),
         }
     }

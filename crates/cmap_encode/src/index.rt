@@ -44,10 +44,10 @@ impl Index {
     }
 
     /// The code of the text of a node and a last character. No node has no code.
-    pub(crate) fn find(&self, node: Option<usize>, last: char) -> Option<Ranked>
+    pub(crate) fn find(&self, node: Option<usize>, last: u32) -> Option<Ranked>
         ensures { result ≡ own_at self.now node last }
     {
-        self.firsts.get(node?)?.as_ref()?.find(u32::from(last))
+        self.firsts.get(node?)?.as_ref()?.find(last)
     }
 
     /// The node of the text of a node and one more character.

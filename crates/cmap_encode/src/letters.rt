@@ -3,6 +3,25 @@
 ghost use Rattle.std.specs.Prelude.{◌≡◌};
 ghost use Rattle.cmap_encode.specs.Letters as letters;
 
+/// Variation selectors in a row.
+#[derive(Clone, Copy)]
+pub(crate) struct Selectors {
+    pub(crate) first: u32,
+    pub(crate) count: u32,
+}
+
+/// All of them. The Unicode Standard, 23.4.
+pub(crate) const SELECTORS: (Selectors, Selectors) = (
+    Selectors {
+        first: 0xFE00,
+        count: 16,
+    },
+    Selectors {
+        first: 0xE_0100,
+        count: 240,
+    },
+);
+
 /// Whether a character is a variation selector. The Unicode Standard, 23.4.
 pub(crate) fn is_selector(character: char) -> bool
     ensures { result ≡ letters.is_selector character }

@@ -21,7 +21,7 @@ pub(crate) fn stuck_at(alloc: Global, choices: &Choices, text: &[char]) -> Resul
 }
 
 /// How many bytes characters have in UTF-8.
-fn utf8_len(alloc: Global, text: &[char]) -> Result<usize, AllocError>
+pub(crate) fn utf8_len(alloc: Global, text: &[char]) -> Result<usize, AllocError>
     ensures { IfOk result (λ len. len ≡ length (flat_map encode_utf8 text.now)) }
 {
     let mut written = String::new(alloc);

@@ -8,3 +8,4 @@ pub mod CountedTexts
 pub mod TextRows
 pub mod SimpleFonts
 pub mod CodesOfTexts
+pub mod FromUnicode

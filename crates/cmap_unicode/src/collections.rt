@@ -4,9 +4,11 @@ ghost use Rattle.std.specs.Prelude.{◌≡◌, IfOk, IfSome, option_map};
 ghost use Rattle.cmap_values.specs.MetadataSeen.{family_seen};
 ghost use Rattle.cmap_values.specs.Names.{ucs2_cmap_of};
 ghost use Rattle.cmap_unicode.specs.Collections.{collection_name_of, family_in, ucs2_name_of};
+ghost use Rattle.cmap_unicode.specs.FromUnicode.{name_for, names_of};
 
 use cmap_layers::layers::Layers;
 use cmap_values::character_collection::CidFamily;
+use cmap_values::writing_mode::WritingMode;
 use std::alloc::{AllocError, Global};
 
 /// The name of the CMap from the CIDs of a family of character collections to Unicode, in UCS-2:
@@ -52,4 +54,58 @@ fn family_of(encoding: &Layers) -> Option<&CidFamily>
         }
     }
     None
+}
+
+/// The names of two CMaps from Unicode to the CIDs of a character collection.
+#[derive(Clone, Copy)]
+struct FromUnicode {
+    horizontal: &'static [u8],
+    /// The one for vertical writing; it may be the same.
+    vertical: &'static [u8],
+}
+
+/// The name of the CMap from Unicode, in UTF-16, to the CIDs of a character collection: of `Adobe-Japan1`
+/// it is `UniJIS-UTF16-H`, and `UniJIS-UTF16-V` for vertical writing. Only Japan1, GB1, CNS1, Korea1, KR
+/// and Japan2 of Adobe have one, and KR has none for vertical writing alone.
+pub fn unicode_name(collection: &[u8], mode: WritingMode) -> Option<&'static [u8]>
+    ensures { option_map (λ name. name.now) result ≡ name_for collection.now mode }
+{
+    let names = from_unicode(collection)?;
+    match mode {
+        WritingMode::Horizontal => Some(names.horizontal),
+        WritingMode::Vertical => Some(names.vertical),
+    }
+}
+
+/// The names of the CMaps from Unicode to the CIDs of a character collection.
+fn from_unicode(collection: &[u8]) -> Option<FromUnicode>
+    ensures { option_map (λ names. (names.horizontal.now, names.vertical.now)) result ≡ names_of collection.now }
+{
+    match collection {
+        b"Adobe-Japan1" => Some(FromUnicode {
+            horizontal: b"UniJIS-UTF16-H",
+            vertical: b"UniJIS-UTF16-V",
+        }),
+        b"Adobe-GB1" => Some(FromUnicode {
+            horizontal: b"UniGB-UTF16-H",
+            vertical: b"UniGB-UTF16-V",
+        }),
+        b"Adobe-CNS1" => Some(FromUnicode {
+            horizontal: b"UniCNS-UTF16-H",
+            vertical: b"UniCNS-UTF16-V",
+        }),
+        b"Adobe-Korea1" => Some(FromUnicode {
+            horizontal: b"UniKS-UTF16-H",
+            vertical: b"UniKS-UTF16-V",
+        }),
+        b"Adobe-KR" => Some(FromUnicode {
+            horizontal: b"UniAKR-UTF16-H",
+            vertical: b"UniAKR-UTF16-H",
+        }),
+        b"Adobe-Japan2" => Some(FromUnicode {
+            horizontal: b"UniHojo-UTF16-H",
+            vertical: b"UniHojo-UTF16-V",
+        }),
+        _ => None,
+    }
 }

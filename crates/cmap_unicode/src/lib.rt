@@ -10,7 +10,7 @@ mod simple_fonts;
 mod text_codes;
 
 pub use cids::{declared_cid, declared_stretch, stretch_of_layers};
-pub use collections::{collection_name, ucs2_name};
+pub use collections::{collection_name, ucs2_name, unicode_name};
 pub use extractor::{Character, Extractor};
 pub use rows::{TextRow, texts_in_row};
 pub use simple_fonts::simple_encoding;
