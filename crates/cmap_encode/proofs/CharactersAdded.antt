@@ -27,7 +27,7 @@ use Rattle.cmap_encode.specs.declared.firsts.CodeRun.{CodeRun}
 use Rattle.cmap_encode.specs.declared.firsts.KeyStretch.{KeyStretch}
 use Rattle.cmap_encode.specs.declared.rank.Rank.TheVariants.{Canonical, OwnForm}
 use Rattle.cmap_encode.specs.declared.rank.Ranked.{Ranked}
-use Rattle.cmap_encode.specs.declared.runs_by_front.RunsByFront.{RunsByFront}
+use Rattle.cmap_encode.specs.declared.runs_by_prefix.RunsByPrefix.{RunsByPrefix}
 use Rattle.cmap_encode.specs.declared.silent.SilentStretch.{SilentStretch}
 use Rattle.cmap_encode.proofs.Numbers.{are_bytes_of}
 
@@ -44,10 +44,10 @@ is_one (more cs) = false
 
 module _ (maps : Maps) (unicode : Unicode) (firsts : List CodeRun) where
   -- characters of which none has a glyph
-  no_glyphs : (all : RunsByFront) (first limit : ℕ) → ((text : List ℕ) (candidate : Candidate) → GivesCharacter maps unicode firsts first limit text candidate → ⊥) → AddsGlyphs maps unicode firsts first limit all all
+  no_glyphs : (all : RunsByPrefix) (first limit : ℕ) → ((text : List ℕ) (candidate : Candidate) → GivesCharacter maps unicode firsts first limit text candidate → ⊥) → AddsGlyphs maps unicode firsts first limit all all
   no_glyphs all first limit none text candidate = (λ given. inl given, λ either. elim either [ inl given ↦ given | inr added ↦ absurd (none text candidate added) ])
 
-  pub no_characters : (all : RunsByFront) (first : ℕ) → AddsGlyphs maps unicode firsts first first all all
+  pub no_characters : (all : RunsByPrefix) (first : ℕ) → AddsGlyphs maps unicode firsts first first all all
   no_characters all first = no_glyphs all first first (λ text candidate given. let from = given.from in let below = given.below in omega arith)
 
   -- one character after another
@@ -55,7 +55,7 @@ module _ (maps : Maps) (unicode : Unicode) (firsts : List CodeRun) where
   narrow : (first limit from to : ℕ) (text : List ℕ) (candidate : Candidate) (added : GivesCharacter maps unicode firsts first limit text candidate) → from ≤ added.character → added.character < to → GivesCharacter maps unicode firsts from to text candidate
   narrow first limit from to text candidate added le lt = record { character = added.character; from = le; below = lt; is_text = added.is_text; cid = added.cid; glyph = added.glyph; chosen = added.chosen }
 
-  pub more_characters : (old middle new : RunsByFront) (first next limit : ℕ) → first ≤ next → next ≤ limit → AddsGlyphs maps unicode firsts first next old middle → AddsGlyphs maps unicode firsts next limit middle new → AddsGlyphs maps unicode firsts first limit old new
+  pub more_characters : (old middle new : RunsByPrefix) (first next limit : ℕ) → first ≤ next → next ≤ limit → AddsGlyphs maps unicode firsts first next old middle → AddsGlyphs maps unicode firsts next limit middle new → AddsGlyphs maps unicode firsts first limit old new
   more_characters old middle new first next limit le le_too before after text candidate = (
     λ given.
         elim ((after text candidate).0 given) [
@@ -84,12 +84,12 @@ module _ (maps : Maps) (unicode : Unicode) (firsts : List CodeRun) where
         let at : first + (character - first) ≡ character = omega arith in
         (are.glyphs (character - first) cid (omega arith)).0 (subst (λ c. HasGlyph maps unicode c cid) (sym at) has)
 
-    pub none_has_glyphs : (all : RunsByFront) → row.cid ≡ None → AddsGlyphs maps unicode firsts first (first + row.more + 1) all all
+    pub none_has_glyphs : (all : RunsByPrefix) → row.cid ≡ None → AddsGlyphs maps unicode firsts first (first + row.more + 1) all all
     none_has_glyphs all none = no_glyphs all first (first + row.more + 1) (λ text candidate given.
         let from = given.from in let below = given.below in
         none-some given.cid (sym (ap (option_map (λ glyph. glyph + (given.character - first))) none) ∙ glyph_there given.character given.cid from (omega arith) given.glyph))
 
-    pub none_has_codes : (all : RunsByFront) → row.code ≡ None → AddsGlyphs maps unicode firsts first (first + row.more + 1) all all
+    pub none_has_codes : (all : RunsByPrefix) → row.code ≡ None → AddsGlyphs maps unicode firsts first (first + row.more + 1) all all
     none_has_codes all none = no_glyphs all first (first + row.more + 1) (λ text candidate given.
         let from = given.from in let below = given.below in
         let at : first + (given.character - first) ≡ given.character = omega arith in
@@ -213,7 +213,7 @@ module _ (maps : Maps) (unicode : Unicode) (firsts : List CodeRun) where
                 is_code = (λ i. record { bytes = in_form i; rank = rank i }) ∙ ap (λ begin. candidate_of (ranked_after (added.character - first) begin)) (sym ranked_is);
               }
 
-      pub row_added : (form : Option Ranked) → IsOwnFormOf code silent.cid cid form → (old middle new : RunsByFront) → AddsCharacters old middle first (canonical_of stretch.first) further → AddsCharacters middle new first form further → AddsGlyphs maps unicode firsts first (first + further + 1) old new
+      pub row_added : (form : Option Ranked) → IsOwnFormOf code silent.cid cid form → (old middle new : RunsByPrefix) → AddsCharacters old middle first (canonical_of stretch.first) further → AddsCharacters middle new first form further → AddsGlyphs maps unicode firsts first (first + further + 1) old new
       row_added form is old middle new before after text candidate = (
         λ given.
             elim ((after text candidate).0 given) [

@@ -20,7 +20,7 @@ use Rattle.cmap_encode.specs.declared.firsts.CodeRun.{CodeRun}
 use Rattle.cmap_encode.specs.declared.firsts.KeyStretch.{KeyStretch}
 use Rattle.cmap_encode.specs.declared.rank.Rank.TheVariants.{Collection}
 use Rattle.cmap_encode.specs.declared.rank.Ranked.{Ranked}
-use Rattle.cmap_encode.specs.declared.runs_by_front.RunsByFront.{RunsByFront}
+use Rattle.cmap_encode.specs.declared.runs_by_prefix.RunsByPrefix.{RunsByPrefix}
 
 -- the text of a code in a row of texts that count on
 pub text_in_row : (texts : ℕ → Option Text) (first count : ℕ) (row : TextRow) (text : BfString) → AreTexts texts first row → row.text ≡ Some text → row.counts_on ≡ true → first + count ≤ row.last → texts (first + count) ≡ Some (text_after (text_seen text) count)
@@ -34,25 +34,25 @@ no_text_in_row texts first code row are none from to =
 
 module _ (collection : Option (List Layer)) (firsts : List CodeRun) where
   -- CIDs of which none has a code with a text
-  silent_cids : (all : RunsByFront) (first limit : ℕ) → ((text : List ℕ) (candidate : Candidate) → GivesFirst collection firsts first limit text candidate → ⊥) → AddsCids collection firsts first limit all all
+  silent_cids : (all : RunsByPrefix) (first limit : ℕ) → ((text : List ℕ) (candidate : Candidate) → GivesFirst collection firsts first limit text candidate → ⊥) → AddsCids collection firsts first limit all all
   silent_cids all first limit none text candidate = (λ given. inl given, λ either. elim either [ inl given ↦ given | inr first ↦ absurd (none text candidate first) ])
 
-  pub no_cids : (all : RunsByFront) (first : ℕ) → AddsCids collection firsts first first all all
+  pub no_cids : (all : RunsByPrefix) (first : ℕ) → AddsCids collection firsts first first all all
   no_cids all first = silent_cids all first first (λ text candidate given. let from = given.from in let below = given.below in omega arith)
 
-  pub no_code : (all : RunsByFront) (first : ℕ) (stretch : KeyStretch) → IsKeyStretch firsts first stretch → stretch.first ≡ None → AddsCids collection firsts first (stretch.last + 1) all all
+  pub no_code : (all : RunsByPrefix) (first : ℕ) (stretch : KeyStretch) → IsKeyStretch firsts first stretch → stretch.first ≡ None → AddsCids collection firsts first (stretch.last + 1) all all
   no_code all first stretch is none = silent_cids all first (stretch.last + 1) (λ text candidate given.
       let from = given.from in let below = given.below in
       let at : first + (given.cid - first) ≡ given.cid = omega arith in
       none-some candidate (ap (option_map (as_ranked Collection)) (ap (option_map (ranked_after (given.cid - first))) (sym none) ∙ sym (is.codes (given.cid - first) (omega arith)) ∙ ap (first_at firsts) at) ∙ given.given))
 
-  pub no_text : (all : RunsByFront) (first last : ℕ) (row : TextRow) → AreTexts (text_in collection) first row → row.text ≡ None → last ≤ row.last → AddsCids collection firsts first (last + 1) all all
+  pub no_text : (all : RunsByPrefix) (first last : ℕ) (row : TextRow) → AreTexts (text_in collection) first row → row.text ≡ None → last ≤ row.last → AddsCids collection firsts first (last + 1) all all
   no_text all first last row are none within = silent_cids all first (last + 1) (λ text candidate given.
       let from = given.from in let below = given.below in
       none-some given.has.its (sym (no_text_in_row (text_in collection) first given.cid row are none from (omega arith)) ∙ given.has.is_text))
 
   -- one CID after another
-  pub more_cids : (old middle new : RunsByFront) (first next limit : ℕ) → first ≤ next → next ≤ limit → AddsCids collection firsts first next old middle → AddsCids collection firsts next limit middle new → AddsCids collection firsts first limit old new
+  pub more_cids : (old middle new : RunsByPrefix) (first next limit : ℕ) → first ≤ next → next ≤ limit → AddsCids collection firsts first next old middle → AddsCids collection firsts next limit middle new → AddsCids collection firsts first limit old new
   more_cids old middle new first next limit le more before after text candidate = (
     λ given.
         elim ((after text candidate).0 given) [
@@ -104,7 +104,7 @@ module _ (collection : Option (List Layer)) (firsts : List CodeRun) where
           is_code = same_Some candidate (candidate_of (ranked_after count begin)) (sym given.given ∙ ap (λ n. option_map (as_ranked Collection) (first_at firsts n)) (sym at) ∙ code_there count within);
         }
 
-    pub row_added : (old new : RunsByFront) → AddsTexts old new (text_seen text) begin further → AddsCids collection firsts first (first + further + 1) old new
+    pub row_added : (old new : RunsByPrefix) → AddsTexts old new (text_seen text) begin further → AddsCids collection firsts first (first + further + 1) old new
     row_added old new adds its candidate = (
       λ given. elim ((adds its candidate).0 given) [ inl before ↦ inl before | inr at ↦ inr (first_of its candidate at) ],
       λ either. elim either [ inl before ↦ (adds its candidate).1 (inl before) | inr found ↦ (adds its candidate).1 (inr (further_of its candidate found)) ],

@@ -10,9 +10,9 @@ module _ {A B : Type 0} (f : A → Option B) where
   given_append [] ys = refl
   given_append (x ∷ xs) ys = one (f x) (first_given f (xs ++ ys)) (first_given f xs) (first_given f ys) (given_append xs ys)
     where
-      one : (o all front back : Option B) → all ≡ option_or front back → option_or o all ≡ option_or (option_or o front) back
-      one None all front back is = is
-      one (Some y) all front back is = refl
+      one : (o all prefix back : Option B) → all ≡ option_or prefix back → option_or o all ≡ option_or (option_or o prefix) back
+      one None all prefix back is = is
+      one (Some y) all prefix back is = refl
 
   one_given : (x : A) → first_given f (x ∷ []) ≡ f x
   one_given x = same (f x)

@@ -14,7 +14,7 @@ use Rattle.cmap_encode.specs.Glyphs.{glyph_by}
 use Rattle.cmap_encode.specs.IndexSeen.{AreFirstsOf, IsIndexOf, first_in, own_after, own_at, own_in}
 use Rattle.cmap_encode.specs.Maps.{Maps, Unicode}
 use Rattle.cmap_encode.specs.Ranks.{Candidate, IsFirstAmong, IsNoLater, as_ranked, candidate_of, place_of}
-use Rattle.cmap_encode.specs.RunsSeen.{AreRunsByFront, GivesText, items_of, number_of, runs_of}
+use Rattle.cmap_encode.specs.RunsSeen.{AreRunsByPrefix, GivesText, items_of, number_of, runs_of}
 use Rattle.cmap_encode.specs.StandsFor.{HasGlyph, IsCanonical, IsSilent, StandsFor}
 use Rattle.cmap_encode.specs.declared.firsts.CodeRun.{CodeRun}
 use Rattle.cmap_encode.specs.declared.gathered.Gathered.{Gathered}
@@ -22,11 +22,11 @@ use Rattle.cmap_encode.specs.declared.index.Index.{Index}
 use Rattle.cmap_encode.specs.declared.rank.Rank.{Rank}
 use Rattle.cmap_encode.specs.declared.rank.Rank.TheVariants.{Canonical, Collection, OwnForm, Stated}
 use Rattle.cmap_encode.specs.declared.rank.Ranked.{Ranked}
-use Rattle.cmap_encode.specs.declared.runs_by_front.RunsByFront.{RunsByFront}
+use Rattle.cmap_encode.specs.declared.runs_by_prefix.RunsByPrefix.{RunsByPrefix}
 use Rattle.cmap_encode.proofs.CodesRead.{whole_length}
 use Rattle.cmap_encode.proofs.FormCodes.{none_above}
 use Rattle.cmap_encode.proofs.Order.{not_after_chain, not_after_itself}
-use Rattle.cmap_encode.proofs.TextEnds.{front_taken, last_got, same_end, text_ends}
+use Rattle.cmap_encode.proofs.TextEnds.{prefix_taken, last_got, same_end, text_ends}
 
 -- one more of two lists
 pub zip_push : {A B : Type 0} (R : A → B → Type 0) (xs : List A) (ys : List B) (x : A) (y : B) → AllZip R xs ys → R x y → AllZip R (xs ++ x ∷ []) (ys ++ y ∷ [])
@@ -54,9 +54,9 @@ first_of_more Some_of More sound complete (Some first) (some, least) = (
 )
 
 -- ---- the code of a text
-pub own_at_end : (index : Index) (front : List ℕ) (last : ℕ) → own_in index (front ++ last ∷ []) ≡ own_after index front last
-own_at_end index front last =
-    ap (option_and_then (own_after index (take (length (front ++ last ∷ []) - 1) (front ++ last ∷ [])))) (last_got front last) ∙ ap (λ f. own_after index f last) (front_taken front last)
+pub own_at_end : (index : Index) (prefix : List ℕ) (last : ℕ) → own_in index (prefix ++ last ∷ []) ≡ own_after index prefix last
+own_at_end index prefix last =
+    ap (option_and_then (own_after index (take (length (prefix ++ last ∷ []) - 1) (prefix ++ last ∷ [])))) (last_got prefix last) ∙ ap (λ f. own_after index f last) (prefix_taken prefix last)
 
 got_within : {A : Type 0} (xs : List A) (n : ℕ) → n < length xs → slice_get xs n ≡ None → ⊥
 got_within [] n within none = omega arith
@@ -66,12 +66,12 @@ got_within (x ∷ xs) (suc n) within none = got_within xs n (omega arith) none
 none_given : (key : ℕ) (candidate : Candidate) → Any (Gives key candidate) [] → ⊥
 none_given key candidate (k, run, within, is, gives) = omega arith
 
-module _ (all : RunsByFront) (firsts : Vec (Option (Box (List CodeRun)))) (are : AreRunsByFront all) (zip : AllZip (λ (list : Vec CodeRun). AreFirstsOf list.items) all.lists.items firsts.items) where
+module _ (all : RunsByPrefix) (firsts : Vec (Option (Box (List CodeRun)))) (are : AreRunsByPrefix all) (zip : AllZip (λ (list : Vec CodeRun). AreFirstsOf list.items) all.lists.items firsts.items) where
   abbrev pub index : Index
   index = record { tree = all.tree; firsts = firsts }
 
-  first_after : (front : List ℕ) (last : ℕ) → IsFirstGiven (runs_of all front) last (option_map candidate_of (own_after index front last))
-  first_after front last = by_number (number_of all front) refl
+  first_after : (prefix : List ℕ) (last : ℕ) → IsFirstGiven (runs_of all prefix) last (option_map candidate_of (own_after index prefix last))
+  first_after prefix last = by_number (number_of all prefix) refl
     where
       by_runs : (runs : List CodeRun) (found : Option (Box (List CodeRun))) → AreFirstsOf runs found → IsFirstGiven runs last (option_map candidate_of (first_in found last))
       by_runs runs None none = subst (λ l. IsFirstGiven l last None) (sym none) (none_given last)
@@ -83,31 +83,31 @@ module _ (all : RunsByFront) (firsts : Vec (Option (Box (List CodeRun)))) (are :
       by_list (Some list) None some is = absurd is
       by_list (Some list) (Some found) some is = by_runs list.items found is
 
-      by_number : (number : Option ℕ) → number_of all front ≡ number → IsFirstGiven (items_of (option_and_then (slice_get all.lists.items) number)) last (option_map candidate_of (own_at index number last))
+      by_number : (number : Option ℕ) → number_of all prefix ≡ number → IsFirstGiven (items_of (option_and_then (slice_get all.lists.items) number)) last (option_map candidate_of (own_at index number last))
       by_number None has = none_given last
-      by_number (Some number) has = by_list (slice_get all.lists.items number) (slice_get firsts.items number) (got_within all.lists.items number (are.within front number has)) (AllZip-left _ all.lists.items firsts.items zip number)
+      by_number (Some number) has = by_list (slice_get all.lists.items number) (slice_get firsts.items number) (got_within all.lists.items number (are.within prefix number has)) (AllZip-left _ all.lists.items firsts.items zip number)
 
-  given_at_end : (front : List ℕ) (last : ℕ) (candidate : Candidate) → GivesText all (front ++ last ∷ []) candidate → Any (Gives last candidate) (runs_of all front)
-  given_at_end front last candidate given =
-      let (fronts, lasts) = same_end front given.front last given.last given.is in
-      subst (λ f. Any (Gives last candidate) (runs_of all f)) (sym fronts) (subst (λ l. Any (Gives l candidate) (runs_of all given.front)) (sym lasts) given.given)
+  given_at_end : (prefix : List ℕ) (last : ℕ) (candidate : Candidate) → GivesText all (prefix ++ last ∷ []) candidate → Any (Gives last candidate) (runs_of all prefix)
+  given_at_end prefix last candidate given =
+      let (prefixes, lasts) = same_end prefix given.prefix last given.last given.is in
+      subst (λ f. Any (Gives last candidate) (runs_of all f)) (sym prefixes) (subst (λ l. Any (Gives l candidate) (runs_of all given.prefix)) (sym lasts) given.given)
 
-  nothing_before : (front : List ℕ) (last : ℕ) → [] ≡ front ++ last ∷ [] → ⊥
-  nothing_before front last same = omega (arith, ap (λ (l : List ℕ). length l) same, length-append front (last ∷ []))
+  nothing_before : (prefix : List ℕ) (last : ℕ) → [] ≡ prefix ++ last ∷ [] → ⊥
+  nothing_before prefix last same = omega (arith, ap (λ (l : List ℕ). length l) same, length-append prefix (last ∷ []))
 
   -- it has the first code that the runs give to a text
   pub first_of_text : (text : List ℕ) → IsFirstAmong (GivesText all text) (option_map candidate_of (own_in index text))
   first_of_text text =
       elim (text_ends text) [
-        | inl empty ↦ subst (λ t. IsFirstAmong (GivesText all t) (option_map candidate_of (own_in index t))) (sym empty) (λ candidate given. nothing_before given.front given.last given.is)
-        | inr (front, last, is) ↦ subst (λ t. IsFirstAmong (GivesText all t) (option_map candidate_of (own_in index t))) (sym is)
-            (subst (λ found. IsFirstAmong (GivesText all (front ++ last ∷ [])) (option_map candidate_of found)) (sym (own_at_end index front last))
-            (first_of_more (λ candidate. Any (Gives last candidate) (runs_of all front)) (GivesText all (front ++ last ∷ [])) (λ candidate given. record { front = front; last = last; is = refl; given = given }) (λ candidate given. (candidate, given_at_end front last candidate given, no_later_itself candidate))
-            (option_map candidate_of (own_after index front last)) (first_after front last)))
+        | inl empty ↦ subst (λ t. IsFirstAmong (GivesText all t) (option_map candidate_of (own_in index t))) (sym empty) (λ candidate given. nothing_before given.prefix given.last given.is)
+        | inr (prefix, last, is) ↦ subst (λ t. IsFirstAmong (GivesText all t) (option_map candidate_of (own_in index t))) (sym is)
+            (subst (λ found. IsFirstAmong (GivesText all (prefix ++ last ∷ [])) (option_map candidate_of found)) (sym (own_at_end index prefix last))
+            (first_of_more (λ candidate. Any (Gives last candidate) (runs_of all prefix)) (GivesText all (prefix ++ last ∷ [])) (λ candidate given. record { prefix = prefix; last = last; is = refl; given = given }) (λ candidate given. (candidate, given_at_end prefix last candidate given, no_later_itself candidate))
+            (option_map candidate_of (own_after index prefix last)) (first_after prefix last)))
       ]
 
 -- ---- the codes that stand for a text
-module _ (maps : Maps) (gathered : Gathered) (new last : RunsByFront) (firsts : List CodeRun) (all : AreGathered maps 5 0 gathered) (are : AreFirsts gathered.cids.items firsts) (adds : AddsCids maps.font.collection firsts 0 (2 ^ 32) gathered.texts new)
+module _ (maps : Maps) (gathered : Gathered) (new last : RunsByPrefix) (firsts : List CodeRun) (all : AreGathered maps 5 0 gathered) (are : AreFirsts gathered.cids.items firsts) (adds : AddsCids maps.font.collection firsts 0 (2 ^ 32) gathered.texts new)
     (adds_last : AddsAllGlyphs maps firsts new last) where
   short : (bytes : List ℕ) → IsWhole maps.font.encoding bytes → IsBefore 5 0 bytes
   short bytes whole = let few = (whole_length maps.font.encoding bytes whole).1 in inl (omega arith)

@@ -19,7 +19,7 @@ use Rattle.cmap_encode.specs.GatheredSeen.{AreGathered, AreJust, AreShown, HasNo
 use Rattle.cmap_encode.specs.GlyphsSeen.{AreGlyphs, IsDeclaredSo, glyph_after}
 use Rattle.cmap_encode.specs.Maps.{Maps, glyph_of}
 use Rattle.cmap_encode.specs.Ranks.{Candidate, candidate_of, code_after, ranked_after}
-use Rattle.cmap_encode.specs.RunsSeen.{AddsTexts, AreRunsByFront, GivesText, IsFurther}
+use Rattle.cmap_encode.specs.RunsSeen.{AddsTexts, AreRunsByPrefix, GivesText, IsFurther}
 use Rattle.cmap_encode.specs.StandsFor.{IsShown, IsSilent, IsStated}
 use Rattle.cmap_encode.specs.WholeSeen.{AreWhole}
 use Rattle.cmap_encode.specs.declared.code.Code.{Code}
@@ -200,7 +200,7 @@ module _ (maps : Maps) where
             is_code = its_code is fits further in_whole Stated candidate has.string (long, from, less) rank;
           }
 
-      pub texts_gathered : (old new : Gathered) → new.cids.items ≡ old.cids.items → AreRunsByFront new.texts → AddsTexts old.texts new.texts its stated_begin further → AreGathered maps len code.number old → AreGathered maps len (code.number + further + 1) new
+      pub texts_gathered : (old new : Gathered) → new.cids.items ≡ old.cids.items → AreRunsByPrefix new.texts → AddsTexts old.texts new.texts its stated_begin further → AreGathered maps len code.number old → AreGathered maps len (code.number + further + 1) new
       texts_gathered old new same runs adds are = record {
         texts = runs;
         cids = subst (λ cids. All IsCodeRun cids) (sym same) are.cids;
@@ -253,7 +253,7 @@ module _ (maps : Maps) where
 
       pub cids_gathered : (old new : Gathered) → new.texts ≡ old.texts → new.cids.items ≡ old.cids.items ++ run ∷ [] → All IsCodeRun new.cids.items → AreGathered maps len code.number old → AreGathered maps len (code.number + further + 1) new
       cids_gathered old new same items runs are = record {
-        texts = subst AreRunsByFront (sym same) are.texts;
+        texts = subst AreRunsByPrefix (sym same) are.texts;
         cids = runs;
         stated = λ text. none_more maps.font.encoding (IsStatedOne maps text) (real_stated text) len code.number (code.number + further + 1) (omega arith) (GivesText new.texts text) (λ candidate between has. not_stated text candidate between has)
             (subst (λ texts. AreJust len code.number (IsStatedOne maps text) (GivesText texts text)) (sym same) (are.stated text));

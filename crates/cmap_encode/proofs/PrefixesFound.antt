@@ -51,9 +51,6 @@ module _ (choices : Choices) (text : List ℕ) where
     size : length (take (count + 1) text) ≡ count + 1
     size = length-take-le (count + 1) text within
 
-    rest_size : (k : ℕ) → k ≤ count → length (drop k text) ≡ length text - k
-    rest_size k before = length-drop k text
-
     -- what follows a prefix, up to a character and with it
     rest_is : (k more : ℕ) → k ≤ more → drop k (take more text) ≡ take (more - k) (drop k text)
     rest_is k more before = ap (λ n. drop k (take n text)) (omega arith) ∙ drop-take k (more - k) text
@@ -223,28 +220,6 @@ longer_below count longest true below = omega arith
 longer_below count longest false below = omega arith
 
 -- ---- the nodes after a character
--- of no nodes
-pub went_nowhere : (choices : Choices) (character : ℕ) (b : Bool) → (IsTrue b → step_of choices.index.tree 0 character ≡ None) → WentOn choices character b [] []
-went_nowhere choices character b none = λ n. (
-  λ among. absurd (nothing_among (λ m. m ≡ n) among),
-  λ after. elim after [
-    | inl (may, steps) ↦ absurd (none-some n (sym (none may) ∙ steps))
-    | inr leads ↦ absurd (nothing_among (λ m. step_of choices.index.tree m character ≡ Some n) leads)
-  ],
-)
-
-pub went_first : (choices : Choices) (character there : ℕ) (b : Bool) → IsTrue b → step_of choices.index.tree 0 character ≡ Some there → WentOn choices character b [] (there ∷ [])
-went_first choices character there b may steps = λ n. (
-  λ among. elim (any_split (λ m. m ≡ n) [] there among) [
-    | inl none ↦ absurd (nothing_among (λ m. m ≡ n) none)
-    | inr same ↦ inl (may, steps ∙ ap Some same)
-  ],
-  λ after. elim after [
-    | inl (_, also) ↦ Any-push (λ m. m ≡ n) [] there (same_Some there n (sym steps ∙ also))
-    | inr leads ↦ absurd (nothing_among (λ m. step_of choices.index.tree m character ≡ Some n) leads)
-  ],
-)
-
 -- one more node, from which no text goes on by the character
 pub went_none : (choices : Choices) (character : ℕ) (b : Bool) (old new : List ℕ) (node : ℕ) → WentOn choices character b old new → step_of choices.index.tree node character ≡ None → WentOn choices character b (old ++ node ∷ []) new
 went_none choices character b old new node was none = λ n.

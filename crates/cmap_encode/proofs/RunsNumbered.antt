@@ -1,4 +1,4 @@
--- The index of each front: one more, and one more run.
+-- The index of each prefix: one more, and one more run.
 use Rattle.std.proofs.Common.{◌≡◌, ℕ, ◌+◌, ◌<◌, false, List, [], ◌∷◌, ◌++◌, length, ◌⊎◌, Option, Some, None, refl, sym, ap, ◌∙◌, inl, inr, arith}
 use Rattle.std.specs.Prelude.{if◌then◌else◌, option_and_then, slice_get, slice_set}
 use Rattle.std.specs.Str.{bytes_eq}
@@ -10,17 +10,17 @@ use Rattle.cmap_encode.specs.RunsSeen.{items_of}
 use Rattle.cmap_encode.specs.declared.firsts.CodeRun.{CodeRun}
 use Rattle.cmap_encode.proofs.ListElements.{push_get, push_last, set_elsewhere, set_here}
 
--- ---- numbers of fronts
-module _ (old : List ℕ → Option ℕ) (lists : List (Vec CodeRun)) (within : (front : List ℕ) (number : ℕ) → old front ≡ Some number → number < length lists)
-    (apart : (front other : List ℕ) (number : ℕ) → old front ≡ Some number → old other ≡ Some number → front ≡ other) where
+-- ---- numbers of prefixes
+module _ (old : List ℕ → Option ℕ) (lists : List (Vec CodeRun)) (within : (prefix : List ℕ) (number : ℕ) → old prefix ≡ Some number → number < length lists)
+    (apart : (prefix other : List ℕ) (number : ℕ) → old prefix ≡ Some number → old other ≡ Some number → prefix ≡ other) where
   abbrev pub runs_at : (List ℕ → Option ℕ) → List (Vec CodeRun) → List ℕ → List CodeRun
-  runs_at numbers all front = items_of (option_and_then (slice_get all) (numbers front))
+  runs_at numbers all prefix = items_of (option_and_then (slice_get all) (numbers prefix))
 
-  module _ (new : List ℕ → Option ℕ) (front : List ℕ) (none : old front ≡ None) (is : (other : List ℕ) → new other ≡ (if bytes_eq other front then Some (length lists) else old other)) where
-    pub one_of : (other : List ℕ) (number : ℕ) → new other ≡ Some number → ((other ≡ front) × (number ≡ length lists)) ⊎ (old other ≡ Some number)
+  module _ (new : List ℕ → Option ℕ) (prefix : List ℕ) (none : old prefix ≡ None) (is : (other : List ℕ) → new other ≡ (if bytes_eq other prefix then Some (length lists) else old other)) where
+    pub one_of : (other : List ℕ) (number : ℕ) → new other ≡ Some number → ((other ≡ prefix) × (number ≡ length lists)) ⊎ (old other ≡ Some number)
     one_of other number has =
-        elim (cases_Bool (bytes_eq other front)) [
-          | inl same ↦ inl ((bytes_eq-Decides other front).0 same, same_Some number (length lists) (sym has ∙ is other ∙ ap (λ b. if b then Some (length lists) else old other) same))
+        elim (cases_Bool (bytes_eq other prefix)) [
+          | inl same ↦ inl ((bytes_eq-Decides other prefix).0 same, same_Some number (length lists) (sym has ∙ is other ∙ ap (λ b. if b then Some (length lists) else old other) same))
           | inr apart ↦ inr (ap (λ b. if b then Some (length lists) else old other) (sym apart) ∙ sym (is other) ∙ has)
         ]
 
@@ -48,30 +48,30 @@ module _ (old : List ℕ → Option ℕ) (lists : List (Vec CodeRun)) (within : 
 
     pub same_runs : (runs : Vec CodeRun) → runs.items ≡ [] → (other : List ℕ) → runs_at new (lists ++ runs ∷ []) other ≡ runs_at old lists other
     same_runs runs empty other =
-        elim (cases_Bool (bytes_eq other front)) [
+        elim (cases_Bool (bytes_eq other prefix)) [
           | inl same ↦
               let at : new other ≡ Some (length lists) = is other ∙ ap (λ b. if b then Some (length lists) else old other) same in
-              let was : old other ≡ None = ap old ((bytes_eq-Decides other front).0 same) ∙ none in
+              let was : old other ≡ None = ap old ((bytes_eq-Decides other prefix).0 same) ∙ none in
               ap (λ o. items_of (option_and_then (slice_get (lists ++ runs ∷ [])) o)) at ∙ ap items_of (push_last lists runs (length lists) refl) ∙ empty ∙ sym (ap (λ o. items_of (option_and_then (slice_get lists) o)) was)
           | inr unlike ↦
               let at : new other ≡ old other = is other ∙ ap (λ b. if b then Some (length lists) else old other) unlike in
               ap (λ o. items_of (option_and_then (slice_get (lists ++ runs ∷ [])) o)) at ∙ old_runs (old other) other runs refl
         ]
 
-  -- one more run of a front
-  pub run_added : (front : List ℕ) (number : ℕ) (runs : Vec CodeRun) (run : CodeRun) (d : Vec CodeRun) → old front ≡ Some number → slice_get lists number ≡ Some d → runs.items ≡ d.items ++ run ∷ []
-      → (other : List ℕ) → runs_at old (slice_set lists number runs) other ≡ (if bytes_eq other front then runs_at old lists other ++ run ∷ [] else runs_at old lists other)
-  run_added front number runs run d is was now other =
-      elim (cases_Bool (bytes_eq other front)) [
+  -- one more run of a prefix
+  pub run_added : (prefix : List ℕ) (number : ℕ) (runs : Vec CodeRun) (run : CodeRun) (d : Vec CodeRun) → old prefix ≡ Some number → slice_get lists number ≡ Some d → runs.items ≡ d.items ++ run ∷ []
+      → (other : List ℕ) → runs_at old (slice_set lists number runs) other ≡ (if bytes_eq other prefix then runs_at old lists other ++ run ∷ [] else runs_at old lists other)
+  run_added prefix number runs run d is was now other =
+      elim (cases_Bool (bytes_eq other prefix)) [
         | inl same ↦
-            let at : old other ≡ Some number = ap old ((bytes_eq-Decides other front).0 same) ∙ is in
+            let at : old other ≡ Some number = ap old ((bytes_eq-Decides other prefix).0 same) ∙ is in
             let before : runs_at old lists other ≡ d.items = ap (λ o. items_of (option_and_then (slice_get lists) o)) at ∙ ap items_of was in
-            ap (λ o. items_of (option_and_then (slice_get (slice_set lists number runs)) o)) at ∙ ap items_of (set_here lists number runs (within front number is)) ∙ now ∙ ap (λ l. l ++ run ∷ []) (sym before)
+            ap (λ o. items_of (option_and_then (slice_get (slice_set lists number runs)) o)) at ∙ ap items_of (set_here lists number runs (within prefix number is)) ∙ now ∙ ap (λ l. l ++ run ∷ []) (sym before)
             ∙ sym (ap (λ b. if b then runs_at old lists other ++ run ∷ [] else runs_at old lists other) same)
         | inr unlike ↦ others (old other) refl unlike
       ]
     where
-      others : (found : Option ℕ) → old other ≡ found → bytes_eq other front ≡ false → items_of (option_and_then (slice_get (slice_set lists number runs)) (old other)) ≡ (if bytes_eq other front then runs_at old lists other ++ run ∷ [] else runs_at old lists other)
+      others : (found : Option ℕ) → old other ≡ found → bytes_eq other prefix ≡ false → items_of (option_and_then (slice_get (slice_set lists number runs)) (old other)) ≡ (if bytes_eq other prefix then runs_at old lists other ++ run ∷ [] else runs_at old lists other)
       others found has unlike =
           untouched found has ∙ sym (ap (λ b. if b then runs_at old lists other ++ run ∷ [] else runs_at old lists other) unlike)
         where
@@ -79,5 +79,5 @@ module _ (old : List ℕ → Option ℕ) (lists : List (Vec CodeRun)) (within : 
           untouched None has = ap (λ o. items_of (option_and_then (slice_get (slice_set lists number runs)) o)) has ∙ sym (ap (λ o. items_of (option_and_then (slice_get lists) o)) has)
           untouched (Some m) has =
               ap (λ o. items_of (option_and_then (slice_get (slice_set lists number runs)) o)) has
-              ∙ ap items_of (set_elsewhere lists number m runs (λ same. false≢true (sym unlike ∙ (bytes_eq-Decides other front).1 (apart other front number (has ∙ ap Some same) is))))
+              ∙ ap items_of (set_elsewhere lists number m runs (λ same. false≢true (sym unlike ∙ (bytes_eq-Decides other prefix).1 (apart other prefix number (has ∙ ap Some same) is))))
               ∙ sym (ap (λ o. items_of (option_and_then (slice_get lists) o)) has)

@@ -1,5 +1,5 @@
 -- Strings of whole codes, cut code by code.
-use Rattle.std.proofs.Common.{◌≡◌, ℕ, zero, suc, ◌<◌, ◌≤◌, ◌⊎◌, Bool, true, false, List, [], ◌∷◌, ◌++◌, length, map, take, drop, refl, sym, ap, ◌∙◌, subst, inl, inr, arith, Any, take-append-drop, length-append}
+use Rattle.std.proofs.Common.{◌≡◌, ℕ, zero, suc, ◌<◌, ◌⊎◌, Bool, true, false, List, [], ◌∷◌, ◌++◌, length, map, take, drop, refl, sym, ap, ◌∙◌, subst, inl, inr, arith, Any, take-append-drop}
 use Rattle.std.specs.Prelude.{◌↔◌, not}
 use Rattle.std.specs.Bool.{MatchBool}
 use Rattle.std.proofs.lemmas.Bool.{cases_order}
@@ -7,11 +7,10 @@ use Rattle.std.proofs.lemmas.List.{drop_at, length-take-le}
 use Rattle.cmap_values.specs.Files.{Codespace}
 use Rattle.cmap_values.specs.Only.{HoldsOfNone}
 use Rattle.cmap_layers.specs.Layers.{Layer}
-use Rattle.cmap_layers.specs.Lookups.{InCodespace}
 use Rattle.cmap_layers.specs.StringCodes.{BeginsInside, IsShortestInside, IsTakenOutside}
 use Rattle.cmap_encode.specs.Codes.{IsWhole}
 use Rattle.cmap_encode.specs.StringsOfCodes.{AreCodes, next, nothing, only_spaces}
-use Rattle.cmap_encode.proofs.CodesRead.{whole_follows, whole_front}
+use Rattle.cmap_encode.proofs.CodesRead.{whole_follows, whole_prefix}
 
 module _ (layers : List Layer) where
   -- after the code with which it begins, it is whole codes as before
@@ -19,7 +18,7 @@ module _ (layers : List Layer) where
   cut_on text n is rest =
       let count : length (take n text) ≡ n = length-take-le n text is.0.0 in
       let some = is.0.1.0 in
-      subst (AreCodes layers) (take-append-drop n text) (next (take n text) (drop n text) (omega (arith, count, some)) (whole_front layers text n is) rest)
+      subst (AreCodes layers) (take-append-drop n text) (next (take n text) (drop n text) (omega (arith, count, some)) (whole_prefix layers text n is) rest)
 
   one_length : (text : List ℕ) (n m : ℕ) → IsShortestInside layers text n → IsShortestInside layers text m → n ≡ m
   one_length text n m is also = elim (cases_order n m) [

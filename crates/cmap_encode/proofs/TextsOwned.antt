@@ -11,12 +11,12 @@ use Rattle.cmap_encode.specs.Standing.{one, standing}
 use Rattle.cmap_encode.specs.TreeSeen.{node_of, step_of}
 use Rattle.cmap_encode.specs.declared.choices.Choices as seen
 use Rattle.cmap_encode.specs.declared.index.Index.{Index}
-use Rattle.cmap_encode.proofs.TextEnds.{front_taken, last_got}
+use Rattle.cmap_encode.proofs.TextEnds.{prefix_taken, last_got}
 use Rattle.cmap_encode.proofs.TreeNodes.{none_beyond, one_further}
 
-pub own_at_end : (index : Index) (front : List ℕ) (last : ℕ) → own_in index (front ++ last ∷ []) ≡ own_after index front last
-own_at_end index front last =
-    ap (option_and_then (own_after index (take (length (front ++ last ∷ []) - 1) (front ++ last ∷ [])))) (last_got front last) ∙ ap (λ f. own_after index f last) (front_taken front last)
+pub own_at_end : (index : Index) (prefix : List ℕ) (last : ℕ) → own_in index (prefix ++ last ∷ []) ≡ own_after index prefix last
+own_at_end index prefix last =
+    ap (option_and_then (own_after index (take (length (prefix ++ last ∷ []) - 1) (prefix ++ last ∷ [])))) (last_got prefix last) ∙ ap (λ f. own_after index f last) (prefix_taken prefix last)
 
 module _ (index : Index) (text : List ℕ) (count d : ℕ) (some : 1 ≤ count) (within : count ≤ length text) where
   -- the first characters of a text, and the last of them
@@ -57,10 +57,10 @@ module _ (index : Index) (text : List ℕ) (count d : ℕ) (some : 1 ≤ count) 
 -- no text has a code that goes on from one without a node
 pub none_owned_beyond : (index : Index) (text : List ℕ) (count taken : ℕ) → 1 ≤ count → count ≤ taken → taken ≤ length text → node_of index.tree (take (count - 1) text) ≡ None → own_in index (take taken text) ≡ None
 none_owned_beyond index text count taken some later within none =
-    let front_is : take (count - 1) (take (taken - 1) text) ≡ take (count - 1) text = take-take (count - 1) (taken - 1) text (omega arith) in
+    let prefix_is : take (count - 1) (take (taken - 1) text) ≡ take (count - 1) text = take-take (count - 1) (taken - 1) text (omega arith) in
     let node_is : node_of index.tree (take (taken - 1) text) ≡ None =
     ap (node_of index.tree) (sym (take-append-drop (count - 1) (take (taken - 1) text)))
-    ∙ none_beyond (step_of index.tree) (Some 0) (take (count - 1) (take (taken - 1) text)) (drop (count - 1) (take (taken - 1) text)) (ap (node_of index.tree) front_is ∙ none) in
+    ∙ none_beyond (step_of index.tree) (Some 0) (take (count - 1) (take (taken - 1) text)) (drop (count - 1) (take (taken - 1) text)) (ap (node_of index.tree) prefix_is ∙ none) in
     sym (own_here index text taken 0 (omega arith) within) ∙ ap (λ o. own_at index o (get_or text (taken - 1) 0)) node_is
 
 -- ---- what stands for them

@@ -9,18 +9,18 @@ use Rattle.cmap_encode.specs.TreeSeen.{PutsStep, node_after}
 use Rattle.cmap_encode.proofs.TextEnds.{same_end, text_ends}
 
 -- one more character
-pub one_further : (step : ℕ → ℕ → Option ℕ) (node : Option ℕ) (front : List ℕ) (last : ℕ) → node_after step node (front ++ last ∷ []) ≡ option_and_then (λ n. step n last) (node_after step node front)
+pub one_further : (step : ℕ → ℕ → Option ℕ) (node : Option ℕ) (prefix : List ℕ) (last : ℕ) → node_after step node (prefix ++ last ∷ []) ≡ option_and_then (λ n. step n last) (node_after step node prefix)
 one_further step begin [] last = refl
-one_further step begin (c ∷ front) last = one_further step (option_and_then (λ n. step n c) begin) front last
+one_further step begin (c ∷ prefix) last = one_further step (option_and_then (λ n. step n c) begin) prefix last
 
 none_further : (step : ℕ → ℕ → Option ℕ) (text : List ℕ) → node_after step None text ≡ None
 none_further step [] = refl
 none_further step (c ∷ text) = none_further step text
 
 -- what goes on from a text without a node has none
-pub none_beyond : (step : ℕ → ℕ → Option ℕ) (node : Option ℕ) (front more : List ℕ) → node_after step node front ≡ None → node_after step node (front ++ more) ≡ None
+pub none_beyond : (step : ℕ → ℕ → Option ℕ) (node : Option ℕ) (prefix more : List ℕ) → node_after step node prefix ≡ None → node_after step node (prefix ++ more) ≡ None
 none_beyond step begin [] more none = ap (λ o. node_after step o more) none ∙ none_further step more
-none_beyond step begin (c ∷ front) more none = none_beyond step (option_and_then (λ n. step n c) begin) front more none
+none_beyond step begin (c ∷ prefix) more none = none_beyond step (option_and_then (λ n. step n c) begin) prefix more none
 
 -- without a step only the empty text has a node
 pub only_empty : (step : ℕ → ℕ → Option ℕ) (text : List ℕ) (n : ℕ) → ((n c : ℕ) → step n c ≡ None) → node_after step (Some 0) text ≡ Some n → (text ≡ []) × (n ≡ 0)
@@ -30,18 +30,18 @@ only_empty step (c ∷ text) n none is = absurd (none-some n (sym (ap (λ o. nod
 unequal : (text other : List ℕ) → (text ≡ other → ⊥) → bytes_eq text other ≡ false
 unequal text other apart = elim (cases_Bool (bytes_eq text other)) [ inl same ↦ absurd (apart ((bytes_eq-Decides text other).0 same)) | inr unlike ↦ unlike ]
 
--- one more step, from the node of a front by a character
-module _ (old new : ℕ → ℕ → Option ℕ) (count node character : ℕ) (front : List ℕ) (inside : (n c next : ℕ) → old n c ≡ Some next → n < count)
+-- one more step, from the node of a prefix by a character
+module _ (old new : ℕ → ℕ → Option ℕ) (count node character : ℕ) (prefix : List ℕ) (inside : (n c next : ℕ) → old n c ≡ Some next → n < count)
     (apart : (one other : List ℕ) (n : ℕ) → node_after old (Some 0) one ≡ Some n → node_after old (Some 0) other ≡ Some n → one ≡ other)
-    (at : node_after old (Some 0) front ≡ Some node) (within : node < count) (none : old node character ≡ None) (puts : PutsStep old node character count new) where
+    (at : node_after old (Some 0) prefix ≡ Some node) (within : node < count) (none : old node character ≡ None) (puts : PutsStep old node character count new) where
   abbrev full : List ℕ
-  full = front ++ character ∷ []
+  full = prefix ++ character ∷ []
 
   abbrev Puts : List ℕ → Type 0
   Puts text = node_after new (Some 0) text ≡ (if bytes_eq text full then Some count else node_after old (Some 0) text)
 
   pub none_at : node_after old (Some 0) full ≡ None
-  none_at = one_further old (Some 0) front character ∙ ap (option_and_then (λ n. old n character)) at ∙ none
+  none_at = one_further old (Some 0) prefix character ∙ ap (option_and_then (λ n. old n character)) at ∙ none
 
   none_inside : (found : Option ℕ) (c : ℕ) → old count c ≡ found → found ≡ None
   none_inside None c is = refl
@@ -52,7 +52,7 @@ module _ (old new : ℕ → ℕ → Option ℕ) (count node character : ℕ) (fr
   none_after_new c = puts.others count c (λ same. let is = same.0 in omega arith) ∙ none_inside (old count c) c refl
 
   at_empty : Puts []
-  at_empty = sym (ap (λ b. if b then Some count else Some 0) (unequal [] full (λ same. omega (arith, ap (λ (l : List ℕ). length l) same, length-append front (character ∷ [])))))
+  at_empty = sym (ap (λ b. if b then Some count else Some 0) (unequal [] full (λ same. omega (arith, ap (λ (l : List ℕ). length l) same, length-append prefix (character ∷ [])))))
 
   after_new : (text : List ℕ) (last : ℕ) → text ≡ full → Puts text → Puts (text ++ last ∷ [])
   after_new text last same is =
@@ -65,20 +65,20 @@ module _ (old new : ℕ → ℕ → Option ℕ) (count node character : ℕ) (fr
   from_old : (found : Option ℕ) (text : List ℕ) (last : ℕ) → node_after old (Some 0) text ≡ found → node_after new (Some 0) text ≡ found → Puts (text ++ last ∷ [])
   from_old None text last was is =
       let other : bytes_eq (text ++ last ∷ []) full ≡ false = unequal (text ++ last ∷ []) full (λ equal.
-      let (fronts, lasts) = same_end text front last character equal in none-some node (sym was ∙ ap (node_after old (Some 0)) fronts ∙ at)) in
+      let (prefixes, lasts) = same_end text prefix last character equal in none-some node (sym was ∙ ap (node_after old (Some 0)) prefixes ∙ at)) in
       one_further new (Some 0) text last ∙ ap (option_and_then (λ n. new n last)) is
       ∙ sym (ap (λ b. if b then Some count else node_after old (Some 0) (text ++ last ∷ [])) other ∙ one_further old (Some 0) text last ∙ ap (option_and_then (λ n. old n last)) was)
   from_old (Some m) text last was is =
       elim (cases_Bool (bytes_eq (text ++ last ∷ []) full)) [
         | inl equal ↦
-            let (fronts, lasts) = same_end text front last character ((bytes_eq-Decides (text ++ last ∷ []) full).0 equal) in
-            let here : m ≡ node = same_Some m node (sym was ∙ ap (node_after old (Some 0)) fronts ∙ at) in
+            let (prefixes, lasts) = same_end text prefix last character ((bytes_eq-Decides (text ++ last ∷ []) full).0 equal) in
+            let here : m ≡ node = same_Some m node (sym was ∙ ap (node_after old (Some 0)) prefixes ∙ at) in
             one_further new (Some 0) text last ∙ ap (option_and_then (λ n. new n last)) is ∙ ap (λ n. new n last) here ∙ ap (new node) lasts ∙ puts.here
             ∙ sym (ap (λ b. if b then Some count else node_after old (Some 0) (text ++ last ∷ [])) equal)
         | inr unlike ↦
             let elsewhere : (m ≡ node) × (last ≡ character) → ⊥ = λ same.
-            let fronts : text ≡ front = apart text front m was (at ∙ ap Some (sym same.0)) in
-            false≢true (sym unlike ∙ (bytes_eq-Decides (text ++ last ∷ []) full).1 (ap (λ f. f ++ last ∷ []) fronts ∙ ap (λ c. front ++ c ∷ []) same.1)) in
+            let prefixes : text ≡ prefix = apart text prefix m was (at ∙ ap Some (sym same.0)) in
+            false≢true (sym unlike ∙ (bytes_eq-Decides (text ++ last ∷ []) full).1 (ap (λ f. f ++ last ∷ []) prefixes ∙ ap (λ c. prefix ++ c ∷ []) same.1)) in
             one_further new (Some 0) text last ∙ ap (option_and_then (λ n. new n last)) is ∙ puts.others m last elsewhere
             ∙ sym (ap (λ b. if b then Some count else node_after old (Some 0) (text ++ last ∷ [])) unlike ∙ one_further old (Some 0) text last ∙ ap (option_and_then (λ n. old n last)) was)
       ]

@@ -172,9 +172,6 @@ ends_way choices text (Some way) is = (λ _. may_encodable choices text way.take
 
 -- a piece that something stands for, before what falls into pieces
 module _ (choices : Choices) (text : List ℕ) (taken : ℕ) (some : 1 ≤ taken) (within : taken ≤ length text) where
-  pub try_ends : (IsEncodable choices (drop taken text) → ⊥) → IsTryOf choices text taken None
-  try_ends none = λ may. none may.rest
-
   pub try_unfound : choices (take taken text) ≡ None → IsTryOf choices text taken None
   try_unfound missing = λ may. false≢true (subst (λ o. IsTrue (is_some o)) missing may.chosen)
 

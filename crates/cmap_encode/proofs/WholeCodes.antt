@@ -16,14 +16,14 @@ use Rattle.cmap_layers.specs.StringCodes.{BeginsInside, IsShortestInside}
 use Rattle.cmap_encode.specs.Codes.{IsWhole}
 use Rattle.cmap_encode.specs.Strings.{IsString}
 use Rattle.cmap_encode.specs.Outside.{IsInside}
-use Rattle.cmap_encode.specs.WholeSeen.{HasFrontInside, IsFull, IsWholeNumber}
+use Rattle.cmap_encode.specs.WholeSeen.{HasPrefixInside, IsFull, IsWholeNumber}
 use Rattle.cmap_encode.proofs.CodesOutside.{same_byte, whole_inside}
 use Rattle.cmap_encode.proofs.CodesRead.{whole_length}
 use Rattle.cmap_encode.proofs.Numbers.{AreBytesOf, number_append, number_below, one_string}
 
 -- the number of the first bytes
-pub front_number : (bytes : List ℕ) (m : ℕ) → IsString bytes → m ≤ length bytes → big_endian (take m bytes) ≡ big_endian bytes / 256 ^ (length bytes - m)
-front_number bytes m are within =
+pub prefix_number : (bytes : List ℕ) (m : ℕ) → IsString bytes → m ≤ length bytes → big_endian (take m bytes) ≡ big_endian bytes / 256 ^ (length bytes - m)
+prefix_number bytes m are within =
     let rest = drop m bytes in
     let count : length rest ≡ length bytes - m = length-drop m bytes in
     let whole : big_endian bytes ≡ big_endian (take m bytes) * 256 ^ length rest + big_endian rest = ap big_endian (sym (take-append-drop m bytes)) ∙ number_append (take m bytes) rest in
@@ -54,7 +54,7 @@ within_too space len after code number some most few same full from to (long, by
               let (low, high) = full k last in
               let byte : byte_at number k < 256 = mod-lt (number / 256 ^ k) (omega arith) in
               (omega (arith, low), omega (arith, high, byte))
-          | inr (inr front) ↦
+          | inr (inr prefix) ↦
               let is : byte_at number k ≡ byte_at code k = same_byte number code after k same some (omega arith) (omega arith) (omega arith) in
               let (low, high) = bytes k lt in
               (subst (λ b. byte_at space.low k ≤ b) (sym is) low, subst (λ b. b ≤ byte_at space.high k) (sym is) high)
@@ -69,7 +69,7 @@ module _ (layers : List Layer) (first : List ℕ) (len number last : ℕ) (is_le
   at_first : (bytes : List ℕ) → IsString bytes → length bytes ≡ len → big_endian bytes ≡ number → bytes ≡ first
   at_first bytes strings long same = one_string first bytes are.string strings (omega (arith, are.count, is_len.0)) (omega (arith, are.count, is_len.1)) (omega (arith, are.count)) (same ∙ sym are.writes)
 
-  -- no front of the first is inside a range, and no further code is
+  -- no prefix of the first is inside a range, and no further code is
   pub none_whole : HoldsOfNone (BeginsInside layers first) → ((other : ℕ) → number < other → other ≤ last → IsInside layers len other → ⊥)
       → (bytes : List ℕ) → IsString bytes → length bytes ≡ len → number ≤ big_endian bytes → big_endian bytes ≤ last → IsWhole layers bytes → ⊥
   none_whole none outside bytes strings long from to whole =
@@ -78,34 +78,34 @@ module _ (layers : List Layer) (first : List ℕ) (len number last : ℕ) (is_le
         | inr here ↦ none (length bytes) (subst (λ b. BeginsInside layers b (length bytes)) (at_first bytes strings long (omega arith)) whole.0)
       ]
 
-  -- a shorter front is, and those of the further codes are
-  pub all_shadowed : (count after : ℕ) → IsShortestInside layers first count → count < len → after ≡ len - count → ((other : ℕ) → number ≤ other → other ≤ last → HasFrontInside layers count after number other)
+  -- a shorter prefix is, and those of the further codes are
+  pub all_shadowed : (count after : ℕ) → IsShortestInside layers first count → count < len → after ≡ len - count → ((other : ℕ) → number ≤ other → other ≤ last → HasPrefixInside layers count after number other)
       → (bytes : List ℕ) → IsString bytes → length bytes ≡ len → number ≤ big_endian bytes → big_endian bytes ≤ last → IsWhole layers bytes → ⊥
-  all_shadowed count after (begins, shortest) fewer is fronts bytes strings long from to whole =
+  all_shadowed count after (begins, shortest) fewer is prefixes bytes strings long from to whole =
       let of_first : length first - count ≡ after = omega (arith, are.count) in
       let of_bytes : length bytes - count ≡ after = omega arith in
-      let first_front = front_number first count are.string (omega (arith, are.count)) ∙ ap (λ k. big_endian first / 256 ^ k) of_first ∙ ap (λ n. n / 256 ^ after) are.writes in
-      let front = front_number bytes count strings (omega arith) ∙ ap (λ k. big_endian bytes / 256 ^ k) of_bytes in
-      let inside : IsInside layers count (big_endian bytes / 256 ^ after) = elim (fronts (big_endian bytes) from to) [
-        | inl same ↦ subst (IsInside layers count) (first_front ∙ sym same) begins.1.3
+      let first_prefix = prefix_number first count are.string (omega (arith, are.count)) ∙ ap (λ k. big_endian first / 256 ^ k) of_first ∙ ap (λ n. n / 256 ^ after) are.writes in
+      let prefix = prefix_number bytes count strings (omega arith) ∙ ap (λ k. big_endian bytes / 256 ^ k) of_bytes in
+      let inside : IsInside layers count (big_endian bytes / 256 ^ after) = elim (prefixes (big_endian bytes) from to) [
+        | inl same ↦ subst (IsInside layers count) (first_prefix ∙ sym same) begins.1.3
         | inr there ↦ there
       ] in
       let taken : length (take count bytes) ≡ count = length-take-le count bytes (omega arith) in
       let below : big_endian (take count bytes) < 256 ^ count = subst (λ k. big_endian (take count bytes) < 256 ^ k) taken (number_below (take count bytes) (All-take (λ b. b < 256) count bytes strings)) in
-      whole.1 count (omega arith) (omega arith, (begins.1.0, begins.1.1, below, subst (IsInside layers count) (sym front) inside))
+      whole.1 count (omega arith) (omega arith, (begins.1.0, begins.1.1, below, subst (IsInside layers count) (sym prefix) inside))
 
 -- ---- whole codes by their numbers
 pub number_whole : (layers : List Layer) (bytes : List ℕ) → IsString bytes → IsWhole layers bytes → IsWholeNumber layers (length bytes) (big_endian bytes)
 number_whole layers bytes are whole = record {
   inside = whole_inside layers bytes whole;
-  fronts = λ left some less inside.
+  prefixes = λ left some less inside.
       let m = length bytes - left in
       let (one, four) = whole_length layers bytes whole in
       let back : length bytes - m ≡ left = omega arith in
-      let front : big_endian (take m bytes) ≡ big_endian bytes / 256 ^ left = front_number bytes m are (omega arith) ∙ ap (λ k. big_endian bytes / 256 ^ k) back in
+      let prefix : big_endian (take m bytes) ≡ big_endian bytes / 256 ^ left = prefix_number bytes m are (omega arith) ∙ ap (λ k. big_endian bytes / 256 ^ k) back in
       let taken : length (take m bytes) ≡ m = length-take-le m bytes (omega arith) in
       let below : big_endian (take m bytes) < 256 ^ m = subst (λ k. big_endian (take m bytes) < 256 ^ k) taken (number_below (take m bytes) (All-take (λ b. b < 256) m bytes are)) in
-      whole.1 m (omega arith) (omega arith, (omega arith, omega arith, below, subst (IsInside layers m) (sym front) inside));
+      whole.1 m (omega arith) (omega arith, (omega arith, omega arith, below, subst (IsInside layers m) (sym prefix) inside));
 }
 
 pub whole_number : (layers : List Layer) (bytes : List ℕ) → IsString bytes → IsCodeLength (length bytes) → IsWholeNumber layers (length bytes) (big_endian bytes) → IsWhole layers bytes
@@ -114,19 +114,19 @@ whole_number layers bytes are (one, four) is =
       (omega arith, (one, four, subst (λ (l : List ℕ). big_endian l < 256 ^ length bytes) (sym all) (number_below bytes are), subst (λ (l : List ℕ). IsInside layers (length bytes) (big_endian l)) (sym all) is.inside)),
       λ m fewer begins.
           let some = begins.1.0 in
-          let front = front_number bytes m are (omega arith) in
+          let prefix = prefix_number bytes m are (omega arith) in
           let back : length bytes - (length bytes - m) ≡ m = omega arith in
-          is.fronts (length bytes - m) (omega arith) (omega arith) (subst (λ n. IsInside layers n (big_endian bytes / 256 ^ (length bytes - m))) (sym back) (subst (IsInside layers m) front begins.1.3)),
+          is.prefixes (length bytes - m) (omega arith) (omega arith) (subst (λ n. IsInside layers n (big_endian bytes / 256 ^ (length bytes - m))) (sym back) (subst (IsInside layers m) prefix begins.1.3)),
     )
 
--- a number with the same bytes before the last ones, so many, and with no front inside that has some of these
+-- a number with the same bytes before the last ones, so many, and with no prefix inside that has some of these
 pub whole_as : (layers : List Layer) (len after number other : ℕ) → after ≤ len → other / 256 ^ after ≡ number / 256 ^ after → IsWholeNumber layers len number → IsInside layers len other → ((left : ℕ) → 1 ≤ left → left < after → IsInside layers (len - left) (other / 256 ^ left) → ⊥) → IsWholeNumber layers len other
 whole_as layers len after number other le same is inside none = record {
   inside = inside;
-  fronts = λ left some less there.
+  prefixes = λ left some less there.
       elim (cases_lt left after) [
         | inl few ↦ none left some few there
-        | inr many ↦ is.fronts left some less (subst (IsInside layers (len - left)) (same_without other number after left many same) there)
+        | inr many ↦ is.prefixes left some less (subst (IsInside layers (len - left)) (same_without other number after left many same) there)
       ];
 }
 

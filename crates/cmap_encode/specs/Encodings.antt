@@ -15,7 +15,7 @@ pub record IsEncodingBy (choices : Choices) (text string : List ℕ) : Type 0 wh
   pub are : AreChoices choices text pieces
   pub is : string ≡ flat_map (λ piece. piece.bytes) pieces
 
--- the piece has so many bytes in UTF-8, and this stands for it
+-- the piece has len bytes in UTF-8, and this stands for it
 pub record IsPieceOf (len : ℕ) (choice : Choice) (piece : Piece) : Type 0 where
   pub text : piece.text_len ≡ len
   pub code : piece.code_len ≡ length choice.bytes
@@ -27,7 +27,7 @@ pub data ArePiecesBy (choices : Choices) : List ℕ → List Piece → Type 0 wh
   next : (text : List ℕ) (len : ℕ) (choice : Choice) (first : Piece) (rest : List Piece) → BeginsWith choices text len → choices (take len text) ≡ Some choice
       → IsPieceOf (length (flat_map encode_utf8 (take len text))) choice first → ArePiecesBy choices (drop len text) rest → ArePiecesBy choices text (first ∷ rest)
 
--- of the prefixes of the text that fall into pieces, the longest has so many characters
+-- of the prefixes of the text that fall into pieces, the longest has count characters
 pub record IsLongestEncodable (choices : Choices) (text : List ℕ) (count : ℕ) : Type 0 where
   pub within : count ≤ length text
   pub encodable : IsEncodable choices (take count text)
@@ -44,7 +44,7 @@ pub record IsStuckBy (choices : Choices) (text : List ℕ) (offset : ℕ) : Type
 pub data IsLossyEncodingBy (choices : Choices) (missing : List ℕ) : List ℕ → List ℕ → Type 0 where
   -- all of the text falls into pieces
   whole : (text string : List ℕ) → IsEncodingBy choices text string → IsLossyEncodingBy choices missing text string
-  -- so many characters of it do, and no more
+  -- count characters of it do, and no more
   stuck : (text prefix rest : List ℕ) (count : ℕ) → IsLongestEncodable choices text count → count < length text → IsEncodingBy choices (take count text) prefix
       → IsLossyEncodingBy choices missing (drop (count + 1) text) rest → IsLossyEncodingBy choices missing text (prefix ++ (missing ++ rest))
 

@@ -10,7 +10,7 @@ use Rattle.cmap_encode.specs.Forms.{code_in}
 use Rattle.cmap_encode.specs.GlyphsSeen.{glyph_after}
 use Rattle.cmap_encode.specs.Maps.{Maps, Unicode, glyph_of}
 use Rattle.cmap_encode.specs.Ranks.{Candidate, as_ranked}
-use Rattle.cmap_encode.specs.RunsSeen.{AreRunsByFront, GivesText}
+use Rattle.cmap_encode.specs.RunsSeen.{AreRunsByPrefix, GivesText}
 use Rattle.cmap_encode.specs.StandsFor.{HasGlyph, HasText, IsShown, IsSilent, IsStated}
 use Rattle.cmap_encode.specs.declared.code.Code.{Code}
 use Rattle.cmap_encode.specs.declared.firsts.CodeRun.{CodeRun}
@@ -18,7 +18,7 @@ use Rattle.cmap_encode.specs.declared.gathered.Gathered.{Gathered}
 use Rattle.cmap_encode.specs.declared.glyphs.Glyphs.{Glyphs}
 use Rattle.cmap_encode.specs.declared.rank.Rank.TheVariants.{Canonical, Collection, OwnForm, Stated}
 use Rattle.cmap_encode.specs.declared.rank.Ranked.{Ranked}
-use Rattle.cmap_encode.specs.declared.runs_by_front.RunsByFront.{RunsByFront}
+use Rattle.cmap_encode.specs.declared.runs_by_prefix.RunsByPrefix.{RunsByPrefix}
 
 -- those of a kind before a limit are given, and no others
 abbrev pub AreJust : ℕ → ℕ → (Candidate → Type 0) → (Candidate → Type 0) → Type 0
@@ -32,7 +32,7 @@ abbrev pub IsSilentOne : Maps → ℕ → Candidate → Type 0
 IsSilentOne maps cid candidate = (candidate.rank ≡ Collection) × IsSilent maps cid candidate.bytes
 
 pub record AreGathered (maps : Maps) (len limit : ℕ) (gathered : Gathered) : Type 0 where
-  pub texts : AreRunsByFront gathered.texts
+  pub texts : AreRunsByPrefix gathered.texts
   pub cids : All IsCodeRun gathered.cids.items
   pub stated : (text : List ℕ) → AreJust len limit (IsStatedOne maps text) (GivesText gathered.texts text)
   pub silent : (cid : ℕ) → AreJust len limit (IsSilentOne maps cid) (λ candidate. Any (Gives cid candidate) gathered.cids.items)
@@ -62,7 +62,7 @@ pub record GivesFirst (collection : Option (List Layer)) (firsts : List CodeRun)
   pub has : HasText collection cid text
 
 -- the first codes of these CIDs are added
-abbrev pub AddsCids : Option (List Layer) → List CodeRun → ℕ → ℕ → RunsByFront → RunsByFront → Type 0
+abbrev pub AddsCids : Option (List Layer) → List CodeRun → ℕ → ℕ → RunsByPrefix → RunsByPrefix → Type 0
 AddsCids collection firsts first limit old new = (text : List ℕ) (candidate : Candidate) → GivesText new text candidate ↔ (GivesText old text candidate ⊎ GivesFirst collection firsts first limit text candidate)
 
 -- a code for a character, from a first one on and below a limit, by its glyph: the first code of the glyph, or the code of the character in the form of the map from Unicode
@@ -76,11 +76,11 @@ pub record GivesCharacter (maps : Maps) (unicode : Unicode) (firsts : List CodeR
   pub chosen : (option_map (as_ranked Canonical) (first_at firsts cid) ≡ Some candidate) ⊎ ((candidate.rank ≡ OwnForm) × IsSilent maps cid candidate.bytes × (option_map code_bytes (code_in unicode.form character) ≡ Some candidate.bytes))
 
 -- the codes for these characters are added
-abbrev pub AddsGlyphs : Maps → Unicode → List CodeRun → ℕ → ℕ → RunsByFront → RunsByFront → Type 0
+abbrev pub AddsGlyphs : Maps → Unicode → List CodeRun → ℕ → ℕ → RunsByPrefix → RunsByPrefix → Type 0
 AddsGlyphs maps unicode firsts first limit old new = (text : List ℕ) (candidate : Candidate) → GivesText new text candidate ↔ (GivesText old text candidate ⊎ GivesCharacter maps unicode firsts first limit text candidate)
 
 -- for all characters, if there is a map from Unicode
-abbrev pub AddsAllGlyphs : Maps → List CodeRun → RunsByFront → RunsByFront → Type 0
+abbrev pub AddsAllGlyphs : Maps → List CodeRun → RunsByPrefix → RunsByPrefix → Type 0
 AddsAllGlyphs maps firsts old new = MatchOption maps.unicode (new ≡ old) (λ unicode. AddsGlyphs maps unicode firsts 0 0x110000 old new)
 
 -- of a code in a form: the code itself, where its glyph is this one

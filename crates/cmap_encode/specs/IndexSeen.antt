@@ -23,7 +23,7 @@ own_at index node last = option_and_then (λ found. first_in found last) (option
 
 -- and for a last character after the characters before it
 abbrev pub own_after : Index → List ℕ → ℕ → Option Ranked
-own_after index front last = own_at index (node_of index.tree front) last
+own_after index prefix last = own_at index (node_of index.tree prefix) last
 
 -- and for a text
 abbrev pub own_in : Index → List ℕ → Option Ranked

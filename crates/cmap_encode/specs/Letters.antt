@@ -8,7 +8,7 @@ is_between first last character = nat_le first character && nat_le character las
 abbrev pub is_selector : ℕ → Bool
 is_selector character = is_between 0xFE00 0xFE0F character || is_between 0xE0100 0xE01EF character
 
--- so many numbers from a first one on
+-- numbers in a row, from a first one on
 unfoldable pub counted : ℕ → ℕ → List ℕ
 counted first zero = []
 counted first (suc count) = first ∷ counted (first + 1) count

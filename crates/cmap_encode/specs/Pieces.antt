@@ -26,14 +26,14 @@ letter_of (character ∷ after) = 1 + length (take_while is_mark after)
 abbrev pub IsSooner : ℕ → ℕ → ℕ → Type 0
 IsSooner letter len other = ((len ≤ letter) × ((letter < other) ⊎ (other < len))) ⊎ ((letter < len) × (letter < other) × (other < len))
 
--- the first piece may have so many characters: something stands for them, and what comes after them falls into pieces
+-- the first piece may have len characters: something stands for them, and what comes after them falls into pieces
 pub record MayBegin (choices : Choices) (text : List ℕ) (len : ℕ) : Type 0 where
   pub some : 1 ≤ len
   pub within : len ≤ length text
   pub chosen : IsSome (choices (take len text))
   pub rest : IsEncodable choices (drop len text)
 
--- it has so many: no length that is tried sooner may be that of the first piece
+-- it has len characters: no length that is tried sooner may be that of the first piece
 pub record BeginsWith (choices : Choices) (text : List ℕ) (len : ℕ) : Type 0 where
   pub may : MayBegin choices text len
   pub first : (other : ℕ) → IsSooner (letter_of text) other len → MayBegin choices text other → ⊥

@@ -7,7 +7,7 @@ use Rattle.cmap_encode.specs.Standing.{one}
 use Rattle.cmap_encode.specs.TreeSeen.{node_of, step_of}
 use Rattle.cmap_encode.specs.declared.choices.Choices.{Choices}
 
--- it is the node of what follows, up to so many characters of the text, a shorter prefix that falls into pieces
+-- it is the node of what follows, up to count characters of the text, a shorter prefix that falls into pieces
 pub record IsAfterPieces (choices : Choices) (text : List ℕ) (count n : ℕ) : Type 0 where
   pub k : ℕ
   pub before : k < count

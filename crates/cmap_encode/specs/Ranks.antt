@@ -36,7 +36,7 @@ IsFirstAmong Among found = MatchOption found
     ((candidate : Candidate) → Among candidate → ⊥)
     (λ first. Among first × ((other : Candidate) → Among other → IsNoLater first other))
 
--- the code so many codes after this one
+-- the code that comes count codes after this one
 abbrev pub code_after : ℕ → Code → Code
 code_after count code = record { number = code.number + count; len = code.len }
 

@@ -1,5 +1,5 @@
 -- Strings of whole codes of a font, one after another.
-use Rattle.std.specs.Prelude.{◌≡◌, ℕ, ◌<◌, List, [], ◌++◌, None, length}
+use Rattle.std.specs.Prelude.{ℕ, ◌<◌, List, [], ◌++◌, None, length}
 use Rattle.cmap_values.specs.ListsAppended.{no_lists}
 use Rattle.cmap_layers.specs.Layers.{Layer}
 use Rattle.cmap_encode.specs.Codes.{IsWhole}

@@ -31,7 +31,7 @@ pub record IsTry (choices : Choices) (text : List ℕ) (way : Way) : Type 0 wher
   pub may : MayBegin choices text way.taken
   pub chosen : choices (take way.taken text) ≡ Some (choice_seen way.choice)
 
--- the piece of so many characters, if it may be the first
+-- the piece of taken characters, if it may be the first
 abbrev pub IsTryOf : Choices → List ℕ → ℕ → Option Way → Type 0
 IsTryOf choices text taken way = MatchOption way (MayBegin choices text taken → ⊥) (λ way. (way.taken ≡ taken) × IsTry choices text way)
 

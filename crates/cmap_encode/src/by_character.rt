@@ -6,7 +6,7 @@ ghost use Rattle.cmap_tokens.specs.TextSeen.{text_seen};
 ghost use Rattle.cmap_encode.specs.GatheredSeen.{AddsAllGlyphs, AddsGlyphs, IsOwnFormOf};
 ghost use Rattle.cmap_encode.specs.GlyphsSeen.{AreOfCharacters, glyph_after};
 ghost use Rattle.cmap_encode.specs.Maps.{glyph_of_character, maps_seen, unicode_seen};
-ghost use Rattle.cmap_encode.specs.RunsSeen.{AreRunsByFront};
+ghost use Rattle.cmap_encode.specs.RunsSeen.{AreRunsByPrefix};
 ghost use Rattle.cmap_encode.specs.StandsFor.{HasGlyph};
 
 use crate::code::Code;
@@ -15,7 +15,7 @@ use crate::forms::LAST_CHARACTER;
 use crate::glyphs::{Glyphs, glyph_stretch};
 use crate::maps::{Maps, Unicode};
 use crate::rank::{Rank, Ranked};
-use crate::runs_by_front::RunsByFront;
+use crate::runs_by_prefix::RunsByPrefix;
 use crate::silent::silent_stretch;
 use cmap_tokens::utf16::BfString;
 use cmap_unicode::texts_in_row;
@@ -37,12 +37,12 @@ pub(crate) struct GlyphRow {
 /// of its glyph, and its code in the form of the map, if that has the same glyph in the font.
 pub(crate) fn add_characters(
     alloc: Global,
-    texts: &mut RunsByFront,
+    texts: &mut RunsByPrefix,
     maps: &Maps<'_>,
     cids: &Firsts,
 ) -> Result<(), AllocError>
-    requires { AreRunsByFront texts.old }
-    ensures are { OnOk result (AreRunsByFront texts.new) }
+    requires { AreRunsByPrefix texts.old }
+    ensures are { OnOk result (AreRunsByPrefix texts.new) }
     ensures adds { OnOk result (AddsAllGlyphs (maps_seen maps.now) cids.now texts.old texts.new) }
 {
     let Some(unicode) = &maps.unicode else {
@@ -59,16 +59,16 @@ pub(crate) fn add_characters(
 /// with which to go on.
 fn add_row(
     alloc: Global,
-    texts: &mut RunsByFront,
+    texts: &mut RunsByPrefix,
     maps: &Maps<'_>,
     unicode: &Unicode<'_>,
     cids: &Firsts,
     first: u32,
 ) -> Result<u32, AllocError>
-    requires are { AreRunsByFront texts.old }
+    requires are { AreRunsByPrefix texts.old }
     requires first { first ≤ LAST_CHARACTER }
     ensures more { IfOk result (λ next. (first < next) × (next ≤ LAST_CHARACTER + 1)) }
-    ensures are { OnOk result (AreRunsByFront texts.new) }
+    ensures are { OnOk result (AreRunsByPrefix texts.new) }
     ensures adds { IfOk result (λ next. AddsGlyphs (maps_seen maps.now) (unicode_seen unicode.now)
         cids.now first next texts.old texts.new) }
 {

@@ -3,11 +3,11 @@
 ghost use Rattle.std.specs.Prelude.{◌^◌, ◌<◌, ◌≤◌, IfOk, OnOk};
 ghost use Rattle.std.specs.Option.{option_copied};
 ghost use Rattle.cmap_encode.specs.GatheredSeen.{AddsCids};
-ghost use Rattle.cmap_encode.specs.RunsSeen.{AreRunsByFront};
+ghost use Rattle.cmap_encode.specs.RunsSeen.{AreRunsByPrefix};
 
 use crate::firsts::Firsts;
 use crate::rank::{Rank, Ranked};
-use crate::runs_by_front::RunsByFront;
+use crate::runs_by_prefix::RunsByPrefix;
 use cmap_layers::layers::Layers;
 use cmap_unicode::texts_in_row;
 use std::alloc::{AllocError, Global};
@@ -15,12 +15,12 @@ use std::alloc::{AllocError, Global};
 /// Adds the first code of each CID for the text of the CID.
 pub(crate) fn add_cids(
     alloc: Global,
-    texts: &mut RunsByFront,
+    texts: &mut RunsByPrefix,
     collection: Option<&Layers>,
     cids: &Firsts,
 ) -> Result<(), AllocError>
-    requires { AreRunsByFront texts.old }
-    ensures are { OnOk result (AreRunsByFront texts.new) }
+    requires { AreRunsByPrefix texts.old }
+    ensures are { OnOk result (AreRunsByPrefix texts.new) }
     ensures adds { OnOk result
         (AddsCids (option_copied collection.entry) cids.now 0 (2 ^ 32) texts.old texts.new) }
 {
@@ -35,14 +35,14 @@ pub(crate) fn add_cids(
 /// which to go on.
 fn add_row(
     alloc: Global,
-    texts: &mut RunsByFront,
+    texts: &mut RunsByPrefix,
     collection: Option<&Layers>,
     cids: &Firsts,
     first: u32,
 ) -> Result<u64, AllocError>
-    requires { AreRunsByFront texts.old }
+    requires { AreRunsByPrefix texts.old }
     ensures more { IfOk result (λ next. (first < next) × (next ≤ 2 ^ 32)) }
-    ensures are { OnOk result (AreRunsByFront texts.new) }
+    ensures are { OnOk result (AreRunsByPrefix texts.new) }
     ensures adds { IfOk result
         (λ next. AddsCids (option_copied collection.entry) cids.now first next texts.old texts.new) }
 {

@@ -18,18 +18,18 @@ pub(crate) struct Code {
 }
 
 impl Code {
-    /// The length of the shortest front of the code that lies in a codespace range, if one does. The code
-    /// itself is the longest of its fronts.
-    pub(crate) fn shortest_front(self, encoding: &Layers) -> Option<CodeLength>
+    /// The length of the shortest prefix of the code that lies in a codespace range, if one does. The code
+    /// itself is the longest of its prefixes.
+    pub(crate) fn shortest_prefix(self, encoding: &Layers) -> Option<CodeLength>
         ensures { MatchOption result (HoldsOfNone (BeginsInside encoding.now (code_bytes self)))
             (λ len. IsShortestInside encoding.now (code_bytes self) (length_of len)) }
     {
         let bytes = self.number.to_be_bytes();
-        let front = encoding.next_code(&bytes[4 - usize::from(self.len.count())..])?;
-        if !front.in_codespace {
+        let prefix = encoding.next_code(&bytes[4 - usize::from(self.len.count())..])?;
+        if !prefix.in_codespace {
             return None;
         }
-        CodeLength::of(front.byte_len)
+        CodeLength::of(prefix.byte_len)
     }
 
     /// Whether it is the byte of a character.

@@ -14,7 +14,7 @@ use crate::firsts::CodeRun;
 use crate::glyphs::{Glyphs, glyph_stretch};
 use crate::maps::Maps;
 use crate::rank::{Rank, Ranked};
-use crate::runs_by_front::RunsByFront;
+use crate::runs_by_prefix::RunsByPrefix;
 use crate::whole::whole_stretch;
 use cmap_tokens::utf16::BfString;
 use cmap_unicode::texts_in_row;
@@ -25,7 +25,7 @@ use std::alloc::{AllocError, Global};
 #[derive(Drop)]
 pub(crate) struct Gathered {
     /// By the texts that the ToUnicode CMap has for them.
-    pub(crate) texts: RunsByFront,
+    pub(crate) texts: RunsByPrefix,
     /// By their glyphs, where it has none.
     pub(crate) cids: Vec<CodeRun>,
 }
@@ -36,7 +36,7 @@ impl Gathered {
         ensures { IfOk result (AreGathered (maps_seen maps.now) 5 0) }
     {
         let mut gathered = Gathered {
-            texts: RunsByFront::new(alloc)?,
+            texts: RunsByPrefix::new(alloc)?,
             cids: Vec::new(alloc),
         };
         gathered.add_codes(alloc, maps, CodeLength::One)?;

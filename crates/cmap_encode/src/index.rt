@@ -21,7 +21,7 @@ use std::alloc::{AllocError, Global};
 /// several of these the one of the least number.
 #[derive(Drop)]
 pub(crate) struct Index {
-    /// Fronts, the characters of texts before the last one, as nodes.
+    /// Prefixes, the characters of texts before the last one, as nodes.
     tree: Tree,
     /// The first code of each last character, for each node that a last character follows.
     firsts: Vec<Option<Box<Firsts>>>,

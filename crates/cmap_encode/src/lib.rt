@@ -19,7 +19,7 @@ mod outside;
 mod pieces;
 mod prefixes;
 mod rank;
-mod runs_by_front;
+mod runs_by_prefix;
 mod silent;
 mod tree;
 mod ways;

@@ -19,13 +19,13 @@ pub(crate) fn outside_until(encoding: &Layers, code: Code) -> u32
 {
     let mut last = code.number;
     for after in 1..code.len.count() {
-        last = outside_with_front(encoding, code, after, last);
+        last = outside_with_prefix(encoding, code, after, last);
     }
     last
 }
 
 /// The same by the bytes before the last `after` ones. Codes up to `last` are known to lie outside.
-fn outside_with_front(encoding: &Layers, code: Code, after: u8, last: u32) -> u32
+fn outside_with_prefix(encoding: &Layers, code: Code, after: u8, last: u32) -> u32
     requires after { (1 ≤ after) × (after ≤ 3) }
     requires within { code.number ≤ last }
     requires outside { (number : ℕ) → code.number < number → number ≤ last
@@ -37,11 +37,11 @@ fn outside_with_front(encoding: &Layers, code: Code, after: u8, last: u32) -> u3
     if may_begin(encoding, code, after) {
         return last;
     }
-    last_with_front(code.number, after)
+    last_with_prefix(code.number, after)
 }
 
 /// The last number with the same bytes before the last `after` ones.
-pub(crate) fn last_with_front(number: u32, after: u8) -> u32
+pub(crate) fn last_with_prefix(number: u32, after: u8) -> u32
     requires { after ≤ 3 }
     ensures within { number ≤ result }
     ensures same { (other : ℕ) → number ≤ other → other ≤ result

@@ -43,7 +43,7 @@ pub(crate) fn all_ways(
     Ok(ways)
 }
 
-/// How many marks there are from a character on, of which so many come after it.
+/// How many marks a text begins with, by its first character and the number of marks `after` it.
 fn marks_with(character: char, after: usize) -> usize
     requires { after < usize.MAX }
     ensures { result ≡ (if is_mark character then 1 + after else 0) }
@@ -51,7 +51,7 @@ fn marks_with(character: char, after: usize) -> usize
     if is_mark(character) { 1 + after } else { 0 }
 }
 
-/// The way of a text whose first letter has so many characters, by those of its last characters.
+/// The way of a text, by the ways of its last characters. Its first letter has `letter` characters.
 fn best_way(choices: &Choices, ways: &[Option<Way>], text: &[char], letter: usize) -> Option<Way>
     requires count { length ways.now + 1 ≡ length text.now }
     requires letter { letter ≡ letter_of text.now }
@@ -71,7 +71,7 @@ fn best_way(choices: &Choices, ways: &[Option<Way>], text: &[char], letter: usiz
     best
 }
 
-/// Whether no piece of so many characters or more comes before this one.
+/// Whether no piece of `taken` characters or more comes before this one.
 fn is_settled(best: Option<Way>, taken: usize, letter: usize) -> bool
     ensures { IsTrue result ↔ IsSettled best taken letter }
 {
@@ -81,8 +81,8 @@ fn is_settled(best: Option<Way>, taken: usize, letter: usize) -> bool
     }
 }
 
-/// The way that takes so many characters, if the text falls into pieces so. The node is that of the characters
-/// before the last of these.
+/// The way whose piece has `taken` characters, if the text falls into pieces so. The node is that of the
+/// characters before the last one of the piece.
 fn way_by(
     choices: &Choices,
     node: Option<usize>,
@@ -105,8 +105,8 @@ fn way_by(
     Some(Way { taken, choice })
 }
 
-/// What stands for the first characters of a text, so many. The node is that of the characters before the last
-/// of these.
+/// What stands for the first `taken` characters of a text. The node is that of the characters before the last
+/// one.
 fn choice_of(choices: &Choices, node: Option<usize>, text: &[char], taken: usize) -> Option<Choice>
     requires node { node ≡ node_of choices.now.index.tree (take (taken - 1) text.now) }
     requires some { 1 ≤ taken }
@@ -121,7 +121,7 @@ fn choice_of(choices: &Choices, node: Option<usize>, text: &[char], taken: usize
     }
 }
 
-/// Whether the last characters, so many, fall into pieces.
+/// Whether the last `left` characters fall into pieces.
 fn has_way(ways: &[Option<Way>], left: usize) -> bool
     requires { left ≤ length ways.now }
     ensures { (choices : Codes) (text : List ℕ) → AreWays choices text ways.now

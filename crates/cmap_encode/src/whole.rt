@@ -5,16 +5,16 @@ ghost use Rattle.cmap_codespaces.specs.CodesWithin.{IsWithin, byte_at};
 ghost use Rattle.cmap_values.specs.CodeLengths.{length_of};
 ghost use Rattle.cmap_values.specs.DeclarationsSeen.{codespace_seen};
 ghost use Rattle.cmap_encode.specs.Outside.{IsInside};
-ghost use Rattle.cmap_encode.specs.WholeSeen.{AreWhole, HasFrontInside, IsFull, IsWholeNumber};
+ghost use Rattle.cmap_encode.specs.WholeSeen.{AreWhole, HasPrefixInside, IsFull, IsWholeNumber};
 
 use crate::code::Code;
-use crate::outside::{begins_so, byte_of, last_with_front, may_begin, outside_until};
+use crate::outside::{begins_so, byte_of, last_with_prefix, may_begin, outside_until};
 use cmap_layers::layers::Layers;
 use cmap_values::code_length::CodeLength;
 use cmap_values::declarations::Codespace;
 
 /// Codes in a row, all of them whole, or none: a whole code lies in a codespace range, and none of its
-/// fronts does.
+/// prefixes does.
 #[derive(Clone, Copy)]
 pub(crate) struct WholeStretch {
     /// Whether they are whole.
@@ -30,7 +30,7 @@ pub(crate) fn whole_stretch(encoding: &Layers, code: Code) -> WholeStretch
     ensures fits { IsTrue result.are_whole → result.last < 256 ^ length_of code.len }
     ensures whole { AreWhole encoding.now (length_of code.len) code.number result }
 {
-    let Some(len) = code.shortest_front(encoding) else {
+    let Some(len) = code.shortest_prefix(encoding) else {
         return WholeStretch {
             are_whole: false,
             last: outside_until(encoding, code),
@@ -48,19 +48,19 @@ pub(crate) fn whole_stretch(encoding: &Layers, code: Code) -> WholeStretch
     }
 }
 
-/// The last code up to which the fronts of this length lie in a codespace range, or are that of this code.
+/// The last code up to which the prefixes of this length lie in a codespace range, or are that of this code.
 fn shadowed_until(encoding: &Layers, code: Code, len: CodeLength) -> u32
     requires fits { code.number < 256 ^ length_of code.len }
     requires shorter { length_of len < length_of code.len }
     ensures within { code.number ≤ result }
-    ensures fronts { (number : ℕ) → code.number ≤ number → number ≤ result
-        → HasFrontInside encoding.now (length_of len) (length_of code.len - length_of len)
+    ensures prefixes { (number : ℕ) → code.number ≤ number → number ≤ result
+        → HasPrefixInside encoding.now (length_of len) (length_of code.len - length_of len)
         code.number number }
 {
     let after = code.len.count() - len.count();
     let number = without_last(code.number, after);
     let last = inside_until(encoding, Code { number, len }, 1);
-    last_with_front(code.number.max(with_zeros(last, after)), after)
+    last_with_prefix(code.number.max(with_zeros(last, after)), after)
 }
 
 /// The number without its last bytes.
@@ -101,13 +101,13 @@ fn whole_until(encoding: &Layers, code: Code) -> u32
 {
     let mut last = code.number;
     for after in 1..code.len.count() + 1 {
-        last = last.max(whole_with_front(encoding, code, after));
+        last = last.max(whole_with_prefix(encoding, code, after));
     }
     last
 }
 
 /// The same of the codes with the same bytes before the last `after` ones.
-fn whole_with_front(encoding: &Layers, code: Code, after: u8) -> u32
+fn whole_with_prefix(encoding: &Layers, code: Code, after: u8) -> u32
     requires after { (1 ≤ after) × (after ≤ length_of code.len) }
     requires fits { code.number < 256 ^ length_of code.len }
     requires whole { IsWholeNumber encoding.now (length_of code.len) code.number }
@@ -116,15 +116,15 @@ fn whole_with_front(encoding: &Layers, code: Code, after: u8) -> u32
     ensures whole { (number : ℕ) → code.number ≤ number → number ≤ result
         → IsWholeNumber encoding.now (length_of code.len) number }
 {
-    if front_may_be_inside(encoding, code, after) {
+    if prefix_may_be_inside(encoding, code, after) {
         return code.number;
     }
     inside_until(encoding, code, after)
 }
 
-/// Whether a codespace range may have fronts of codes with the same bytes before the last `after` ones, of
-/// which the fronts have some.
-fn front_may_be_inside(encoding: &Layers, code: Code, after: u8) -> bool
+/// Whether a codespace range may have prefixes of codes with the same bytes before the last `after` ones, of
+/// which the prefixes have some.
+fn prefix_may_be_inside(encoding: &Layers, code: Code, after: u8) -> bool
     requires { (1 ≤ after) × (after ≤ length_of code.len) }
     ensures { result ≡ false → (number left : ℕ) → number / 256 ^ after ≡ code.number / 256 ^ after
         → 1 ≤ left → left < after
@@ -138,7 +138,7 @@ fn front_may_be_inside(encoding: &Layers, code: Code, after: u8) -> bool
     false
 }
 
-/// The same by the fronts without the last `left` bytes.
+/// The same by the prefixes without the last `left` bytes.
 fn may_begin_without(encoding: &Layers, code: Code, left: u8, after: u8) -> bool
     requires { (1 ≤ left) × (left < after) × (after ≤ length_of code.len) }
     ensures { result ≡ false → (number : ℕ) → number / 256 ^ after ≡ code.number / 256 ^ after

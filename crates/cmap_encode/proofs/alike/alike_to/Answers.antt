@@ -1,4 +1,4 @@
-use Rattle.std.proofs.Common.{◌≡◌, ℕ, List, map, refl, ap, ◌∙◌}
+use Rattle.std.proofs.Common.{◌≡◌, map, refl, ap, ◌∙◌}
 use Rattle.cmap_encode.specs.Alike.{alike_lines, line_of}
 use Rattle.cmap_encode.specs.declared.alike.TheConstants.{ALIKE}
 use Rattle.cmap_encode.proofs.alike.alike_to.Goals as goal

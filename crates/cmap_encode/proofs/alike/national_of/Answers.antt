@@ -1,4 +1,4 @@
-use Rattle.std.proofs.Common.{◌≡◌, ℕ, List, map, refl, ap, ◌∙◌}
+use Rattle.std.proofs.Common.{◌≡◌, map, refl, ap, ◌∙◌}
 use Rattle.cmap_encode.specs.Alike.{national_lines, line_of}
 use Rattle.cmap_encode.specs.declared.alike.TheConstants.{NATIONAL}
 use Rattle.cmap_encode.proofs.alike.national_of.Goals as goal

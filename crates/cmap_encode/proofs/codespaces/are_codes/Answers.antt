@@ -1,4 +1,4 @@
-use Rattle.std.proofs.Common.{◌≡◌, ◌-◌, ◌<◌, [], length, take, drop, refl, sym, subst, arith, length-drop, take_all}
+use Rattle.std.proofs.Common.{◌≡◌, ◌-◌, [], length, take, drop, refl, sym, subst, arith, length-drop, take_all}
 use Rattle.std.proofs.lemmas.Bool.{false≢true}
 use Rattle.cmap_layers.specs.StringCodes.{IsShortestInside}
 use Rattle.cmap_encode.specs.StringsOfCodes.{AreCodes, nothing}

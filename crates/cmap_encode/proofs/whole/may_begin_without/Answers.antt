@@ -15,6 +15,6 @@ returns c = λ is number same inside.
     let some = c.requires in
     let is_len : length_of code.len - left ≡ len = omega (arith, c.in-Some.ensures.1, c.count.ensures) in
     let most = (fits_length code.len).1 in
-    let front : number / 256 ^ left / 256 ^ (after - left) ≡ c.without_last-number.result / 256 ^ (after - left) =
+    let prefix : number / 256 ^ left / 256 ^ (after - left) ≡ c.without_last-number.result / 256 ^ (after - left) =
     without_more number left after (omega arith) ∙ same ∙ sym (without_more code.number left after (omega arith)) ∙ ap (λ n. n / 256 ^ (after - left)) (sym c.without_last-number.ensures) in
-    false≢true (sym is ∙ c.may_begin.ensures.1 (inside_begins layers len (number / 256 ^ left) c.without_last-number.result (after - left) front (omega arith) (omega arith) (omega arith) (subst (λ n. IsInside layers n (number / 256 ^ left)) is_len inside)))
+    false≢true (sym is ∙ c.may_begin.ensures.1 (inside_begins layers len (number / 256 ^ left) c.without_last-number.result (after - left) prefix (omega arith) (omega arith) (omega arith) (subst (λ n. IsInside layers n (number / 256 ^ left)) is_len inside)))

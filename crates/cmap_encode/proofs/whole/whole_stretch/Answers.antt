@@ -17,7 +17,7 @@ pub returns-then-count-clause-whole : goal.returns-then-count-clause-whole
 returns-then-count-clause-whole c =
     let code = c.args.code in let few = length_of c.in-Some.len in
     all_shadowed c.args.encoding.now (code_bytes code) (length_of code.len) code.number c.shadowed_until.result (fits_length code.len) (are_bytes_of code.len code.number c.requires) few (length_of code.len - few)
-    c.in-Some.ensures (omega (arith, c.count.ensures, c.count-2.ensures)) refl c.shadowed_until.ensures.fronts
+    c.in-Some.ensures (omega (arith, c.count.ensures, c.count-2.ensures)) refl c.shadowed_until.ensures.prefixes
 
 pub whole_until-requires-clause-whole : goal.whole_until-requires-clause-whole
 whole_until-requires-clause-whole c =

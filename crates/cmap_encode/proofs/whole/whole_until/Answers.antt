@@ -14,10 +14,10 @@ loop-after-init c = record {
 pub loop-after-preserved : goal.loop-after-preserved
 loop-after-preserved c = record {
   within = (let le = c.loop-after.invariant.within in omega (arith, c.max-last.ensures));
-  fits = (let fits = c.loop-after.invariant.fits in let also = c.whole_with_front.ensures.fits in omega (arith, c.max-last.ensures));
+  fits = (let fits = c.loop-after.invariant.fits in let also = c.whole_with_prefix.ensures.fits in omega (arith, c.max-last.ensures));
   whole = λ number from to.
       elim (cases_lt c.loop-after.last number) [
-        | inl past ↦ c.whole_with_front.ensures.whole number from (omega (arith, c.max-last.ensures))
+        | inl past ↦ c.whole_with_prefix.ensures.whole number from (omega (arith, c.max-last.ensures))
         | inr within ↦ c.loop-after.invariant.whole number from within
       ];
 }

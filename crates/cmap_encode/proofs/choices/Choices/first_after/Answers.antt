@@ -1,4 +1,4 @@
-use Rattle.std.proofs.Common.{◌≡◌, ◌+◌, ◌-◌, ◌<◌, Some, length, take, refl, sym, ap, ◌∙◌, arith, take_all}
+use Rattle.std.proofs.Common.{◌≡◌, ◌+◌, ◌-◌, ◌<◌, Some, take, sym, ap, ◌∙◌, arith, take_all}
 use Rattle.std.specs.Prelude.{option_map}
 use Rattle.cmap_encode.specs.Alike.{first_given}
 use Rattle.cmap_encode.specs.ChoicesSeen.{own_choice, owned_at}

@@ -2,7 +2,7 @@ use Rattle.std.proofs.Common.{◌≡◌, ◌-◌, ◌/◌, ◌^◌, subst, inl, 
 use Rattle.std.proofs.lemmas.Bool.{cases_lt}
 use Rattle.cmap_values.specs.CodeLengths.{length_of}
 use Rattle.cmap_encode.specs.Outside.{IsInside}
-use Rattle.cmap_encode.proofs.whole.front_may_be_inside.Goals as goal
+use Rattle.cmap_encode.proofs.whole.prefix_may_be_inside.Goals as goal
 
 pub loop-left-preserved : goal.loop-left-preserved
 loop-left-preserved c = λ number left same some few.

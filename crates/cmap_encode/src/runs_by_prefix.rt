@@ -6,7 +6,7 @@ ghost use Rattle.cmap_tokens.specs.TextSeen.{text_seen};
 ghost use Rattle.cmap_unicode.specs.Characters.{characters_of};
 ghost use Rattle.cmap_values.specs.CodeLengths.{length_of};
 ghost use Rattle.cmap_encode.specs.FirstsSeen.{IsCodeRun};
-ghost use Rattle.cmap_encode.specs.RunsSeen.{AddsCharacters, AddsTexts, AreRunsByFront, HasNoRuns, Numbers, number_of, runs_of};
+ghost use Rattle.cmap_encode.specs.RunsSeen.{AddsCharacters, AddsTexts, AreRunsByPrefix, HasNoRuns, Numbers, number_of, runs_of};
 
 use crate::firsts::CodeRun;
 use crate::rank::Ranked;
@@ -14,25 +14,25 @@ use crate::tree::{EMPTY, Tree};
 use cmap_tokens::utf16::BfString;
 use std::alloc::{AllocError, Global};
 
-/// Runs of codes by fronts: the characters of a text before the last one. The keys of the runs of a front
+/// Runs of codes by prefixes: the characters of a text before the last one. The keys of the runs of a prefix
 /// are the last characters.
 #[derive(Drop)]
-pub(crate) struct RunsByFront {
-    /// Fronts, and what they begin with, as nodes.
+pub(crate) struct RunsByPrefix {
+    /// Prefixes, and what they begin with, as nodes.
     pub(crate) tree: Tree,
     /// The runs of each node.
     pub(crate) lists: Vec<Vec<CodeRun>>,
 }
 
-impl RunsByFront {
+impl RunsByPrefix {
     /// No runs.
-    pub(crate) fn new(alloc: Global) -> Result<RunsByFront, AllocError>
-        ensures are { IfOk result AreRunsByFront }
+    pub(crate) fn new(alloc: Global) -> Result<RunsByPrefix, AllocError>
+        ensures are { IfOk result AreRunsByPrefix }
         ensures none { IfOk result HasNoRuns }
     {
         let mut lists = Vec::new(alloc);
         lists.push(Vec::new(alloc))?;
-        Ok(RunsByFront {
+        Ok(RunsByPrefix {
             tree: Tree::new(alloc),
             lists,
         })
@@ -48,19 +48,19 @@ impl RunsByFront {
         first: Ranked,
         more: u32,
     ) -> Result<u32, AllocError>
-        requires are { AreRunsByFront self.old }
+        requires are { AreRunsByPrefix self.old }
         requires some { 0 < length (characters_of (text_seen text.now)) }
         requires fits { first.code.number + more < 256 ^ length_of first.code.len }
         ensures within { IfOk result (λ further. further ≤ more) }
-        ensures are { OnOk result (AreRunsByFront self.new) }
+        ensures are { OnOk result (AreRunsByPrefix self.new) }
         ensures texts { IfOk result (AddsTexts self.old self.new (text_seen text.now) first) }
     {
-        let mut front = characters(alloc, text)?;
-        let Some(last) = front.pop() else {
+        let mut prefix = characters(alloc, text)?;
+        let Some(last) = prefix.pop() else {
             return Ok(0);
         };
         let run = CodeRun::from_key(u32::from(last), first, more);
-        self.add(alloc, &front, run)?;
+        self.add(alloc, &prefix, run)?;
         Ok(run.range.end - run.range.start)
     }
 
@@ -73,11 +73,11 @@ impl RunsByFront {
         first: Option<Ranked>,
         more: u32,
     ) -> Result<(), AllocError>
-        requires are { AreRunsByFront self.old }
+        requires are { AreRunsByPrefix self.old }
         requires keys { character + more < 2 ^ 32 }
         requires fits { IfSome first
             (λ ranked. ranked.code.number + more < 256 ^ length_of ranked.code.len) }
-        ensures are { OnOk result (AreRunsByFront self.new) }
+        ensures are { OnOk result (AreRunsByPrefix self.new) }
         ensures texts { OnOk result (AddsCharacters self.old self.new character first more) }
     {
         let Some(first) = first else {
@@ -88,45 +88,45 @@ impl RunsByFront {
         Ok(())
     }
 
-    /// Adds a run to those of a front.
-    fn add(&mut self, alloc: Global, front: &[char], run: CodeRun) -> Result<(), AllocError>
-        requires are { AreRunsByFront self.old }
+    /// Adds a run to those of a prefix.
+    fn add(&mut self, alloc: Global, prefix: &[char], run: CodeRun) -> Result<(), AllocError>
+        requires are { AreRunsByPrefix self.old }
         requires run { IsCodeRun run }
-        ensures are { OnOk result (AreRunsByFront self.new) }
+        ensures are { OnOk result (AreRunsByPrefix self.new) }
         ensures runs { OnOk result ((other : List ℕ) → runs_of self.new other
-            ≡ (if bytes_eq other front.now then runs_of self.old other ++ run ∷ []
+            ≡ (if bytes_eq other prefix.now then runs_of self.old other ++ run ∷ []
             else runs_of self.old other)) }
     {
-        let number = self.number(alloc, front)?;
+        let number = self.number(alloc, prefix)?;
         self.lists[number].push(run)?;
         Ok(())
     }
 
-    /// The node of a front, which it has from then on.
-    fn number(&mut self, alloc: Global, front: &[char]) -> Result<usize, AllocError>
-        requires { AreRunsByFront self.old }
-        ensures are { OnOk result (AreRunsByFront self.new) }
-        ensures number { IfOk result (λ number. number_of self.new front.now ≡ Some number) }
+    /// The node of a prefix, which it has from then on.
+    fn number(&mut self, alloc: Global, prefix: &[char]) -> Result<usize, AllocError>
+        requires { AreRunsByPrefix self.old }
+        ensures are { OnOk result (AreRunsByPrefix self.new) }
+        ensures number { IfOk result (λ number. number_of self.new prefix.now ≡ Some number) }
         ensures runs { OnOk result
             ((other : List ℕ) → runs_of self.new other ≡ runs_of self.old other) }
     {
         let mut node = EMPTY;
-        for character in front {
+        for character in prefix {
             node = self.number_after(alloc, node, *character)?;
         }
         Ok(node)
     }
 
-    /// The node of the front of this node and a character.
+    /// The node of the prefix of this node and a character.
     fn number_after(
         &mut self,
         alloc: Global,
         node: usize,
         character: char,
     ) -> Result<usize, AllocError>
-        requires { AreRunsByFront self.old }
-        ensures { IfOk result (λ next. (front : List ℕ) → number_of self.old front ≡ Some node
-            → Numbers self.old (front ++ character ∷ []) next self.new) }
+        requires { AreRunsByPrefix self.old }
+        ensures { IfOk result (λ next. (prefix : List ℕ) → number_of self.old prefix ≡ Some node
+            → Numbers self.old (prefix ++ character ∷ []) next self.new) }
     {
         if let Some(next) = self.tree.step(node, character) {
             return Ok(next);

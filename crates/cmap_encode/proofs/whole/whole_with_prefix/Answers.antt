@@ -3,7 +3,7 @@ use Rattle.std.proofs.lemmas.Bool.{cases_lt}
 use Rattle.cmap_values.specs.CodeLengths.{length_of}
 use Rattle.cmap_encode.specs.WholeSeen.{IsWholeNumber}
 use Rattle.cmap_encode.proofs.WholeCodes.{still_fits, whole_as}
-use Rattle.cmap_encode.proofs.whole.whole_with_front.Goals as goal
+use Rattle.cmap_encode.proofs.whole.whole_with_prefix.Goals as goal
 
 pub returns-clause-fits : goal.returns-clause-fits
 returns-clause-fits c =
@@ -16,10 +16,10 @@ returns-clause-whole c = λ number from to.
     let until = c.inside_until.ensures in
     elim (cases_lt code.number number) [
       | inl later ↦ whole_as layers len c.args.after code.number number c.requires.after.1 (until.same number from to) c.requires.whole (until.inside number later to)
-          (λ left some few. c.front_may_be_inside.ensures c.if-front_may_be_inside.false number left (until.same number from to) some few)
+          (λ left some few. c.prefix_may_be_inside.ensures c.if-prefix_may_be_inside.false number left (until.same number from to) some few)
       | inr here ↦ let same : code.number ≡ number = omega arith in subst (IsWholeNumber layers len) same c.requires.whole
     ]
 
-pub returns-then-front_may_be_inside-clause-whole : goal.returns-then-front_may_be_inside-clause-whole
-returns-then-front_may_be_inside-clause-whole c = λ number from to.
+pub returns-then-prefix_may_be_inside-clause-whole : goal.returns-then-prefix_may_be_inside-clause-whole
+returns-then-prefix_may_be_inside-clause-whole c = λ number from to.
     let same : c.args.code.number ≡ number = omega arith in subst (IsWholeNumber c.args.encoding.now (length_of c.args.code.len)) same c.requires.whole

@@ -2,7 +2,7 @@ use Rattle.std.proofs.Common.{◌≡◌, ◌-◌, [], refl, sym, subst, arith}
 use Rattle.cmap_tokens.specs.Texts.{one}
 use Rattle.cmap_encode.specs.RunsSeen.{AddsCharacters, AddsTexts}
 use Rattle.cmap_encode.proofs.RunsAdded.{texts_added}
-use Rattle.cmap_encode.proofs.runs_by_front.RunsByFront.add_characters.Goals as goal
+use Rattle.cmap_encode.proofs.runs_by_prefix.RunsByPrefix.add_characters.Goals as goal
 
 pub returns-clause-texts : goal.returns-clause-texts
 returns-clause-texts c =
