@@ -1,11 +1,10 @@
 //! Encoders of fonts, for C.
 
-ghost use Rattle.std.specs.Prelude.{◌≡◌, None, IfOk, MatchOption, false};
+ghost use Rattle.std.specs.Prelude.{◌≡◌, None, Ok, IfOk, MatchOption, false};
 ghost use Rattle.std.specs.Option.{option_copied};
 ghost use Rattle.cmap_handles.specs.Statuses.{number};
 ghost use Rattle.cmap_handles.specs.declared.status.Status.TheVariants.{Absent};
 ghost use Rattle.cmap_unicode.specs.Characters.{font_of};
-ghost use Rattle.cmap_encode.specs.EncoderSeen.{IsEncoderFor};
 ghost use Rattle.cmap_c_encoder.specs.Encoded.{IsBuilt};
 
 use crate::handle::EncoderHandle;
@@ -41,7 +40,7 @@ pub extern "C" fn hayro_cmap_encoder_build(
         return Status::Absent.number();
     };
     let font = font(layers, to_unicode.layers(), collection.layers());
-    encoder.keep(built(alloc, &font, None, false))
+    encoder.keep(shared(alloc, Encoder::build(alloc, &font)))
 }
 
 /// The same with the map of the font's character collection from Unicode, which may be absent, too; an `exact`
@@ -71,7 +70,8 @@ pub extern "C" fn hayro_cmap_encoder_build_with(
         return Status::Absent.number();
     };
     let font = font(layers, to_unicode.layers(), collection.layers());
-    encoder.keep(built(alloc, &font, unicode.layers(), exact))
+    let built = Encoder::build_with(alloc, &font, unicode.layers(), exact);
+    encoder.keep(shared(alloc, built))
 }
 
 /// The font with these maps.
@@ -93,16 +93,12 @@ fn font<'m>(
     }
 }
 
-/// The encoder of a font with a map from Unicode, which several handles may have.
-fn built(
+/// An encoder that was built, which several handles may have.
+fn shared(
     alloc: Global,
-    font: &Extractor<'_>,
-    unicode: Option<&Layers>,
-    exact: bool,
+    built: Result<Encoder, AllocError>,
 ) -> Result<Box<Shared<Encoder>>, AllocError>
-    ensures { IfOk result
-        (λ built. IsEncoderFor (font_of font.now) (option_copied unicode.entry) exact built.value) }
+    ensures { IfOk result (λ shared. built ≡ Ok shared.value) }
 {
-    let encoder = Encoder::build_with(alloc, font, unicode, exact)?;
-    Shared::new(alloc, encoder)
+    Shared::new(alloc, built?)
 }

@@ -1,8 +1,9 @@
-use Rattle.std.proofs.Common.{subst}
+use Rattle.std.proofs.Common.{List, Option, None, false, refl}
 use Rattle.cmap_handles.proofs.HandlesRead.{no_map, of_map}
+use Rattle.cmap_layers.specs.Layers.{Layer}
 use Rattle.cmap_unicode.specs.TextsOfCodes.{Font}
 use Rattle.cmap_c_encoder.specs.Encoded.{IsBuilt}
-use Rattle.cmap_c_encoder.proofs.StringsPut.{built, of_font}
+use Rattle.cmap_c_encoder.proofs.StringsPut.{built, of_maps}
 use Rattle.cmap_c_encoder.proofs.build.hayro_cmap_encoder_build.Goals as goal
 
 pub returns-in_default-clause-encoder : goal.returns-in_default-clause-encoder
@@ -10,6 +11,6 @@ returns-in_default-clause-encoder c = no_map _ _ _ c.in_default.ensures.map (c.n
 
 pub returns-clause-encoder : goal.returns-clause-encoder
 returns-clause-encoder c =
-    let P : Font → Type 0 = λ font. IsBuilt font c.keep.new.self.slot.encoder c.keep.result in
+    let P : Font → Option (List Layer) → Type 0 = λ font unicode. IsBuilt font unicode false c.keep.new.self.slot.encoder c.keep.result in
     of_map _ c.in-Some.layers.now _ _ c.in-Some.ensures.map
-    (of_font P _ _ _ _ _ c.layers-2.ensures.map c.layers-3.ensures.map (subst P c.font-font.ensures (built _ c.built.result _ _ _ c.built.ensures c.keep.ensures)))
+    (of_maps P _ _ _ _ _ _ None None c.font-font.ensures c.layers-2.ensures.map c.layers-3.ensures.map refl (built _ c.build.result c.shared.result _ _ _ _ _ c.build.ensures c.shared.ensures c.keep.ensures))
