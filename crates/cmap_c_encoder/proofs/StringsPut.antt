@@ -32,11 +32,11 @@ of_maps P font encoding texts to_unicode texts_of_cids collection glyphs unicode
     (subst (λ given. P (record { encoding = encoding; to_unicode = given; collection = texts_of_cids }) glyphs) same (subst (λ given. P given glyphs) is holds)))
 
 -- an encoder that was built is kept
-pub built : {B : Type 0} (value : B → Encoder) (made : Result Encoder AllocError) (shared : Result B AllocError) (font : Font) (unicode : Option (List Layer)) (exact : Bool) (status : ℕ) (now : Option Encoder)
-    → IfOk made (IsEncoderFor font unicode exact) → IfOk shared (λ b. made ≡ Ok (value b))
-    → MatchResult shared (λ b. (status ≡ number Done) × (now ≡ Some (value b))) (λ _. (status ≡ number NoMemory) × (now ≡ None)) → IsBuilt font unicode exact now status
-built value made (Ok b) font unicode exact status now are is kept = inl (value b, subst (λ given. IfOk given (IsEncoderFor font unicode exact)) is are, kept.1, kept.0)
-built value made (Err e) font unicode exact status now are is kept = inr (kept.1, kept.0)
+pub built : {B : Type 0} (value : B → Encoder) (made : Result B AllocError) (font : Font) (unicode : Option (List Layer)) (exact : Bool) (status : ℕ) (now : Option Encoder)
+    → IfOk made (λ b. IsEncoderFor font unicode exact (value b))
+    → MatchResult made (λ b. (status ≡ number Done) × (now ≡ Some (value b))) (λ _. (status ≡ number NoMemory) × (now ≡ None)) → IsBuilt font unicode exact now status
+built value (Ok b) font unicode exact status now is kept = inl (value b, is, kept.1, kept.0)
+built value (Err e) font unicode exact status now is kept = inr (kept.1, kept.0)
 
 -- of a text that is UTF-8, the string that it has, or where it is refused
 pub string_known : (maps : Maps) (text given : List ℕ) (made : Result (Vec ℕ) (Fault Unencodable)) → given ≡ text → IsUtf8 text

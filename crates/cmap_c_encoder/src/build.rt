@@ -1,10 +1,11 @@
 //! Encoders of fonts, for C.
 
-ghost use Rattle.std.specs.Prelude.{◌≡◌, None, Ok, IfOk, MatchOption, false};
+ghost use Rattle.std.specs.Prelude.{◌≡◌, None, IfOk, MatchOption, false};
 ghost use Rattle.std.specs.Option.{option_copied};
 ghost use Rattle.cmap_handles.specs.Statuses.{number};
 ghost use Rattle.cmap_handles.specs.declared.status.Status.TheVariants.{Absent};
 ghost use Rattle.cmap_unicode.specs.Characters.{font_of};
+ghost use Rattle.cmap_encode.specs.EncoderSeen.{IsEncoderFor};
 ghost use Rattle.cmap_c_encoder.specs.Encoded.{IsBuilt};
 
 use crate::handle::EncoderHandle;
@@ -35,12 +36,10 @@ pub extern "C" fn hayro_cmap_encoder_build(
         (record { encoding = layers; to_unicode = to_unicode.old.slot.map; collection = collection.old.slot.map })
         None false encoder.new.slot.encoder result) }
 {
-    encoder.clear(alloc);
-    let Some(layers) = encoding.layers() else {
-        return Status::Absent.number();
-    };
-    let font = font(layers, to_unicode.layers(), collection.layers());
-    encoder.keep(shared(alloc, Encoder::build(alloc, &font)))
+    let mut none = MapHandle::empty(alloc);
+    hayro_cmap_encoder_build_with(
+        encoder, alloc, encoding, to_unicode, collection, &mut none, false,
+    )
 }
 
 /// The same with the map of the font's character collection from Unicode, which may be absent, too; an `exact`
@@ -70,8 +69,7 @@ pub extern "C" fn hayro_cmap_encoder_build_with(
         return Status::Absent.number();
     };
     let font = font(layers, to_unicode.layers(), collection.layers());
-    let built = Encoder::build_with(alloc, &font, unicode.layers(), exact);
-    encoder.keep(shared(alloc, built))
+    encoder.keep(built(alloc, &font, unicode.layers(), exact))
 }
 
 /// The font with these maps.
@@ -93,12 +91,16 @@ fn font<'m>(
     }
 }
 
-/// An encoder that was built, which several handles may have.
-fn shared(
+/// The encoder of a font with a map from Unicode, which several handles may have.
+fn built(
     alloc: Global,
-    built: Result<Encoder, AllocError>,
+    font: &Extractor<'_>,
+    unicode: Option<&Layers>,
+    exact: bool,
 ) -> Result<Box<Shared<Encoder>>, AllocError>
-    ensures { IfOk result (λ shared. built ≡ Ok shared.value) }
+    ensures { IfOk result
+        (λ built. IsEncoderFor (font_of font.now) (option_copied unicode.entry) exact built.value) }
 {
-    Shared::new(alloc, built?)
+    let encoder = Encoder::build_with(alloc, font, unicode, exact)?;
+    Shared::new(alloc, encoder)
 }

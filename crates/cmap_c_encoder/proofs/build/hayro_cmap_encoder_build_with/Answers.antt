@@ -13,4 +13,4 @@ pub returns-clause-encoder : goal.returns-clause-encoder
 returns-clause-encoder c =
     let P : Font → Option (List Layer) → Type 0 = λ font unicode. IsBuilt font unicode c.args.exact c.keep.new.self.slot.encoder c.keep.result in
     of_map _ c.in-Some.layers.now _ _ c.in-Some.ensures.map
-    (of_maps P _ _ _ _ _ _ _ _ c.font-font.ensures c.layers-2.ensures.map c.layers-3.ensures.map c.layers-4.ensures.map (built _ c.build_with-built.result c.shared.result _ _ _ _ _ c.build_with-built.ensures c.shared.ensures c.keep.ensures))
+    (of_maps P _ _ _ _ _ _ _ _ c.font-font.ensures c.layers-2.ensures.map c.layers-3.ensures.map c.layers-4.ensures.map (built _ c.built.result _ _ _ _ _ c.built.ensures c.keep.ensures))
