@@ -140,6 +140,25 @@ typedef struct hayro_cmap_code_range {
     uint32_t last;
 } hayro_cmap_code_range;
 
+/* How well a code stands for a piece of a text, best first. */
+typedef enum hayro_cmap_grade {
+    HAYRO_CMAP_STATED = 0,     /* the ToUnicode CMap has the piece as the text of the code */
+    HAYRO_CMAP_CANONICAL = 1,  /* the code has the CID that the map from Unicode gives to the character */
+    HAYRO_CMAP_COLLECTION = 2, /* the map of the collection has the piece as the text of the code's CID */
+    HAYRO_CMAP_ALIKE = 3,      /* the code shows a text that looks or means the same; or nothing stands for
+                                  a variation selector */
+    HAYRO_CMAP_NATIONAL = 4    /* the code is the byte of a character of ASCII that a national version of
+                                  ISO 646 shows otherwise */
+} hayro_cmap_grade;
+
+/* A piece of a text, and what stands for it in the string. */
+typedef struct hayro_cmap_piece {
+    size_t text_len;   /* how many bytes it has in UTF-8 */
+    uint32_t code_len; /* how many bytes its code has, 1 to 4; 0 where nothing stands for a variation
+                          selector */
+    uint32_t grade;    /* a hayro_cmap_grade */
+} hayro_cmap_piece;
+
 /* The codes from `first` to `last`, of `byte_len` bytes. */
 typedef struct hayro_cmap_codes {
     uint32_t first;
@@ -649,6 +668,23 @@ hayro_cmap_status hayro_cmap_write(hayro_cmap *map, const hayro_cmap_codes *code
 hayro_cmap_status hayro_cmap_encoder_build(hayro_cmap_encoder *encoder, hayro_cmap *encoding,
                                            hayro_cmap *to_unicode, hayro_cmap *collection);
 
+/* The same with a map from Unicode to CIDs, as UniJIS-UTF16-H, which chooses the glyphs of characters; its handle
+ * is empty where there is no such map, and hayro_cmap_unicode_name names it. No two of the four maps are one handle.
+ *
+ * An `exact` encoder chooses only codes whose text, as hayro_cmap_extract gives it, is the piece for which they
+ * stand: no grade is then HAYRO_CMAP_ALIKE or HAYRO_CMAP_NATIONAL. */
+hayro_cmap_status hayro_cmap_encoder_build_with(hayro_cmap_encoder *encoder, hayro_cmap *encoding,
+                                                hayro_cmap *to_unicode, hayro_cmap *collection,
+                                                hayro_cmap *unicode, bool exact);
+
+/* The name of the map from Unicode, in UTF-16, to the CIDs of a character collection, whose registry and ordering
+ * are joined as in Adobe-Japan1, which has UniJIS-UTF16-H, and UniJIS-UTF16-V where `mode` is HAYRO_CMAP_VERTICAL.
+ * Where the name of the font's CMap begins with Uni, that CMap is such a map itself, and the one to take.
+ *
+ * It is written as a text is. HAYRO_CMAP_ABSENT but for Japan1, GB1, CNS1, Korea1, KR and Japan2 of Adobe. */
+hayro_cmap_status hayro_cmap_unicode_name(const uint8_t *collection, size_t collection_len, uint32_t mode,
+                                          uint8_t *room, size_t room_len, size_t *needed);
+
 /* Gives an `other` handle the same encoder, as hayro_cmap_share does with a map. */
 hayro_cmap_status hayro_cmap_encoder_share(hayro_cmap_encoder *encoder, hayro_cmap_encoder *other);
 
@@ -670,9 +706,16 @@ void hayro_cmap_encoder_free(hayro_cmap_encoder *encoder);
 hayro_cmap_status hayro_cmap_encode(hayro_cmap_encoder *encoder, const uint8_t *text, size_t text_len,
                                     uint8_t *room, size_t room_len, size_t *needed, size_t *offset);
 
+/* The pieces of a text, one after another, whose codes hayro_cmap_encode gives. The answer is that of
+ * hayro_cmap_encode, with pieces in the place of bytes. */
+hayro_cmap_status hayro_cmap_encode_pieces(hayro_cmap_encoder *encoder, const uint8_t *text,
+                                           size_t text_len, hayro_cmap_piece *pieces,
+                                           size_t pieces_len, size_t *needed, size_t *offset);
+
 /* The same as far as the text can be encoded: its longest prefix that can be, then the bytes of `missing` for the
  * character after it, as 3F for a question mark, then what is left of the text likewise. With HAYRO_CMAP_REFUSED
- * the text isn't UTF-8, and nothing is written. */
+ * the text isn't UTF-8, or `missing` isn't whole codes of the font, one after another, or no bytes, since other
+ * bytes may change how the string is read; nothing is written. */
 hayro_cmap_status hayro_cmap_encode_lossy(hayro_cmap_encoder *encoder, const uint8_t *text,
                                           size_t text_len, const uint8_t *missing, size_t missing_len,
                                           uint8_t *room, size_t room_len, size_t *needed);

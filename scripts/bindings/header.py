@@ -54,6 +54,7 @@ NAMED = {
     "Facts<'_>": "hayro_cmap_facts",
     "Declaration<'_>": "hayro_cmap_declaration",
     "ChosenCodes": "hayro_cmap_codes",
+    "EncodedPiece": "hayro_cmap_piece",
 }
 RESULTS = {
     "u32": {"hayro_cmap_status", "hayro_cmap_mode"},
@@ -76,6 +77,7 @@ STRUCTS = [
     ("hayro_cmap_facts", "cmap_c_writer/src/facts.rt", "Facts"),
     ("hayro_cmap_declaration", "cmap_c_writer/src/declaration.rt", "Declaration"),
     ("hayro_cmap_codes", "cmap_c_writer/src/chosen.rt", "ChosenCodes"),
+    ("hayro_cmap_piece", "cmap_c_encoder/src/pieces.rt", "EncodedPiece"),
 ]
 # the same of handles, with the file of the slot that they hold
 HANDLES = [
@@ -89,6 +91,7 @@ NUMBERED = r"(?P<number>\d+)(?:, [\w()]+\))? => Some\({}::(?P<name>\w+)"
 # the header calls otherwise, since another enum has the name
 STATUSES, MODES, FAULTS = "cmap_handles/src/status.rt", "cmap_c_maps/src/metadata.rt", "cmap_c/src/fault.rt"
 KINDS, LINT, LINTED = "cmap_c_writer/src/declaration.rt", "cmap_lint/src/warning.rt", "cmap_c/src/lint.rt"
+GRADES = "cmap_c_encoder/src/pieces.rt"
 ENUMS = [
     ("hayro_cmap_status", {}, r"Status::(?P<name>\w+) => (?P<number>\d+),", STATUSES, {"DONE": "OK"}),
     ("hayro_cmap_mode", {"NO_MODE": "2"}, r"WritingMode::(?P<name>\w+)\) => (?P<number>\d+),", MODES, {}),
@@ -97,6 +100,7 @@ ENUMS = [
     ("hayro_cmap_reason", {"NO_REASON": "0"}, NUMBERED.format("Reason"), FAULTS, {}),
     ("hayro_cmap_segment", {"NO_SEGMENT": "0"}, NUMBERED.format("Segment"), FAULTS, {"WRITING_MODE": "MODE"}),
     ("hayro_cmap_warning", {}, r"Warning::(?P<name>\w+) => (?P<number>\d+),", LINT, Prefixed("WARNING_")),
+    ("hayro_cmap_grade", {}, r"Grade::(?P<name>\w+) => (?P<number>\d+),", GRADES, {}),
     ("hayro_cmap_place", {}, r"Place::(?P<name>\w+).* => (?P<number>\d+),", LINTED, {"FILE": "IN_FILE", **PLACES}),
 ]
 EXPORT = re.compile(

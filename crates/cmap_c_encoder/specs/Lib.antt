@@ -1,3 +1,4 @@
 pub mod Encoded
+pub mod PiecesSeen
 pub mod HeldEncoder
 pub mod LentEncoder

@@ -34,14 +34,44 @@ pub extern "C" fn hayro_cmap_encoder_build(
         ((result ≡ number Absent) × (encoder.new.slot.encoder ≡ None))
         (λ layers. IsBuilt
         (record { encoding = layers; to_unicode = to_unicode.old.slot.map; collection = collection.old.slot.map })
-        encoder.new.slot.encoder result) }
+        None false encoder.new.slot.encoder result) }
 {
     encoder.clear(alloc);
     let Some(layers) = encoding.layers() else {
         return Status::Absent.number();
     };
     let font = font(layers, to_unicode.layers(), collection.layers());
-    encoder.keep(built(alloc, &font))
+    encoder.keep(built(alloc, &font, None, false))
+}
+
+/// The same with the map of the font's character collection from Unicode, which may be absent, too; an `exact`
+/// encoder chooses only codes that are read as what they stand for.
+#[unsafe(no_mangle)]
+pub extern "C" fn hayro_cmap_encoder_build_with(
+    encoder: &mut EncoderHandle,
+    alloc: Global,
+    encoding: &mut MapHandle,
+    to_unicode: &mut MapHandle,
+    collection: &mut MapHandle,
+    unicode: &mut MapHandle,
+    exact: bool,
+) -> u32
+    ensures encoding { encoding.new.slot.map ≡ encoding.old.slot.map }
+    ensures to_unicode { to_unicode.new.slot.map ≡ to_unicode.old.slot.map }
+    ensures collection { collection.new.slot.map ≡ collection.old.slot.map }
+    ensures unicode { unicode.new.slot.map ≡ unicode.old.slot.map }
+    ensures encoder { MatchOption encoding.old.slot.map
+        ((result ≡ number Absent) × (encoder.new.slot.encoder ≡ None))
+        (λ layers. IsBuilt
+        (record { encoding = layers; to_unicode = to_unicode.old.slot.map; collection = collection.old.slot.map })
+        unicode.old.slot.map exact encoder.new.slot.encoder result) }
+{
+    encoder.clear(alloc);
+    let Some(layers) = encoding.layers() else {
+        return Status::Absent.number();
+    };
+    let font = font(layers, to_unicode.layers(), collection.layers());
+    encoder.keep(built(alloc, &font, unicode.layers(), exact))
 }
 
 /// The font with these maps.
@@ -63,10 +93,16 @@ fn font<'m>(
     }
 }
 
-/// The encoder of a font, which several handles may have.
-fn built(alloc: Global, font: &Extractor<'_>) -> Result<Box<Shared<Encoder>>, AllocError>
-    ensures { IfOk result (λ built. IsEncoderFor (font_of font.now) None false built.value) }
+/// The encoder of a font with a map from Unicode, which several handles may have.
+fn built(
+    alloc: Global,
+    font: &Extractor<'_>,
+    unicode: Option<&Layers>,
+    exact: bool,
+) -> Result<Box<Shared<Encoder>>, AllocError>
+    ensures { IfOk result
+        (λ built. IsEncoderFor (font_of font.now) (option_copied unicode.entry) exact built.value) }
 {
-    let encoder = Encoder::build(alloc, font)?;
+    let encoder = Encoder::build_with(alloc, font, unicode, exact)?;
     Shared::new(alloc, encoder)
 }

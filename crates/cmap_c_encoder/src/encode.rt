@@ -7,7 +7,7 @@ ghost use Rattle.cmap_handles.specs.declared.status.Status.TheVariants.{Absent};
 ghost use Rattle.cmap_values.specs.Outcomes.{Outcome};
 ghost use Rattle.cmap_encode.specs.EncoderSeen.{IsEncoderOf};
 ghost use Rattle.cmap_encode.specs.Maps.{Maps};
-ghost use Rattle.cmap_c_encoder.specs.Encoded.{EndsAs, IsLossyStringOf, IsRefusedAt, IsStringOf, PutsLossyString, PutsString};
+ghost use Rattle.cmap_c_encoder.specs.Encoded.{EndsAs, EndsFailed, IsLossyStringOf, IsRefusedAt, IsStringOf, PutsLossyString, PutsString, TakesLossy};
 
 use crate::handle::EncoderHandle;
 use cmap_encode::{Encoder, Unencodable};
@@ -39,7 +39,8 @@ pub extern "C" fn hayro_cmap_encode(
     put_string(string_of(alloc, encoder, text), room, needed, offset)
 }
 
-/// The same with bytes in the place of each character that has no encoding.
+/// The same with bytes in the place of each character that has no encoding. They are whole codes of the font, or
+/// none.
 #[unsafe(no_mangle)]
 pub extern "C" fn hayro_cmap_encode_lossy(
     encoder: &mut EncoderHandle,
@@ -75,7 +76,8 @@ fn string_of(alloc: Global, encoder: &Encoder, text: &[u8]) -> Result<Vec<u8>, F
     encoder.encode(alloc, utf8(text)?)
 }
 
-/// The same with bytes in the place of each character that has no encoding.
+/// The same with whole codes in the place of each character that has no encoding; refused where the bytes for
+/// these are no such codes, too.
 fn lossy_string_of(
     alloc: Global,
     encoder: &Encoder,
@@ -84,13 +86,16 @@ fn lossy_string_of(
 ) -> Result<Vec<u8>, Fault<Unencodable>>
     ensures { (maps : Maps) → IsEncoderOf maps encoder.now → Outcome
         (λ string. IsLossyStringOf maps missing.now text.now string.items)
-        (λ _. IsUtf8 text.now → ⊥) result }
+        (λ _. TakesLossy maps missing.now text.now → ⊥) result }
 {
+    if !encoder.are_codes(missing) {
+        return Err(Fault::Refused(Unencodable { offset: 0 }));
+    }
     Ok(encoder.encode_lossy(alloc, utf8(text)?, missing)?)
 }
 
 /// The text, if it is UTF-8; else it is refused where it stops being that.
-fn utf8(text: &[u8]) -> Result<&str, Fault<Unencodable>>
+pub(crate) fn utf8(text: &[u8]) -> Result<&str, Fault<Unencodable>>
     ensures { Outcome (λ found. (found.now ≡ text.now) × IsUtf8 text.now)
         (λ refused. (IsUtf8 text.now → ⊥) × IsValidUpTo text.now refused.offset) result }
 {
@@ -114,10 +119,19 @@ fn put_string(
 {
     match string {
         Ok(string) => put(&string, room, needed),
-        Err(Fault::Refused(refused)) => {
+        Err(fault) => failed(fault, offset),
+    }
+}
+
+/// Tells where the text is refused, if it is.
+pub(crate) fn failed(fault: Fault<Unencodable>, offset: &mut usize) -> u32
+    ensures { EndsFailed fault offset.old offset.new result }
+{
+    match fault {
+        Fault::Refused(refused) => {
             *offset = refused.offset;
             Status::Refused.number()
         }
-        Err(Fault::Memory) => Status::NoMemory.number(),
+        Fault::Memory => Status::NoMemory.number(),
     }
 }

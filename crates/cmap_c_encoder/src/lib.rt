@@ -4,5 +4,6 @@
 mod build;
 mod encode;
 mod handle;
+mod pieces;
 mod share;
 mod slot;

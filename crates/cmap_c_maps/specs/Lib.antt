@@ -1,3 +1,4 @@
 pub mod Extracted
 pub mod ExtractedParts
+pub mod Modes
 pub mod Strings

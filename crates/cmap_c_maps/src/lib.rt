@@ -10,4 +10,5 @@ mod layers;
 mod metadata;
 mod row;
 mod share;
+mod unicode_name;
 mod utf8_text;
