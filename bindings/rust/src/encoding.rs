@@ -98,7 +98,8 @@ impl Encoder {
     /// other codes.
     pub fn encode_lossy(&self, text: &str, missing: &[u8]) -> Vec<u8> {
         let string = self.pool.ask(|encoder| encoder.encode_lossy(text, missing));
-        string.unwrap_or_else(|| panic!("{missing:02X?}: these bytes aren't whole codes of the font"))
+        string
+            .unwrap_or_else(|| panic!("{missing:02X?}: these bytes aren't whole codes of the font"))
     }
 
     /// Whether a string is whole codes of the font, one after another, or empty.

@@ -68,9 +68,11 @@ impl Extractor {
     /// ```
     /// use hayro_cmap::{CMap, CMapName, CidFamily, Extractor};
     ///
-    /// let unicode = b"begincodespacerange <0000> <FFFF> endcodespacerange begincidchar <3042> 843 endcidchar";
+    /// let texts: &[u8] = b"beginbfchar <020E> <3042> <034B> <3042> endbfchar";
+    /// let unicode: &[u8] =
+    ///     b"begincodespacerange <0000> <FFFF> endcodespacerange begincidchar <3042> 843 endcidchar";
     /// let get_cmap = |name: CMapName<'_>| match name.to_bytes() {
-    ///     b"Adobe-Japan1-UCS2" => Some(&b"beginbfchar <020E> <3042> <034B> <3042> endbfchar"[..]),
+    ///     b"Adobe-Japan1-UCS2" => Some(texts),
     ///     b"UniJIS-UTF16-H" => Some(unicode),
     ///     _ => None,
     /// };

@@ -59,7 +59,9 @@ fn strings_are_whole_codes_or_not() {
     let mixed = b"begincodespacerange <00> <80> <8140> <9FFC> endcodespacerange";
     let mixed = Extractor::new(CMap::parse(mixed, |_| None).unwrap(), None, None).encoder();
     assert!(mixed.are_codes(b"A\x81\x40\x80"));
-    assert!(!mixed.are_codes(b"A\x81") && !mixed.are_codes(b"\x81\x3F") && !mixed.are_codes(b"\xA0"));
+    assert!(
+        !mixed.are_codes(b"A\x81") && !mixed.are_codes(b"\x81\x3F") && !mixed.are_codes(b"\xA0")
+    );
     assert!(Extractor::simple(None).encoder().are_codes(b"any bytes \xFF"));
 }
 
@@ -111,8 +113,12 @@ fn exact_strings_are_read_as_their_texts() {
 /// The text of a file from Unicode to CIDs.
 macro_rules! from_unicode {
     ($cids:literal) => {
-        concat!("begincodespacerange <0000> <FFFF> endcodespacerange begincidchar ", $cids, " endcidchar")
-            .as_bytes()
+        concat!(
+            "begincodespacerange <0000> <FFFF> endcodespacerange begincidchar ",
+            $cids,
+            " endcidchar"
+        )
+        .as_bytes()
     };
 }
 
@@ -121,7 +127,9 @@ fn small_files(name: CMapName<'_>) -> Option<&'static [u8]> {
     match name.to_bytes() {
         b"Adobe-KR-UCS2" => Some(b"beginbfchar <0005> <AC00> <0006> <AC00> endbfchar"),
         b"UniAKR-UTF16-H" => Some(from_unicode!("<AC00> 6")),
-        b"Adobe-Japan1-UCS2" => Some(b"beginbfchar <0005> <3042> <0006> <3042> <0007> <3042> endbfchar"),
+        b"Adobe-Japan1-UCS2" => {
+            Some(b"beginbfchar <0005> <3042> <0006> <3042> <0007> <3042> endbfchar")
+        }
         b"UniJIS-UTF16-H" => Some(from_unicode!("<3042> 6")),
         b"UniJIS-UTF16-V" => Some(from_unicode!("<3042> 7")),
         _ => None,
@@ -170,7 +178,9 @@ fn maps_from_unicode_have_names() {
         let family = CidFamily::from_registry_ordering(b"Adobe", ordering);
         family.unicode_name(mode).map(|name| String::from_utf8(name).unwrap())
     };
-    let both = |ordering| [WritingMode::Horizontal, WritingMode::Vertical].map(|mode| name(ordering, mode));
+    let both = |ordering| {
+        [WritingMode::Horizontal, WritingMode::Vertical].map(|mode| name(ordering, mode))
+    };
     let names = |names: [&str; 2]| names.map(|name| Some(name.to_owned()));
     assert_eq!(both(b"Japan1"), names(["UniJIS-UTF16-H", "UniJIS-UTF16-V"]));
     assert_eq!(both(b"CNS1"), names(["UniCNS-UTF16-H", "UniCNS-UTF16-V"]));

@@ -16,8 +16,10 @@ fn predefined_files_are_found() {
     fs::write(below.join("Top"), "/Base usecmap begincidchar <02> 2 endcidchar").unwrap();
     fs::write(below.join("Base"), "begincidchar <01> 1 endcidchar").unwrap();
     fs::write(below.join("A-B-UCS2"), "beginbfchar <05> <0061> endbfchar").unwrap();
-    fs::write(below.join("Adobe-GB1-UCS2"), "beginbfchar <05> <0061> <06> <0061> endbfchar").unwrap();
-    let unicode = "begincodespacerange <0000> <FFFF> endcodespacerange begincidchar <0061> 6 endcidchar";
+    fs::write(below.join("Adobe-GB1-UCS2"), "beginbfchar <05> <0061> <06> <0061> endbfchar")
+        .unwrap();
+    let unicode =
+        "begincodespacerange <0000> <FFFF> endcodespacerange begincidchar <0061> 6 endcidchar";
     fs::write(below.join("UniGB-UTF16-H"), unicode).unwrap();
     fs::write(folder.join("Outside"), "begincidchar <01> 1 endcidchar").unwrap();
     fs::write(hidden.join("Hidden"), "begincidchar <01> 1 endcidchar").unwrap();
