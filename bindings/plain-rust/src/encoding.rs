@@ -60,8 +60,9 @@ impl Extractor {
 impl Encoder {
     /// The string of a text: the codes of its pieces. A piece is a letter, a character and the marks after
     /// it, if that has a code and the rest can be encoded; else less of the letter, and at last more than
-    /// it. The code of a piece is the first one by its [`Grade`](crate::Grade), in a codespace range and of no
-    /// notdef; of several the shortest, and of these the least.
+    /// it. The code of a piece lies in a codespace range, has no notdef, and is the first one by its
+    /// [`Grade`]; of several that of the character itself in the form of the map from Unicode, then the
+    /// shortest, then the least.
     pub fn encode(&self, text: &str) -> Result<Vec<u8>, EncodeError> {
         Ok(encoded(self.held.encode(Global, text))?.to_vec())
     }
