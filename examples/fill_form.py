@@ -3,9 +3,10 @@
 
     fill_form.py FORM OUT NAME=TEXT..
 
-The field of each NAME gets TEXT, and what shows it in the font of the field. That is a composite font with a predefined
-CMap, as 90ms-RKSJ-H or Identity-H, and needs neither a font program nor a ToUnicode CMap: the codes of the text have the
-glyphs that the character collection of the font means. The program needs pikepdf, and the CMap files of poppler-data.
+The field of each NAME gets TEXT, and what shows it in the font of the field. That is a composite font with a
+predefined CMap, as 90ms-RKSJ-H or Identity-H, and needs neither a font program nor a ToUnicode CMap: the codes of the
+text have the glyphs that the character collection of the font means. The program needs pikepdf, and the CMap files of
+poppler-data.
 """
 
 import re

@@ -3,8 +3,8 @@
 from composite_font import with_table
 
 # of each field: the CMap of its font and the ordering of its collection, a text, and the string that shows it. By
-# Identity-H that has the CIDs of the collection's map from Unicode, by another CMap the codes of Python's codecs. For an
-# ASCII letter of GBK-EUC-H poppler reads a full-width one.
+# Identity-H that has the CIDs of the collection's map from Unicode, by another CMap the codes of Python's codecs. For
+# an ASCII letter of GBK-EUC-H poppler reads a full-width one.
 FIELDS = [
     ("90ms-RKSJ-H", "Japan1", "あ一(A)100", "82A088EA284129313030"),
     ("Identity-H", "Japan1", "あ一(A)100", "034B04B000090022000A001200110011"),

@@ -125,16 +125,17 @@ class Extractor:
         ]
 
     def encode(self, text: str, missing: Optional[Buffer] = None, exact: bool = False) -> bytes:
-        """The string of a text: the codes of its pieces. A piece is a letter, a character and the marks after it, if that
-        has a code and the rest can be encoded; else less of the letter, and at last more than it. The code of a piece lies
-        in a codespace range, has no notdef, and is the first one by its `Grade`; of several that of the character itself
-        in the form of the map from Unicode, then the shortest, then the least. With `exact` only those codes stand for a piece whose text is the piece, so that the string is read back
-        as the text, and nothing stands for a variation selector.
+        """The string of a text: the codes of its pieces. A piece is a letter, a character and the marks after it, if
+        that has a code and the rest can be encoded; else less of the letter, and at last more than it. The code of a
+        piece lies in a codespace range, has no notdef, and is the first one by its `Grade`; of several that of the
+        character itself in the form of the map from Unicode, then the shortest, then the least. With `exact` only those
+        codes stand for a piece whose text is the piece, so that the string is read back as the text, and nothing stands
+        for a variation selector.
 
-        A text that has no such pieces is Unencodable. But where `missing` is given, as b"\\x00\\x3f" for a question mark,
-        the string is that of the longest prefix that has them, then these bytes for the character after it, then what is
-        left of the text likewise. ValueError where they aren't whole codes of the font: the bytes after them would be
-        other codes.
+        A text that has no such pieces is Unencodable. But where `missing` is given, as b"\\x00\\x3f" for a question
+        mark, the string is that of the longest prefix that has them, then these bytes for the character after it, then
+        what is left of the text likewise. ValueError where they aren't whole codes of the font: the bytes after them
+        would be other codes.
 
         What is needed for it is made of all codes of the font when it is first called, and kept.
         """
@@ -142,8 +143,8 @@ class Extractor:
         return encoder.encode(text) if missing is None else encoder.encode_lossy(text, bytes_of(missing))
 
     def pieces(self, text: str, exact: bool = False) -> List[Piece]:
-        """The pieces of a text, whose codes `encode` gives one after another, each with its code and how well that stands
-        for it."""
+        """The pieces of a text, whose codes `encode` gives one after another, each with its code and how well that
+        stands for it."""
         return self._encoder(text, exact).pieces(text)
 
     def _encoder(self, text, exact):

@@ -72,8 +72,8 @@ impl CidFamily {
         [&self.name()[..], b"UCS2"].join(&b'-')
     }
 
-    /// The name of the CMap from Unicode, in UTF-16, to the CIDs of the family: UniJIS-UTF16-H of Adobe-Japan1,
-    /// and UniJIS-UTF16-V for vertical text. Only Japan1, GB1, CNS1, Korea1, KR and Japan2 of Adobe have one.
+    /// The name of the CMap from Unicode, in UTF-16, to the CIDs of the family, as UniJIS-UTF16-H, or
+    /// UniJIS-UTF16-V for vertical text. Only Japan1, GB1, CNS1, Korea1, KR and Japan2 of Adobe have one.
     ///
     /// ```
     /// use hayro_cmap::{CidFamily, WritingMode};

@@ -126,8 +126,8 @@ impl CMap {
 }
 
 impl Extractor {
-    /// The maps of a font as [`Extractor::over`] has them, with those maps of the character collection that the
-    /// system has, as Adobe-Japan1-UCS2 and UniJIS-UTF16-H.
+    /// The maps of a font as [`Extractor::over`] has them, with those maps of the character collection that
+    /// the system has, as Adobe-Japan1-UCS2 and UniJIS-UTF16-H.
     ///
     /// ```no_run
     /// use hayro_cmap::{CMap, Extractor};

@@ -70,7 +70,8 @@ fn graded() -> Extractor {
     let map = |file: &[u8]| CMap::parse(file, |_| None).unwrap();
     let encoding = b"begincodespacerange <00> <80> <8140> <9FFC> endcodespacerange
         begincidrange <20> <7E> 1 <8140> <817E> 633 endcidrange";
-    let texts = b"beginbfchar <003D> <00A5> <0279> <3042> <027A> <3042> <027B> <2F00> <027C> <845B> endbfchar";
+    let texts = b"beginbfchar <003D> <00A5> <0279> <3042> <027A> <3042>
+        <027B> <2F00> <027C> <845B> endbfchar";
     let unicode = b"begincodespacerange <0000> <FFFF> endcodespacerange
         begincidchar <3042> 634 <4E00> 635 endcidchar";
     let to_unicode = map(b"beginbfchar <41> <0061> <2D> <2010> endbfchar");
