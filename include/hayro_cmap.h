@@ -142,13 +142,13 @@ typedef struct hayro_cmap_code_range {
 
 /* How well a code stands for a piece of a text, best first. */
 typedef enum hayro_cmap_grade {
-    HAYRO_CMAP_STATED = 0,     /* the ToUnicode CMap has the piece as the text of the code */
-    HAYRO_CMAP_CANONICAL = 1,  /* the code has the CID that the map from Unicode gives to the character */
-    HAYRO_CMAP_COLLECTION = 2, /* the map of the collection has the piece as the text of the code's CID */
-    HAYRO_CMAP_ALIKE = 3,      /* the code shows a text that looks or means the same; or nothing stands for
-                                  a variation selector */
-    HAYRO_CMAP_NATIONAL = 4    /* the code is the byte of a character of ASCII that a national version of
-                                  ISO 646 shows otherwise */
+    HAYRO_CMAP_GRADE_STATED = 0,     /* the ToUnicode CMap has the piece as the text of the code */
+    HAYRO_CMAP_GRADE_CANONICAL = 1,  /* the code has the CID that the map from Unicode gives to the character */
+    HAYRO_CMAP_GRADE_COLLECTION = 2, /* the map of the collection has the piece as the text of the code's CID */
+    HAYRO_CMAP_GRADE_ALIKE = 3,      /* the code shows a text that looks or means the same; or nothing stands
+                                        for a variation selector */
+    HAYRO_CMAP_GRADE_NATIONAL = 4    /* the code is the byte of a character of ASCII that a national version
+                                        of ISO 646 shows otherwise */
 } hayro_cmap_grade;
 
 /* A piece of a text, and what stands for it in the string. */
@@ -672,7 +672,7 @@ hayro_cmap_status hayro_cmap_encoder_build(hayro_cmap_encoder *encoder, hayro_cm
  * is empty where there is no such map, and hayro_cmap_unicode_name names it. No two of the four maps are one handle.
  *
  * An `exact` encoder chooses only codes whose text, as hayro_cmap_extract gives it, is the piece for which they
- * stand: no grade is then HAYRO_CMAP_ALIKE or HAYRO_CMAP_NATIONAL. */
+ * stand: no grade is then HAYRO_CMAP_GRADE_ALIKE or HAYRO_CMAP_GRADE_NATIONAL. */
 hayro_cmap_status hayro_cmap_encoder_build_with(hayro_cmap_encoder *encoder, hayro_cmap *encoding,
                                                 hayro_cmap *to_unicode, hayro_cmap *collection,
                                                 hayro_cmap *unicode, bool exact);
@@ -693,10 +693,10 @@ void hayro_cmap_encoder_free(hayro_cmap_encoder *encoder);
 
 /* The string of the font for a text, which is UTF-8: the codes of its pieces. A piece is a letter, a character
  * and the marks after it, if that has a code and the rest can be encoded; else less of the letter, and at last
- * more than it. A piece has the code, in a codespace range and of no notdef, of which it is the text, of several
- * the shortest, and of these the least. A character without one has that of a character that looks or means the
- * same, and a variation selector no bytes. It takes time by the characters of the text, times at most those of
- * the longest text of a code.
+ * more than it. A piece has the code, in a codespace range and of no notdef, with the best hayro_cmap_grade; of
+ * several with a grade up to HAYRO_CMAP_GRADE_COLLECTION the shortest, and of these the least, but of those with
+ * HAYRO_CMAP_GRADE_CANONICAL first the character itself in the form of the map from Unicode. It takes time by the
+ * characters of the text, times at most those of the longest text of a code.
  *
  * With HAYRO_CMAP_OK the string stands at the head of `room`, and `needed` is how many bytes it has. With
  * HAYRO_CMAP_NO_ROOM `needed` is how many it has, and the room is as it was. With HAYRO_CMAP_REFUSED the text
@@ -712,10 +712,11 @@ hayro_cmap_status hayro_cmap_encode_pieces(hayro_cmap_encoder *encoder, const ui
                                            size_t text_len, hayro_cmap_piece *pieces,
                                            size_t pieces_len, size_t *needed, size_t *offset);
 
-/* The same as far as the text can be encoded: its longest prefix that can be, then the bytes of `missing` for the
- * character after it, as 3F for a question mark, then what is left of the text likewise. With HAYRO_CMAP_REFUSED
- * the text isn't UTF-8, or `missing` isn't whole codes of the font, one after another, or no bytes, since other
- * bytes may change how the string is read; nothing is written. */
+/* The string of a text as far as it can be encoded: its longest prefix that can be, then the bytes of `missing` for
+ * the character after it, as 3F for a question mark, then what is left of the text likewise; written as that of
+ * hayro_cmap_encode is. `missing` is no bytes or whole codes of the font, one after another: other bytes may change
+ * how those after them are read. With HAYRO_CMAP_REFUSED it isn't, or the text isn't UTF-8, and nothing is written;
+ * an empty text is only refused for the sake of `missing`. */
 hayro_cmap_status hayro_cmap_encode_lossy(hayro_cmap_encoder *encoder, const uint8_t *text,
                                           size_t text_len, const uint8_t *missing, size_t missing_len,
                                           uint8_t *room, size_t room_len, size_t *needed);

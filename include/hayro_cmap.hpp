@@ -32,6 +32,7 @@
 #include <new>
 #include <optional>
 #include <sstream>
+#include <stdexcept>
 #include <string>
 #include <string_view>
 #include <system_error>
@@ -66,6 +67,15 @@ enum class Kind : std::uint16_t {
 };
 
 enum class WritingMode { horizontal = HAYRO_CMAP_HORIZONTAL, vertical = HAYRO_CMAP_VERTICAL };
+
+// How well a code stands for a piece of a text, best first.
+enum class Grade : std::uint32_t {
+    stated = HAYRO_CMAP_GRADE_STATED,         // the ToUnicode CMap has the piece as the text of the code
+    canonical = HAYRO_CMAP_GRADE_CANONICAL,   // the code has the CID that the map from Unicode gives
+    collection = HAYRO_CMAP_GRADE_COLLECTION, // the map of the collection has the piece for the code's CID
+    alike = HAYRO_CMAP_GRADE_ALIKE,           // it shows a text that looks or means the same, or is no code
+    national = HAYRO_CMAP_GRADE_NATIONAL      // a byte of ASCII that a national version shows otherwise
+};
 
 // What is wrong with the file at fault.
 enum class Cause : std::uint32_t {
@@ -257,8 +267,8 @@ template <class Ask> std::optional<std::string> written(Ask ask) {
 
 // The values that a call writes to a room, which is asked again where the first room is too short; none
 // where there is no answer.
-template <class T, class Ask> std::vector<T> listed(Ask ask) {
-    std::vector<T> values(8);
+template <class T, class Ask>
+std::vector<T> listed(Ask ask, std::vector<T> values = std::vector<T>(8)) {
     for (;;) {
         std::size_t needed = 0;
         Status status = with_memory(ask(values.data(), values.size(), &needed));
@@ -740,25 +750,40 @@ struct Character {
     std::optional<std::string> text;
 };
 
+// The name of the map from Unicode, in UTF-16, to the CIDs of a character collection: of Adobe-Japan1
+// UniJIS-UTF16-H, and UniJIS-UTF16-V for vertical writing. Nothing where the collection has none.
+inline std::optional<std::string> unicode_name(Bytes collection,
+                                               WritingMode mode = WritingMode::horizontal) {
+    return detail::written([&](auto room, auto len, auto needed) {
+        return hayro_cmap_unicode_name(collection.data(), collection.size(),
+                                       static_cast<std::uint32_t>(mode), room, len, needed);
+    });
+}
+
 // The maps of a font, by which the texts of its strings are found (ISO 32000-1, 9.10.2): that of its CMap,
-// that of its ToUnicode CMap, and one from the CIDs of its character collection to Unicode. An empty map
-// stands for one that there isn't. Where one map serves twice, share() gives another one of it.
+// that of its ToUnicode CMap, and one from the CIDs of its character collection to Unicode. Of the fourth, one
+// from Unicode to CIDs, an Encoder takes the glyphs of characters. An empty map stands for one that there
+// isn't. Where one map serves twice, share() gives another one of it.
 class Extractor {
 public:
-    explicit Extractor(Map encoding, Map to_unicode = {}, Map collection = {}) noexcept
+    explicit Extractor(Map encoding, Map to_unicode = {}, Map collection = {},
+                       Map unicode = {}) noexcept
         : encoding_(std::move(encoding)), to_unicode_(std::move(to_unicode)),
-          collection_(std::move(collection)) {}
+          collection_(std::move(collection)), unicode_(std::move(unicode)) {}
 
     // Of a simple font, which has no CMap: its codes are bytes (ISO 32000-1, 9.6).
     static Extractor simple(Map to_unicode = {});
 
-    // Takes the map of the character collection that the encoding names, as Adobe-Japan1-UCS2: that of its
-    // file, as Map::open finds it. Without such a file all stays; a refused one is given back.
-    std::optional<Refusal> find_collection(const Files &files);
-    std::optional<Refusal> find_collection(Bundle &bundle, const Files &files = {});
+    // Takes the two maps of a character collection, as Adobe-Japan1, by default the one that the encoding
+    // names: the map to Unicode, as Adobe-Japan1-UCS2, and the one from Unicode that unicode_name names, but an
+    // encoding itself whose name begins with Uni. Each is that of its file, as Map::open finds it. Without such
+    // a file the map stays; the first refusal is given back.
+    std::optional<Refusal> find_collection(const Files &files, const std::string &collection = {});
+    std::optional<Refusal> find_collection(Bundle &bundle, const Files &files = {},
+                                           const std::string &collection = {});
 
     // The same of the predefined CMap files, as Map::open_predefined reads them.
-    std::optional<Refusal> find_predefined_collection();
+    std::optional<Refusal> find_predefined_collection(const std::string &collection = {});
 
     // All codes of a string. The text of one is that of the ToUnicode CMap, where it has one for the code;
     // else that of its CID in the map of the collection.
@@ -790,16 +815,20 @@ public:
 private:
     friend class Encoder;
 
-    // The name of the map from the CIDs of the collection to Unicode (ISO 32000-1, 9.10.2), by the first file
-    // of the encoding that names one.
-    std::optional<std::string> collection_name() {
+    // The character collection of this name, else that of the first file of the encoding that names one.
+    std::optional<std::string> collection_of(const std::string &name) {
+        if (!name.empty()) return name;
         for (const auto &layer : encoding_.layers())
             if (auto it = layer.metadata(); it.registry && it.ordering)
-                return *it.registry + '-' + *it.ordering + "-UCS2";
+                return *it.registry + '-' + *it.ordering;
         return std::nullopt;
     }
 
-    std::optional<Refusal> take_collection(std::optional<Result> opened);
+    bool is_from_unicode() { return encoding_.name().value_or("").substr(0, 3) == "Uni"; }
+
+    // Finds the maps of a collection by their names (ISO 32000-1, 9.10.2).
+    template <class Open> std::optional<Refusal> find(const std::string &collection, Open open);
+    static std::optional<Refusal> take(Map &place, std::optional<Result> opened);
 
     static std::optional<std::string> text_of(const hayro_cmap_character &it,
                                               const std::string &text) {
@@ -810,27 +839,38 @@ private:
     Map encoding_;
     Map to_unicode_;
     Map collection_;
+    Map unicode_;
 };
 
-// The string that shows a text, or where the text is refused. As with std::optional, what isn't there isn't
-// asked for.
-class Encoded {
+// A piece of a text, and what stands for it in the string.
+struct Piece {
+    std::size_t text_len;   // how many bytes it has in UTF-8
+    std::uint32_t code_len; // how many bytes its code has; 0 where nothing stands for a variation selector
+    Grade grade;
+};
+
+// What a text has, or where the text is refused. As with std::optional, what isn't there isn't asked for.
+template <class Value> class OfText {
 public:
-    Encoded(std::string string) noexcept : either_(std::move(string)) {}
-    explicit Encoded(std::size_t offset) noexcept : either_(offset) {}
+    OfText(Value value) noexcept : either_(std::move(value)) {}
+    explicit OfText(std::size_t offset) noexcept : either_(offset) {}
 
-    explicit operator bool() const noexcept { return std::holds_alternative<std::string>(either_); }
-    const std::string &operator*() const & noexcept { return *std::get_if<std::string>(&either_); }
-    std::string &&operator*() && noexcept { return std::move(*std::get_if<std::string>(&either_)); }
-    const std::string *operator->() const noexcept { return std::get_if<std::string>(&either_); }
+    explicit operator bool() const noexcept { return std::holds_alternative<Value>(either_); }
+    const Value &operator*() const & noexcept { return *std::get_if<Value>(&either_); }
+    Value &&operator*() && noexcept { return std::move(*std::get_if<Value>(&either_)); }
+    const Value *operator->() const noexcept { return std::get_if<Value>(&either_); }
 
-    // In bytes: of the fronts of the text that strings show, the longest ends there; of a text that isn't
-    // UTF-8, the longest front that is.
+    // In bytes: the longest prefix of the text that can be encoded ends there; of a text that isn't UTF-8,
+    // the longest prefix that is.
     std::size_t offset() const noexcept { return *std::get_if<std::size_t>(&either_); }
 
 private:
-    std::variant<std::string, std::size_t> either_;
+    std::variant<Value, std::size_t> either_;
 };
+
+// The string that shows a text; and the pieces of a text.
+using Encoded = OfText<std::string>;
+using Pieces = OfText<std::vector<Piece>>;
 
 // Finds the strings of a font that show texts: what an Extractor reads, the other way round. It keeps no maps
 // of the font.
@@ -839,10 +879,11 @@ public:
     // None, which refuses all texts.
     Encoder() noexcept = default;
 
-    explicit Encoder(Extractor &font) {
-        detail::with_memory(hayro_cmap_encoder_build(handle(), font.encoding_.handle(),
-                                                     font.to_unicode_.handle(),
-                                                     font.collection_.handle()));
+    // An exact one chooses only codes whose texts are the pieces for which they stand.
+    explicit Encoder(Extractor &font, bool exact = false) {
+        detail::with_memory(hayro_cmap_encoder_build_with(
+            handle(), font.encoding_.handle(), font.to_unicode_.handle(), font.collection_.handle(),
+            font.unicode_.handle(), exact));
     }
 
     // Another one of the same font, for another thread.
@@ -862,13 +903,35 @@ public:
         return *std::move(string);
     }
 
+    // The pieces of a text, whose codes encode gives one after another.
+    Pieces pieces(Bytes text) {
+        std::size_t offset = 0;
+        Status status = HAYRO_CMAP_OK;
+        auto ask = [&](auto room, auto len, auto needed) {
+            status = hayro_cmap_encode_pieces(handle(), text.data(), text.size(), room, len, needed,
+                                              &offset);
+            return status;
+        };
+        auto found = detail::listed(ask, std::vector<hayro_cmap_piece>(text.size() + 1));
+        if (status != HAYRO_CMAP_OK) return Pieces(offset);
+        std::vector<Piece> pieces;
+        for (const auto &it : found)
+            pieces.push_back({it.text_len, it.code_len, static_cast<Grade>(it.grade)});
+        return pieces;
+    }
+
     // The same as far as the text can be encoded: its longest prefix that can be, `missing` for the
     // character after it, then what is left likewise. Nothing where the text isn't UTF-8.
+    // std::invalid_argument where `missing` isn't whole codes of the font, or no bytes.
     std::optional<std::string> encode_lossy(Bytes text, Bytes missing) {
-        return detail::written_to(room_for(text), [&](auto room, auto len, auto needed) {
-            return hayro_cmap_encode_lossy(handle(), text.data(), text.size(), missing.data(),
-                                           missing.size(), room, len, needed);
+        auto string = detail::written_to(room_for(text), [&](auto room, auto len, auto needed) {
+            return lossy(text, missing, room, len, needed);
         });
+        std::uint8_t none{};
+        std::size_t needed = 0;
+        if (!string && lossy("", missing, &none, 0, &needed) == HAYRO_CMAP_REFUSED)
+            throw std::invalid_argument("missing isn't whole codes of the font");
+        return string;
     }
 
     bool empty() const noexcept { return !handle_.get()->full; }
@@ -877,6 +940,11 @@ public:
     hayro_cmap_encoder *handle() noexcept { return handle_.get(); }
 
 private:
+    Status lossy(Bytes text, Bytes missing, std::uint8_t *room, std::size_t len, std::size_t *needed) {
+        return hayro_cmap_encode_lossy(handle(), text.data(), text.size(), missing.data(),
+                                       missing.size(), room, len, needed);
+    }
+
     // Enough where codes have one or two bytes.
     static std::string room_for(Bytes text) { return std::string(2 * text.size(), '\0'); }
 
@@ -911,26 +979,42 @@ inline Extractor Extractor::simple(Map to_unicode) {
     return Extractor(*std::move(bytes), std::move(to_unicode));
 }
 
-inline std::optional<Refusal> Extractor::take_collection(std::optional<Result> opened) {
+inline std::optional<Refusal> Extractor::take(Map &place, std::optional<Result> opened) {
     if (!opened) return std::nullopt;
     if (!*opened) return opened->refusal();
-    collection_ = **std::move(opened);
+    place = **std::move(opened);
     return std::nullopt;
 }
 
-inline std::optional<Refusal> Extractor::find_collection(Bundle &bundle, const Files &files) {
-    auto name = collection_name();
-    return name ? take_collection(Map::open(*name, bundle, files)) : std::nullopt;
+template <class Open>
+std::optional<Refusal> Extractor::find(const std::string &collection, Open open) {
+    std::optional<Refusal> refused;
+    auto name = collection_of(collection);
+    if (name) refused = take(collection_, open(*name + "-UCS2"));
+    if (is_from_unicode()) {
+        unicode_ = encoding_.share();
+        return refused;
+    }
+    auto from = name ? unicode_name(*name, encoding_.writing_mode().value_or(WritingMode::horizontal))
+                     : std::nullopt;
+    if (!from) return refused;
+    auto other = take(unicode_, open(*from));
+    return refused ? refused : other;
 }
 
-inline std::optional<Refusal> Extractor::find_collection(const Files &files) {
+inline std::optional<Refusal> Extractor::find_collection(Bundle &bundle, const Files &files,
+                                                         const std::string &collection) {
+    return find(collection, [&](const auto &name) { return Map::open(name, bundle, files); });
+}
+
+inline std::optional<Refusal> Extractor::find_collection(const Files &files,
+                                                         const std::string &collection) {
     Bundle none;
-    return find_collection(none, files);
+    return find_collection(none, files, collection);
 }
 
-inline std::optional<Refusal> Extractor::find_predefined_collection() {
-    auto name = collection_name();
-    return name ? take_collection(Map::open_predefined(*name)) : std::nullopt;
+inline std::optional<Refusal> Extractor::find_predefined_collection(const std::string &collection) {
+    return find(collection, [](const auto &name) { return Map::open_predefined(name); });
 }
 
 inline Result Map::parse(Bytes data, Bundle &bundle, const Files &files, std::uint64_t budget) {

@@ -354,9 +354,140 @@ static void bytes_stand_for_characters_without_a_string(void) {
     CHECK(hayro_cmap_encode_lossy(&encoder, TEXT("xffx"), TEXT(""), room, 1, &needed) == HAYRO_CMAP_NO_ROOM);
     CHECK(needed == 2 && same(room, "?!AB?!\7\7", 8));
     CHECK(hayro_cmap_encode_lossy(&encoder, TEXT("f\xC3"), TEXT("?"), room, 8, &needed) == HAYRO_CMAP_REFUSED);
+    CHECK(hayro_cmap_encode_lossy(&encoder, TEXT(""), TEXT("?\x80"), room, 8, &needed) == HAYRO_CMAP_REFUSED);
     hayro_cmap_encoder_free(&encoder);
     CHECK(hayro_cmap_encode_lossy(&encoder, TEXT("f"), TEXT("?"), room, 8, &needed) == HAYRO_CMAP_ABSENT);
     CHECK(needed == 2 && same(room, "?!AB?!\7\7", 8));
+}
+
+// A code is half of what stands for a character, or comes after the half of one.
+static void half_codes_stand_for_no_character(void) {
+    hayro_cmap encoding = map_of(TEXT("begincodespacerange <0000> <00FF> endcodespacerange"));
+    hayro_cmap to_unicode = map_of(TEXT("beginbfchar <0041> <0061> endbfchar")), none = HAYRO_CMAP_EMPTY;
+    hayro_cmap_encoder encoder = HAYRO_CMAP_EMPTY;
+    CHECK(hayro_cmap_encoder_build(&encoder, &encoding, &to_unicode, &none) == HAYRO_CMAP_OK);
+    uint8_t room[8] = {7, 7, 7, 7, 7, 7, 7, 7};
+    size_t needed = 9;
+    CHECK(hayro_cmap_encode_lossy(&encoder, TEXT("a"), TEXT("?"), room, 8, &needed) == HAYRO_CMAP_REFUSED);
+    CHECK(hayro_cmap_encode_lossy(&encoder, TEXT("a"), TEXT("\0??"), room, 8, &needed) == HAYRO_CMAP_REFUSED);
+    CHECK(hayro_cmap_encode_lossy(&encoder, TEXT("a"), TEXT("\1\0"), room, 8, &needed) == HAYRO_CMAP_REFUSED);
+    CHECK(needed == 9 && room[0] == 7);
+    CHECK(hayro_cmap_encode_lossy(&encoder, TEXT("ab"), TEXT("\0?\0!"), room, 8, &needed) == HAYRO_CMAP_OK);
+    CHECK(needed == 6 && same(room, "\0A\0?\0!\7\7", 8));
+    CHECK(hayro_cmap_encode_lossy(&encoder, TEXT("ab"), TEXT(""), room, 8, &needed) == HAYRO_CMAP_OK && needed == 2);
+    hayro_cmap_encoder_free(&encoder);
+    hayro_cmap_free(&to_unicode);
+    hayro_cmap_free(&encoding);
+}
+
+// Codes of one byte with the CIDs from 1 on. 41 states a text; the CIDs of 42, 44 and 5C have texts, and the map from
+// Unicode gives a character the CID of 43, which has another text.
+static hayro_cmap_encoder graded_encoder(bool exact) {
+    hayro_cmap encoding = map_of(TEXT("begincodespacerange <00> <7F> endcodespacerange "
+                                      "begincidrange <41> <5C> 1 endcidrange"));
+    hayro_cmap to_unicode = map_of(TEXT("beginbfchar <41> <00660069> endbfchar"));
+    hayro_cmap collection = map_of(TEXT("beginbfchar <0002> <00E9> <0003> <2F47> <0004> <004B> <001C> <00A5> endbfchar"));
+    hayro_cmap unicode = map_of(TEXT("begincodespacerange <0000> <FFFF> endcodespacerange "
+                                     "begincidchar <65E5> 3 <00E9> 2 endcidchar"));
+    hayro_cmap_encoder encoder = HAYRO_CMAP_EMPTY;
+    CHECK(hayro_cmap_encoder_build_with(&encoder, &encoding, &to_unicode, &collection, &unicode, exact) == HAYRO_CMAP_OK);
+    CHECK(encoding.full && to_unicode.full && collection.full && unicode.full);
+    hayro_cmap_free(&unicode);
+    hayro_cmap_free(&collection);
+    hayro_cmap_free(&to_unicode);
+    hayro_cmap_free(&encoding);
+    return encoder;
+}
+
+static bool is_piece(hayro_cmap_piece piece, size_t text_len, uint32_t code_len, hayro_cmap_grade grade) {
+    return piece.text_len == text_len && piece.code_len == code_len && piece.grade == (uint32_t)grade;
+}
+
+// U+FB01 would be one character; U+212A is the sign for kelvin, and U+FE00 a variation selector.
+#define GRADED "fi\xC3\xA9\xE6\x97\xA5\xEF\xB8\x80\xE2\x84\xAA\\\xE2\xBD\x87"
+
+static void pieces_have_grades(void) {
+    hayro_cmap_encoder encoder = graded_encoder(false);
+    hayro_cmap_piece pieces[8];
+    memset(pieces, 7, sizeof pieces);
+    uint8_t room[8];
+    size_t needed = 9, offset = 9;
+    CHECK(hayro_cmap_encode(&encoder, TEXT(GRADED), room, 8, &needed, &offset) == HAYRO_CMAP_OK);
+    CHECK(needed == 6 && same(room, "ABCD\\C", 6));
+    CHECK(hayro_cmap_encode_pieces(&encoder, TEXT(GRADED), pieces, 7, &needed, &offset) == HAYRO_CMAP_OK);
+    CHECK(needed == 7 && offset == 9);
+    CHECK(is_piece(pieces[0], 2, 1, HAYRO_CMAP_GRADE_STATED) && is_piece(pieces[1], 2, 1, HAYRO_CMAP_GRADE_CANONICAL));
+    CHECK(is_piece(pieces[2], 3, 1, HAYRO_CMAP_GRADE_CANONICAL) && is_piece(pieces[3], 3, 0, HAYRO_CMAP_GRADE_ALIKE));
+    CHECK(is_piece(pieces[4], 3, 1, HAYRO_CMAP_GRADE_ALIKE) && is_piece(pieces[5], 1, 1, HAYRO_CMAP_GRADE_NATIONAL));
+    CHECK(is_piece(pieces[6], 3, 1, HAYRO_CMAP_GRADE_COLLECTION) && pieces[7].code_len == 0x07070707);
+    CHECK(hayro_cmap_encode_pieces(&encoder, TEXT("fifi"), pieces, 1, &needed, &offset) == HAYRO_CMAP_NO_ROOM);
+    CHECK(needed == 2 && is_piece(pieces[0], 2, 1, HAYRO_CMAP_GRADE_STATED));
+    CHECK(hayro_cmap_encode_pieces(&encoder, TEXT(""), pieces, 0, &needed, &offset) == HAYRO_CMAP_OK && needed == 0);
+    hayro_cmap_encoder_free(&encoder);
+}
+
+static void texts_without_pieces_are_refused(void) {
+    hayro_cmap_encoder encoder = graded_encoder(false);
+    hayro_cmap_piece pieces[2] = {{7, 7, 7}, {7, 7, 7}};
+    size_t needed = 9, offset = 9;
+    CHECK(hayro_cmap_encode_pieces(&encoder, TEXT("fix"), pieces, 2, &needed, &offset) == HAYRO_CMAP_REFUSED);
+    CHECK(offset == 2 && needed == 9);
+    CHECK(hayro_cmap_encode_pieces(&encoder, TEXT("fi\xC3\xA9\xC3"), pieces, 2, &needed, &offset) == HAYRO_CMAP_REFUSED);
+    CHECK(offset == 4 && needed == 9 && is_piece(pieces[0], 7, 7, 7));
+    hayro_cmap_encoder_free(&encoder);
+    CHECK(hayro_cmap_encode_pieces(&encoder, TEXT("fi"), pieces, 2, &needed, &offset) == HAYRO_CMAP_ABSENT);
+    CHECK(offset == 4 && needed == 9 && is_piece(pieces[0], 7, 7, 7));
+}
+
+static void exact_codes_are_read_as_their_pieces(void) {
+    hayro_cmap_encoder encoder = graded_encoder(true);
+    uint8_t room[4] = {7, 7, 7, 7};
+    size_t needed = 9, offset = 9;
+    CHECK(hayro_cmap_encode(&encoder, TEXT("fi\xC3\xA9\xE2\xBD\x87"), room, 4, &needed, &offset) == HAYRO_CMAP_OK);
+    CHECK(needed == 3 && same(room, "ABC\7", 4));
+    CHECK(hayro_cmap_encode(&encoder, TEXT("\xE6\x97\xA5"), room, 4, &needed, &offset) == HAYRO_CMAP_REFUSED && offset == 0);
+    CHECK(hayro_cmap_encode(&encoder, TEXT("K\xEF\xB8\x80"), room, 4, &needed, &offset) == HAYRO_CMAP_REFUSED && offset == 1);
+    CHECK(hayro_cmap_encode(&encoder, TEXT("\xE2\x84\xAA"), room, 4, &needed, &offset) == HAYRO_CMAP_REFUSED && offset == 0);
+    CHECK(hayro_cmap_encode(&encoder, TEXT("\\"), room, 4, &needed, &offset) == HAYRO_CMAP_REFUSED && offset == 0);
+    hayro_cmap_encoder_free(&encoder);
+}
+
+// Two CIDs have the same text. The map from Unicode chooses the second one; without it the least counts.
+static void a_map_from_unicode_chooses_glyphs(void) {
+    hayro_cmap encoding = HAYRO_CMAP_EMPTY, none = HAYRO_CMAP_EMPTY, no_map = HAYRO_CMAP_EMPTY;
+    CHECK(hayro_cmap_identity(&encoding, false) == HAYRO_CMAP_OK);
+    hayro_cmap collection = map_of(TEXT("beginbfchar <020E> <3042> <034B> <3042> endbfchar"));
+    hayro_cmap unicode = map_of(TEXT("begincodespacerange <0000> <FFFF> endcodespacerange "
+                                     "begincidchar <3042> 843 endcidchar"));
+    hayro_cmap_encoder encoder = HAYRO_CMAP_EMPTY;
+    uint8_t room[2];
+    size_t needed = 9, offset = 9;
+    CHECK(hayro_cmap_encoder_build_with(&encoder, &encoding, &none, &collection, &no_map, false) == HAYRO_CMAP_OK);
+    CHECK(hayro_cmap_encode(&encoder, TEXT("\xE3\x81\x82"), room, 2, &needed, &offset) == HAYRO_CMAP_OK);
+    CHECK(needed == 2 && same(room, "\x02\x0E", 2));
+    CHECK(hayro_cmap_encoder_build_with(&encoder, &encoding, &none, &collection, &unicode, false) == HAYRO_CMAP_OK);
+    CHECK(hayro_cmap_encode(&encoder, TEXT("\xE3\x81\x82"), room, 2, &needed, &offset) == HAYRO_CMAP_OK);
+    CHECK(needed == 2 && same(room, "\x03\x4B", 2));
+    CHECK(hayro_cmap_encoder_build_with(&encoder, &none, &encoding, &collection, &unicode, false) == HAYRO_CMAP_ABSENT);
+    CHECK(!encoder.full);
+    hayro_cmap_free(&unicode);
+    hayro_cmap_free(&collection);
+    hayro_cmap_free(&encoding);
+}
+
+static void collections_have_maps_from_unicode(void) {
+    uint8_t room[16] = {7};
+    size_t needed = 9;
+    CHECK(hayro_cmap_unicode_name(TEXT("Adobe-Japan1"), HAYRO_CMAP_HORIZONTAL, room, 16, &needed) == HAYRO_CMAP_OK);
+    CHECK(needed == 14 && same(room, "UniJIS-UTF16-H\0\0", 16));
+    CHECK(hayro_cmap_unicode_name(TEXT("Adobe-Japan1"), HAYRO_CMAP_VERTICAL, room, 16, &needed) == HAYRO_CMAP_OK);
+    CHECK(needed == 14 && same(room, "UniJIS-UTF16-V\0\0", 16));
+    CHECK(hayro_cmap_unicode_name(TEXT("Adobe-CNS1"), HAYRO_CMAP_NO_MODE, room, 16, &needed) == HAYRO_CMAP_OK);
+    CHECK(needed == 14 && same(room, "UniCNS-UTF16-H", 14));
+    CHECK(hayro_cmap_unicode_name(TEXT("Adobe-KR"), HAYRO_CMAP_VERTICAL, room, 13, &needed) == HAYRO_CMAP_NO_ROOM);
+    CHECK(needed == 14 && same(room, "UniCNS-UTF16-H", 14));
+    CHECK(hayro_cmap_unicode_name(TEXT("Adobe-Identity"), HAYRO_CMAP_HORIZONTAL, room, 16, &needed) == HAYRO_CMAP_ABSENT);
+    CHECK(needed == 14 && same(room, "UniCNS-UTF16-H", 14));
 }
 
 static void an_encoder_needs_an_encoding(void) {
@@ -916,6 +1047,12 @@ int main(void) {
     texts_have_strings();
     texts_without_a_string_are_refused();
     bytes_stand_for_characters_without_a_string();
+    half_codes_stand_for_no_character();
+    pieces_have_grades();
+    texts_without_pieces_are_refused();
+    exact_codes_are_read_as_their_pieces();
+    a_map_from_unicode_chooses_glyphs();
+    collections_have_maps_from_unicode();
     an_encoder_needs_an_encoding();
     a_shared_encoder_outlives_its_first_handle();
     files_are_opened_by_their_names();

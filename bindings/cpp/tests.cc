@@ -8,7 +8,9 @@
 #include <dlfcn.h>
 #include <filesystem>
 #include <fstream>
+#include <stdexcept>
 #include <thread>
+#include <tuple>
 #include <unistd.h>
 
 static int failed = 0;
@@ -248,6 +250,76 @@ static void collections_are_found() {
     auto refused = broken.find_collection(files);
     CHECK(refused && refused->reason() == hayro::Reason::text_expected && broken.text("A") == "a");
     CHECK(!hayro::Extractor::simple().find_collection(files) && !other.find_predefined_collection());
+}
+
+template <class Fault, class Call> static bool throws(Call call) {
+    try {
+        call();
+    } catch (const Fault &) {
+        return true;
+    }
+    return false;
+}
+
+static const auto any_two_bytes = "begincodespacerange <0000> <FFFF> endcodespacerange "s;
+
+// The CIDs 1 and 2 have the same text. A map from Unicode chooses the second one, or for vertical writing the third.
+static void glyphs_are_chosen_by_maps_from_unicode() {
+    CHECK(hayro::unicode_name("Adobe-GB1") == "UniGB-UTF16-H" && !hayro::unicode_name("Adobe-Identity"));
+    CHECK(hayro::unicode_name("Adobe-GB1", hayro::WritingMode::vertical) == "UniGB-UTF16-V");
+    std::map<std::string, std::string> files = {
+        {"Adobe-Japan1-UCS2", "beginbfchar <0001> <3042> <0002> <3042> <0003> <3042> endbfchar"},
+        {"UniJIS-UTF16-H", any_two_bytes + "begincidchar <3042> 2 endcidchar"},
+        {"UniJIS-UTF16-V", any_two_bytes + "begincidchar <3042> 3 endcidchar"},
+        {"Broken-One-UCS2", "beginbfchar <0007> x endbfchar"},
+        {"UniGB-UTF16-H", "begincidchar <00> x endcidchar"},
+        {"UniCNS-UTF16-H", any_two_bytes + "begincidchar <3042> 2 endcidchar"}};
+    auto string = [](hayro::Extractor &font) { return hayro::Encoder(font).encode("\u3042"); };
+
+    hayro::Extractor font(hayro::Map::identity(hayro::WritingMode::horizontal));
+    CHECK(!font.find_collection(files) && !string(font));
+    CHECK(!font.find_collection(files, "Adobe-Japan1") && *string(font) == "\0\2"s);
+    CHECK(font.text("\0\1\0\2"s) == "\u3042\u3042");
+    hayro::Extractor vertical(hayro::Map::identity(hayro::WritingMode::vertical));
+    CHECK(!vertical.find_collection(files, "Adobe-Japan1") && *string(vertical) == "\0\3"s);
+    hayro::Extractor given(hayro::Map::identity(hayro::WritingMode::horizontal), {}, map_of(files["Adobe-Japan1-UCS2"]));
+    CHECK(*string(given) == "\0\1"s);
+    // One of the two maps is enough.
+    CHECK(!given.find_collection(files, "Adobe-CNS1") && *string(given) == "\0\2"s);
+    auto refused = given.find_collection(files, "Adobe-GB1");
+    CHECK(refused && refused->reason() == hayro::Reason::cid_expected && *string(given) == "\0\2"s);
+    hayro::Bundle none;
+    CHECK(given.find_collection(none, files, "Broken-One").has_value() && !given.find_predefined_collection("Some-One"));
+
+    // An encoding from Unicode is the map itself.
+    hayro::Extractor from(map_of("/CMapName /UniX-H def " + any_two_bytes + "begincidrange <3042> <3043> 7 endcidrange"));
+    CHECK(!string(from) && !from.find_collection(files) && *string(from) == "\x30\x42");
+}
+
+static void pieces_have_grades() {
+    auto encoding = "begincodespacerange <00> <7F> endcodespacerange begincidrange <41> <5C> 1 endcidrange"s;
+    auto to_unicode = "beginbfchar <41> <00660069> endbfchar"s;
+    auto collection = "beginbfchar <0002> <00E9> <0003> <2F47> <0004> <004B> <001C> <00A5> endbfchar"s;
+    hayro::Extractor font(map_of(encoding), map_of(to_unicode), map_of(collection),
+                          map_of(any_two_bytes + "begincidchar <65E5> 3 endcidchar"));
+    hayro::Encoder encoder(font), exact(font, true);
+    auto pieces = encoder.pieces("fi\u00E9\u65E5\uFE00\u212A\\");
+    const std::tuple<std::size_t, std::uint32_t, hayro::Grade> expected[] = {
+        {2, 1, hayro::Grade::stated}, {2, 1, hayro::Grade::collection}, {3, 1, hayro::Grade::canonical},
+        {3, 0, hayro::Grade::alike},  {3, 1, hayro::Grade::alike},      {1, 1, hayro::Grade::national}};
+    CHECK(pieces && std::equal(pieces->begin(), pieces->end(), std::begin(expected), std::end(expected),
+                               [](const hayro::Piece &piece, const auto &it) {
+                                   return std::tie(piece.text_len, piece.code_len, piece.grade) == it;
+                               }));
+    CHECK(encoder.pieces("")->empty() && !encoder.pieces("fix") && encoder.pieces("fix").offset() == 2);
+    CHECK(encoder.pieces("fi\xFF"s).offset() == 2 && !hayro::Encoder().pieces("f"));
+    CHECK(*exact.encode("fi\u00E9\u2F47") == "ABC" && !exact.encode("\u65E5") && !exact.encode("\\"));
+    CHECK(*encoder.encode("\u65E5\\") == "C\\");
+
+    CHECK(encoder.encode_lossy("xfi", "??") == "??A" && encoder.encode_lossy("xfi", "") == "A");
+    CHECK(throws<std::invalid_argument>([&] { encoder.encode_lossy("fi", "?\x80"s); }));
+    CHECK(throws<std::invalid_argument>([&] { encoder.encode_lossy("\xFF", "\x80"s); }));
+    CHECK(!hayro::Encoder().encode_lossy("fi", "\x80"s));
 }
 
 static void texts_have_strings() {
@@ -568,6 +640,8 @@ int main() {
     strings_are_cut();
     strings_have_texts();
     collections_are_found();
+    glyphs_are_chosen_by_maps_from_unicode();
+    pieces_have_grades();
     texts_have_strings();
     bytes_have_their_lengths();
     layers_are_a_view();

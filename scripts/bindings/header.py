@@ -100,7 +100,7 @@ ENUMS = [
     ("hayro_cmap_reason", {"NO_REASON": "0"}, NUMBERED.format("Reason"), FAULTS, {}),
     ("hayro_cmap_segment", {"NO_SEGMENT": "0"}, NUMBERED.format("Segment"), FAULTS, {"WRITING_MODE": "MODE"}),
     ("hayro_cmap_warning", {}, r"Warning::(?P<name>\w+) => (?P<number>\d+),", LINT, Prefixed("WARNING_")),
-    ("hayro_cmap_grade", {}, r"Grade::(?P<name>\w+) => (?P<number>\d+),", GRADES, {}),
+    ("hayro_cmap_grade", {}, r"Grade::(?P<name>\w+) => (?P<number>\d+),", GRADES, Prefixed("GRADE_")),
     ("hayro_cmap_place", {}, r"Place::(?P<name>\w+).* => (?P<number>\d+),", LINTED, {"FILE": "IN_FILE", **PLACES}),
 ]
 EXPORT = re.compile(

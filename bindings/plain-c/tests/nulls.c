@@ -21,6 +21,7 @@ int main(void) {
     hayro_cmap_character character;
     hayro_cmap_code code;
     hayro_cmap_finding finding;
+    hayro_cmap_piece piece;
     uint8_t room[64];
     uint16_t units[4];
     uint32_t cid = 7;
@@ -38,6 +39,7 @@ int main(void) {
     CHECK(hayro_cmap_cids(&map, 0x41, 1, 0, NULL, 0));
     CHECK(hayro_cmap_encoder_build(&encoder, &map, &other, &(hayro_cmap)HAYRO_CMAP_EMPTY) == HAYRO_CMAP_OK);
     CHECK(hayro_cmap_encode(&encoder, NULL, 0, NULL, 0, &needed, &made) == HAYRO_CMAP_OK && needed == 0);
+    CHECK(hayro_cmap_encode_pieces(&encoder, NULL, 0, NULL, 0, &needed, &made) == HAYRO_CMAP_OK && needed == 0);
     hayro_cmap_file file = {NULL, 0, NULL, 0};
     CHECK(hayro_cmap_parse(&other, data, len, NULL, 0, &file, 1, HAYRO_CMAP_NO_BUDGET) == HAYRO_CMAP_OK);
     hayro_cmap_facts facts = {NULL, 0, NULL, 0, NULL, 0, 0, 0, 0, HAYRO_CMAP_NO_MODE};
@@ -98,9 +100,13 @@ int main(void) {
     IS_ABSENT(hayro_cmap_make(NULL, NULL, 0, room, 64, &needed));
     IS_ABSENT(hayro_cmap_write(NULL, NULL, 0, room, 64, &needed));
     IS_ABSENT(hayro_cmap_encoder_build(NULL, &map, &other, &(hayro_cmap)HAYRO_CMAP_EMPTY));
+    IS_ABSENT(hayro_cmap_encoder_build_with(&twin, &map, &other, &(hayro_cmap)HAYRO_CMAP_EMPTY, NULL, false));
     IS_ABSENT(hayro_cmap_encoder_share(NULL, &twin));
     IS_ABSENT(hayro_cmap_encode(NULL, data, 1, room, 64, &needed, &made));
     IS_ABSENT(hayro_cmap_encode_lossy(&encoder, data, 1, NULL, 1, room, 64, &needed));
+    IS_ABSENT(hayro_cmap_encode_pieces(NULL, data, 1, &piece, 1, &needed, &made));
+    IS_ABSENT(hayro_cmap_encode_pieces(&encoder, data, 1, NULL, 1, &needed, &made));
+    IS_ABSENT(hayro_cmap_unicode_name(NULL, 1, 0, room, 64, &needed));
     IS_ABSENT(hayro_cmap_version(NULL, 64, &needed));
     CHECK(needed == 7 && made == 7 && supplement == 7);
     hayro_cmap_free(NULL);

@@ -1,6 +1,5 @@
 -- What contracts see of an encoder.
-use Rattle.std.specs.Prelude.{◌≡◌, Bool, List, Option, map}
-use Rattle.cmap_values.specs.DeclarationsSeen.{codespace_seen}
+use Rattle.std.specs.Prelude.{◌≡◌, Bool, List, Option}
 use Rattle.cmap_layers.specs.Layers.{Layer}
 use Rattle.cmap_layers.specs.StringCodes.{ranges_of}
 use Rattle.cmap_unicode.specs.TextsOfCodes.{Font}
@@ -12,7 +11,7 @@ use Rattle.cmap_encode.specs.declared.encoder.Encoder.{Encoder}
 pub record IsEncoderOf (maps : Maps) (encoder : Encoder) : Type 0 where
   pub index : IsIndexOf maps encoder.choices.index
   pub exact : encoder.choices.exact ≡ maps.exact
-  pub codespaces : map codespace_seen encoder.codespaces ≡ ranges_of maps.font.encoding
+  pub codespaces : ranges_of encoder.codespaces ≡ ranges_of maps.font.encoding
 
 -- it was built over the maps of a font with this map from Unicode
 pub record IsEncoderFor (font : Font) (unicode : Option (List Layer)) (exact : Bool) (encoder : Encoder) : Type 0 where
