@@ -222,7 +222,7 @@ fn predefined_encoder(folder: &Path, ordering: &str, name: &str) -> Encoder {
     let family = CidFamily::from_registry_ordering(b"Adobe", ordering.as_bytes());
     let unicode = family.unicode_name(WritingMode::Horizontal).unwrap();
     let files = [family.ucs2_name(), unicode].map(|name| {
-        let bytes = read(str::from_utf8(&name).unwrap());
+        let bytes = read(&String::from_utf8(name.clone()).unwrap());
         (name, bytes)
     });
     let get_cmap = |name: CMapName<'_>| {
