@@ -36,12 +36,10 @@ pub extern "C" fn hayro_cmap_encoder_build(
         (record { encoding = layers; to_unicode = to_unicode.old.slot.map; collection = collection.old.slot.map })
         None false encoder.new.slot.encoder result) }
 {
-    encoder.clear(alloc);
-    let Some(layers) = encoding.layers() else {
-        return Status::Absent.number();
-    };
-    let font = font(layers, to_unicode.layers(), collection.layers());
-    encoder.keep(built(alloc, &font, None, false))
+    let mut none = MapHandle::empty(alloc);
+    hayro_cmap_encoder_build_with(
+        encoder, alloc, encoding, to_unicode, collection, &mut none, false,
+    )
 }
 
 /// The same with the map of the font's character collection from Unicode, which may be absent, too; an `exact`

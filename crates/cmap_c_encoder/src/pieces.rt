@@ -31,6 +31,7 @@ pub struct EncodedPiece {
 }
 
 /// Pieces that were made.
+#[derive(Drop)]
 struct Pieces {
     made: Vec<Piece>,
 }

@@ -1,43 +1,39 @@
 //! Strings of whole codes.
 
 ghost use Rattle.std.specs.Prelude.{◌≡◌, ◌↔◌, IfOk, IsTrue, map};
-ghost use Rattle.cmap_layers.specs.LayersSeen.{layers_seen};
-ghost use Rattle.cmap_layers.specs.StringCodes.{ranges_of};
-ghost use Rattle.cmap_values.specs.DeclarationsSeen.{codespace_seen};
-ghost use Rattle.cmap_encode.specs.StringsOfCodes.{AreCodes};
+ghost use Rattle.cmap_layers.specs.LayersSeen.{layer_seen, layers_seen};
+ghost use Rattle.cmap_encode.specs.StringsOfCodes.{AreCodes, only_spaces};
 
 use cmap_layers::layer::Layer;
 use cmap_layers::layers::Layers;
-use cmap_layers::lists::put_first;
-use cmap_values::declarations::{Codespace, Lists};
+use cmap_layers::lists::put_last;
+use cmap_values::declarations::Lists;
 use cmap_values::metadata::Metadata;
 use std::alloc::{AllocError, Global};
 
-/// The codespace ranges of all layers, in one that has nothing else.
+/// Layers with the codespace ranges of these, and with nothing else.
 pub(crate) fn codespaces_of(alloc: Global, encoding: &Layers) -> Result<Layers, AllocError>
-    ensures { IfOk result (λ layers. ranges_of layers ≡ ranges_of encoding.now) }
+    ensures { IfOk result (λ layers. layers ≡ map only_spaces encoding.now) }
+{
+    let mut list = Vec::new(alloc);
+    for layer in encoding.as_slice() {
+        put_last(codespaces_in(alloc, layer), &mut list)?;
+    }
+    Ok(Layers::of(list))
+}
+
+/// The same of one layer.
+fn codespaces_in(alloc: Global, layer: &Layer) -> Result<Layer, AllocError>
+    ensures { IfOk result (λ made. layer_seen made ≡ only_spaces (layer_seen layer.now)) }
 {
     let mut lists = Lists::new(alloc);
-    lists.spaces = all_ranges(alloc, encoding.as_slice())?;
+    lists.spaces = Vec::from_slice(alloc, layer.codespaces())?;
     let metadata = Metadata {
         character_collection: None,
         name: None,
         writing_mode: None,
     };
-    let layers = put_first(Layer::build(alloc, metadata, lists), Vec::new(alloc))?;
-    Ok(Layers::of(layers))
-}
-
-/// The codespace ranges of all layers.
-fn all_ranges(alloc: Global, layers: &[Layer]) -> Result<Vec<Codespace>, AllocError>
-    ensures { IfOk result
-        (λ ranges. map codespace_seen ranges.items ≡ ranges_of (layers_seen layers.now)) }
-{
-    let mut ranges = Vec::new(alloc);
-    for layer in layers {
-        ranges.extend_from_slice(layer.codespaces())?;
-    }
-    Ok(ranges)
+    Layer::build(alloc, metadata, lists)
 }
 
 /// Whether a string is one code in a codespace range after another.

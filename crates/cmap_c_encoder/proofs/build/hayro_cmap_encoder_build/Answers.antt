@@ -1,15 +1,13 @@
-use Rattle.std.proofs.Common.{subst}
-use Rattle.cmap_handles.proofs.HandlesRead.{no_map, of_map}
-use Rattle.cmap_unicode.specs.TextsOfCodes.{Font}
+use Rattle.std.proofs.Common.{◌≡◌, List, MatchOption, Option, None, false, subst}
+use Rattle.cmap_handles.specs.Statuses.{number}
+use Rattle.cmap_handles.specs.declared.status.Status.TheVariants.{Absent}
+use Rattle.cmap_layers.specs.Layers.{Layer}
 use Rattle.cmap_c_encoder.specs.Encoded.{IsBuilt}
-use Rattle.cmap_c_encoder.proofs.StringsPut.{built, of_font}
 use Rattle.cmap_c_encoder.proofs.build.hayro_cmap_encoder_build.Goals as goal
-
-pub returns-in_default-clause-encoder : goal.returns-in_default-clause-encoder
-returns-in_default-clause-encoder c = no_map _ _ _ c.in_default.ensures.map (c.number.ensures, c.clear.ensures)
 
 pub returns-clause-encoder : goal.returns-clause-encoder
 returns-clause-encoder c =
-    let P : Font → Type 0 = λ font. IsBuilt font c.keep.new.self.slot.encoder c.keep.result in
-    of_map _ c.in-Some.layers.now _ _ c.in-Some.ensures.map
-    (of_font P _ _ _ _ _ c.layers-2.ensures.map c.layers-3.ensures.map (subst P c.font-font.ensures (built _ c.built.result _ _ _ c.built.ensures c.keep.ensures)))
+    let call = c.hayro_cmap_encoder_build_with in let now = call.new.encoder.slot.encoder in
+    let P : Option (List Layer) → Type 0 = λ unicode. MatchOption c.args.encoding.now.slot.map ((call.result ≡ number Absent) × (now ≡ None))
+        (λ layers. IsBuilt (record { encoding = layers; to_unicode = c.args.to_unicode.now.slot.map; collection = c.args.collection.now.slot.map }) unicode false now call.result) in
+    subst P c.empty-none.ensures call.ensures.encoder
