@@ -857,7 +857,8 @@ public:
 
     explicit operator bool() const noexcept { return std::holds_alternative<Value>(either_); }
     const Value &operator*() const & noexcept { return *std::get_if<Value>(&either_); }
-    Value &&operator*() && noexcept { return std::move(*std::get_if<Value>(&either_)); }
+    // By value, so that a loop may go over it.
+    Value operator*() && noexcept { return std::move(*std::get_if<Value>(&either_)); }
     const Value *operator->() const noexcept { return std::get_if<Value>(&either_); }
 
     // In bytes: the longest prefix of the text that can be encoded ends there; of a text that isn't UTF-8,

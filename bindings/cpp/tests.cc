@@ -311,6 +311,7 @@ static void pieces_have_grades() {
                                [](const hayro::Piece &piece, const auto &it) {
                                    return std::tie(piece.text_len, piece.code_len, piece.grade) == it;
                                }));
+    for (const auto &piece : *encoder.pieces("fifi")) CHECK(piece.text_len == 2);
     CHECK(encoder.pieces("")->empty() && !encoder.pieces("fix") && encoder.pieces("fix").offset() == 2);
     CHECK(encoder.pieces("fi\xFF"s).offset() == 2 && !hayro::Encoder().pieces("f"));
     CHECK(*exact.encode("fi\u00E9\u2F47") == "ABC" && !exact.encode("\u65E5") && !exact.encode("\\"));

@@ -28,6 +28,7 @@ OF_RUST = {
     "RawCode": "hayro_cmap_code",
     "RawCharacter": "hayro_cmap_character",
     "RawExtracted": "hayro_cmap_extracted",
+    "RawPiece": "hayro_cmap_piece",
     "RawFault": "hayro_cmap_fault",
     "RawFinding": "hayro_cmap_finding",
     "Codespace": "hayro_cmap_codespace",
@@ -47,6 +48,7 @@ RUST_STRUCTS = {
     "RawCode": "hayro_cmap_code",
     "RawCharacter": "hayro_cmap_character",
     "RawExtracted": "hayro_cmap_extracted",
+    "RawPiece": "hayro_cmap_piece",
     "RawFault": "hayro_cmap_fault",
     "RawFinding": "hayro_cmap_finding",
     "Codespace": "hayro_cmap_codespace",
@@ -62,6 +64,7 @@ PYTHON_STRUCTS = {
     "CodeInString": "hayro_cmap_code",
     "CharacterInString": "hayro_cmap_character",
     "Extracted": "hayro_cmap_extracted",
+    "EncodedPiece": "hayro_cmap_piece",
     "Fault": "hayro_cmap_fault",
     "Found": "hayro_cmap_finding",
     "CodespaceRange": "hayro_cmap_codespace",
@@ -100,7 +103,7 @@ def rust_calls():
 def rust_fields(struct):
     """The fields of a struct of Rust that is laid out as C does."""
     text = "\n".join(path.read_text() for path in sorted(RUST.glob("*.rs")))
-    head = rf"#\[repr\(C\)\]\n(?:#\[.*\]\n)*(?:pub(?:\(crate\))? )?struct {re.escape(struct)} \{{\n(.*?)^\}}"
+    head = rf"#\[repr\(C\)\]\n(?:#\[[^\n]*\]\n)*(?:pub(?:\(crate\))? )?struct {re.escape(struct)} \{{\n(.*?)^\}}"
     return [rust_in_c(*pair) for pair in pairs(re.search(head, text, re.M | re.S)[1])]
 
 

@@ -1,8 +1,10 @@
 """The examples that decode a string, in C, C++, Rust and Python; those of a bundle, of threads, of declarations and of
-files that are written, in C; and those that make a ToUnicode CMap, which pdftotext reads in a PDF file."""
+files that are written, in C; those that make a ToUnicode CMap, which pdftotext reads in a PDF file; and the one that
+fills a form, in Python."""
 
 from composite_font import pdf
 
+from . import forms
 from .checks import needs, run
 from .known import (
     DECLARED,
@@ -21,6 +23,7 @@ from .known import (
     to_unicode_file,
 )
 from .library import EXAMPLES, HELGRIND, MEMCHECK
+from .suites import python_with_pikepdf
 
 NATIVE = {"C": EXAMPLES / "decode.c", "C++": EXAMPLES / "decode.cc"}
 BUNDLE = EXAMPLES / "bundle.c"
@@ -264,6 +267,24 @@ def test_python_encodes_texts(checks, setting):
     """The example, over the package as pip installs it."""
     command = [setting.package.python, EXAMPLES / "encode.py"]
     check_strings_of_texts(checks, setting, command, **setting.package.installed())
+
+
+@needs("pdftotext")
+def test_python_fills_a_form(checks, setting):
+    """Each field has its text by pdftotext, and the codes of the glyphs that its collection means."""
+    python = python_with_pikepdf()
+    if python is None or not has_debian_files():
+        print("skipped: python fills a form, for lack of pikepdf or poppler-data", flush=True)
+        return
+    environment, path = setting.package.in_project(), setting.work / "filled.pdf"
+    command = [python, EXAMPLES / "fill_form.py", setting.once(forms.form_file), path]
+    checks.ended("a form is filled", run(*command, *forms.words(), **environment), "")
+    checks.ended("its values and strings", run(python, "-c", forms.LISTING, path), forms.listed())
+    ran = run("pdftotext", "-raw", "-enc", "UTF-8", "-nopgbrk", path, "-")
+    checks.ended("its text by pdftotext", ran, "".join(f"{text}\n" for _, _, text, _ in forms.FIELDS))
+    ran = run(*command, "0=あ한", **environment)
+    checks.ended("a text without a string", ran, "", status=1)
+    checks.same("what is said of it", ran.err, "한: no string shows this\n")
 
 
 @needs("gcc", "valgrind")

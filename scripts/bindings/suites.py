@@ -70,6 +70,10 @@ class Package:
         """The variable that names the library."""
         return {"HAYRO_CMAP_LIBRARY": str(self.library.shared), "PYTHONIOENCODING": "utf-8"}
 
+    def in_project(self):
+        """The variables by which any Python finds the package as it stands in the project, and this the library."""
+        return {**self.over_library(), "PYTHONPATH": str(PACKAGE), "PYTHONDONTWRITEBYTECODE": "1"}
+
     def installed(self):
         """The variables by which Python finds the package that pip has installed, and this the library in it."""
         return {"HAYRO_CMAP_LIBRARY": "", "PYTHONPATH": str(self.folder()), "PYTHONIOENCODING": "utf-8"}
@@ -188,8 +192,7 @@ def test_python_pdf_suite(checks, setting):
     if python is None:
         print("skipped: the tests over PDF files, for lack of pikepdf (Debian's python3-pikepdf)", flush=True)
         return
-    environment = {**setting.package.over_library(), "PYTHONPATH": str(PACKAGE), "PYTHONDONTWRITEBYTECODE": "1"}
-    ran = run(python, "-m", "unittest", folder=PACKAGE / "pdf_tests", **environment)
+    ran = run(python, "-m", "unittest", folder=PACKAGE / "pdf_tests", **setting.package.in_project())
     found = re.search(r"^Ran ([1-9]\d*) tests", ran.err, re.M)
     checks.holds("unittest, over PDF files", ran.status == 0 and found, ran)
     skipped = re.search(r"skipped=(\d+)", ran.err)

@@ -13,7 +13,7 @@ BY_HAND = TOP / "bindings" / "plain-rust"
 SHARED = TOP / "bindings" / "rust"
 SHARED_SOURCES = [
     *("builder", "collection", "encode_error", "extractor", "finding", "metadata"),
-    *("opening", "options", "predefined", "reason"),
+    *("opening", "options", "piece", "predefined", "reason"),
 ]
 LICENSES = ["LICENSE-APACHE", "LICENSE-MIT"]
 README = "README.md"

@@ -83,7 +83,7 @@ impl Collection {
 }
 
 impl WritingMode {
-    fn reader(self) -> reader::WritingMode {
+    pub(crate) fn reader(self) -> reader::WritingMode {
         match self {
             WritingMode::Horizontal => reader::WritingMode::Horizontal,
             WritingMode::Vertical => reader::WritingMode::Vertical,

@@ -4,7 +4,9 @@ use crate::encode_error::EncodeError;
 use crate::extractor::Extractor;
 use crate::fallible::alloc::{AllocError, Global};
 use crate::made;
-use crate::reader::{self, Fault};
+use crate::map::CMap;
+use crate::piece::{Grade, Piece};
+use crate::reader::{self, Fault, Unencodable};
 use alloc::sync::Arc;
 use alloc::vec::Vec;
 use core::fmt::{self, Debug, Formatter};
@@ -30,7 +32,27 @@ impl Extractor {
     /// # Ok::<(), hayro_cmap::EncodeError>(())
     /// ```
     pub fn encoder(&self) -> Encoder {
-        let encoder = made(reader::Encoder::build(Global, &self.reader()));
+        self.built(false)
+    }
+
+    /// The encoder of the font for strings that are read back as their texts: only those codes stand for a
+    /// piece whose text is the piece, and nothing stands for a variation selector.
+    ///
+    /// ```
+    /// use hayro_cmap::{CMap, Extractor};
+    ///
+    /// let font = Extractor::simple(CMap::parse(b"beginbfchar <20> <00A0> endbfchar", |_| None));
+    /// assert_eq!(font.encoder().encode(" ")?, b" ");
+    /// assert_eq!(font.exact_encoder().encode(" ").unwrap_err().offset, 0);
+    /// # Ok::<(), hayro_cmap::EncodeError>(())
+    /// ```
+    pub fn exact_encoder(&self) -> Encoder {
+        self.built(true)
+    }
+
+    fn built(&self, exact: bool) -> Encoder {
+        let unicode = self.unicode.as_ref().map(CMap::reader_layers);
+        let encoder = made(reader::Encoder::build_with(Global, &self.reader(), unicode, exact));
         Encoder { held: Arc::new(encoder) }
     }
 }
@@ -38,15 +60,25 @@ impl Extractor {
 impl Encoder {
     /// The string of a text: the codes of its pieces. A piece is a letter, a character and the marks after
     /// it, if that has a code and the rest can be encoded; else less of the letter, and at last more than
-    /// it. A piece has the code, in a codespace range and of no notdef, of which it is the text, of several
-    /// the shortest, and of these the least. A character without one has that of a character that looks or
-    /// means the same, and a variation selector no bytes.
+    /// it. The code of a piece lies in a codespace range, has no notdef, and is the first one by its
+    /// [`Grade`]; of several that of the character itself in the form of the map from Unicode, then the
+    /// shortest, then the least.
     pub fn encode(&self, text: &str) -> Result<Vec<u8>, EncodeError> {
-        match self.held.encode(Global, text) {
-            Ok(string) => Ok(string.to_vec()),
-            Err(Fault::Refused(refused)) => Err(EncodeError { offset: refused.offset }),
-            Err(Fault::Memory) => made(Err(AllocError)),
-        }
+        Ok(encoded(self.held.encode(Global, text))?.to_vec())
+    }
+
+    /// The pieces of a text, whose codes [`Encoder::encode`] gives one after another.
+    ///
+    /// ```
+    /// use hayro_cmap::{CMap, Extractor, Grade};
+    ///
+    /// let to_unicode = CMap::parse(b"beginbfchar <41> <0061> <2D> <2010> endbfchar", |_| None);
+    /// let pieces = Extractor::simple(to_unicode).encoder().pieces("a-")?;
+    /// assert_eq!(pieces.iter().map(|it| it.grade).collect::<Vec<_>>(), [Grade::Stated, Grade::Alike]);
+    /// # Ok::<(), hayro_cmap::EncodeError>(())
+    /// ```
+    pub fn pieces(&self, text: &str) -> Result<Vec<Piece>, EncodeError> {
+        Ok(encoded(self.held.pieces(Global, text))?.iter().map(Piece::of).collect())
     }
 
     /// The same as far as the text can be encoded: the string of its longest prefix that can be, then
@@ -58,8 +90,47 @@ impl Encoder {
     /// let to_unicode = CMap::parse(b"beginbfrange <20> <7E> <0020> endbfrange", |_| None);
     /// assert_eq!(Extractor::simple(to_unicode).encoder().encode_lossy("cafés", b"?"), b"caf?s");
     /// ```
+    ///
+    /// # Panics
+    ///
+    /// Where `missing` isn't whole codes of the font ([`Encoder::are_codes`]): the bytes after it would be
+    /// other codes.
     pub fn encode_lossy(&self, text: &str, missing: &[u8]) -> Vec<u8> {
+        assert!(self.are_codes(missing), "{missing:02X?}: these bytes aren't whole codes of the font");
         made(self.held.encode_lossy(Global, text, missing)).to_vec()
+    }
+
+    /// Whether a string is whole codes of the font, one after another, or empty.
+    pub fn are_codes(&self, string: &[u8]) -> bool {
+        self.held.are_codes(string)
+    }
+}
+
+/// What a text has, unless it is refused.
+fn encoded<T>(found: Result<T, Fault<Unencodable>>) -> Result<T, EncodeError> {
+    match found {
+        Ok(found) => Ok(found),
+        Err(Fault::Refused(refused)) => Err(EncodeError { offset: refused.offset }),
+        Err(Fault::Memory) => made(Err(AllocError)),
+    }
+}
+
+impl Piece {
+    fn of(piece: &reader::Piece) -> Piece {
+        let reader::Piece { text_len, code_len, grade } = *piece;
+        Piece { text_len, code_len, grade: Grade::of(grade) }
+    }
+}
+
+impl Grade {
+    fn of(grade: reader::Grade) -> Grade {
+        match grade {
+            reader::Grade::Stated => Grade::Stated,
+            reader::Grade::Canonical => Grade::Canonical,
+            reader::Grade::Collection => Grade::Collection,
+            reader::Grade::Alike => Grade::Alike,
+            reader::Grade::National => Grade::National,
+        }
     }
 }
 

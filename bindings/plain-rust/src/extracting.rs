@@ -4,6 +4,7 @@ use crate::extractor::{Character, Extractor};
 use crate::fallible::alloc::Global;
 use crate::made;
 use crate::map::{CMap, StringCode};
+use crate::metadata::WritingMode;
 use crate::reader;
 use crate::text::BfString;
 use alloc::vec::Vec;
@@ -23,6 +24,11 @@ impl Extractor {
             collection: self.collection.as_ref().map(CMap::reader_layers),
         }
     }
+}
+
+/// The name of the CMap from Unicode to the CIDs of a character collection, as Adobe-Japan1.
+pub(crate) fn unicode_name(collection: &[u8], mode: WritingMode) -> Option<Vec<u8>> {
+    Some(reader::unicode_name(collection, mode.reader())?.to_vec())
 }
 
 impl Character {

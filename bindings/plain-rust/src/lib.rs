@@ -25,6 +25,7 @@ mod map;
 mod metadata;
 mod opening;
 mod options;
+mod piece;
 #[cfg(feature = "std")]
 mod predefined;
 // Proofs read some arguments alone, other crates of the project use some items, and the style is that of the sources.
@@ -47,6 +48,7 @@ pub use finding::{Finding, Place, Warning};
 pub use map::{CMap, CidRange, Codespace, Layer, StringCode, TextRange};
 pub use metadata::{Metadata, WritingMode};
 pub use options::{ParseOptions, Salvaged};
+pub use piece::{Grade, Piece};
 #[cfg(feature = "std")]
 pub use predefined::{OpenError, predefined_file};
 pub use reader::{CMapName, Cid};

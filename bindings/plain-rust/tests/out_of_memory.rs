@@ -128,11 +128,13 @@ fn encodings_report_it() {
     let map = CMap::parse_from(Global, None, TOP, None, &files()).expect("it is in the grammar");
     let layers = map.layers();
     let font = Extractor { encoding: layers, to_unicode: Some(layers), collection: None };
-    let build = || Encoder::build(Global, &font);
+    let build = || Encoder::build_with(Global, &font, Some(layers), false);
     assert!(refuse_each(build, |AllocError| true) > 10);
-    let encoder = build().expect("there is memory");
+    let encoder = Encoder::build(Global, &font).expect("there is memory");
     let encode = || encoder.encode(Global, "ABCDEF");
     assert!(refuse_each(encode, |fault| matches!(fault, Fault::Memory)) > 2);
+    let pieces = || encoder.pieces(Global, "ABCDEF");
+    assert!(refuse_each(pieces, |fault| matches!(fault, Fault::Memory)) > 2);
     let lossy = || encoder.encode_lossy(Global, "AxB", b"?");
     assert!(refuse_each(lossy, |AllocError| true) > 2);
     let refused = encoder.encode(Global, "ABx").err();

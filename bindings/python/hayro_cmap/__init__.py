@@ -15,6 +15,7 @@ environment variable HAYRO_CMAP_LIBRARY, else the file in this package's folder,
 
 from ._bundle import Bundle
 from ._effective import TextRun
+from ._encoder import Grade, Piece
 from ._extractor import Character, Extractor
 from ._faults import Cause, NotABundle, NotWritable, Reason, Refused, Segment, Unencodable
 from ._folder import folder
@@ -37,10 +38,12 @@ __all__ = [
     "Codespace",
     "Extractor",
     "Finding",
+    "Grade",
     "Layer",
     "Metadata",
     "NotABundle",
     "NotWritable",
+    "Piece",
     "Reason",
     "Refused",
     "Salvaged",

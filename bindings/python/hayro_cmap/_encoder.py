@@ -1,15 +1,43 @@
 """The strings of texts."""
 
+import enum
 from ctypes import c_size_t
-from typing import Optional
+from typing import List, NamedTuple, Optional
 
 from ._faults import Unencodable
-from ._library import Handle
+from ._library import NO_ROOM, OK, EncodedPiece, Handle
 from ._map import CMap
 from ._owned import Owned, checked, library, put
 
 #: How many bytes a string has at first, for each byte of the text: codes have one or two, mostly.
 ROOM_EACH = 2
+
+
+class Grade(enum.IntEnum):
+    """How well a code stands for a piece of a text, the best grade first."""
+
+    STATED = 0
+    """The ToUnicode CMap has the piece as the text of the code."""
+    CANONICAL = 1
+    """The code has the CID that the map from Unicode gives to the character."""
+    COLLECTION = 2
+    """The collection's map to Unicode has the piece as the text of the code's CID."""
+    ALIKE = 3
+    """The code shows a text that looks or means the same; or nothing stands for a variation selector."""
+    NATIONAL = 4
+    """The code is the byte of a character of ASCII that a national version of ISO 646 shows otherwise, as a backslash
+    where it has U+00A5."""
+
+
+class Piece(NamedTuple):
+    """A piece of a text that is encoded."""
+
+    #: Its characters.
+    text: str
+    #: The bytes of its code; none for a variation selector for which nothing stands.
+    code: bytes
+    #: How well the code stands for it.
+    grade: Grade
 
 
 class Encoder(Owned):
@@ -18,27 +46,65 @@ class Encoder(Owned):
     _what = "the extractor"
     _free = staticmethod(library.hayro_cmap_encoder_free)
 
-    def __init__(self, encoding: CMap, to_unicode: CMap, collection: CMap):
+    def __init__(self, encoding: CMap, to_unicode: CMap, collection: CMap, unicode: CMap, exact: bool):
         encoder = Handle()
         with encoding._held() as codes, to_unicode._held() as texts, collection._held() as texts_of_cids:
-            checked(library.hayro_cmap_encoder_build(encoder, codes, texts, texts_of_cids))
+            with unicode._held() as cids_of_characters:
+                maps = (codes, texts, texts_of_cids, cids_of_characters)
+                checked(library.hayro_cmap_encoder_build_with(encoder, *maps, exact))
         super().__init__(encoder)
 
-    def encode(self, text: str, missing: Optional[bytes]) -> bytes:
-        """The string that shows a text, with `missing`, if that isn't None, where none does."""
-        try:
-            data = str.encode(text)
-        except UnicodeEncodeError as fault:
-            raise Unencodable(text, fault.start) from None
-        offset = c_size_t()
+    def encode(self, text: str) -> bytes:
+        """The string that shows a text."""
+        data, offset = utf8_of(text), c_size_t()
         with self._held() as encoder:
-
-            def call(*room):
-                if missing is None:
-                    return library.hayro_cmap_encode(encoder, data, len(data), *room, offset)
-                return library.hayro_cmap_encode_lossy(encoder, data, len(data), missing, len(missing), *room)
-
-            string = put(call, room_len=ROOM_EACH * len(data))
+            string = put(
+                lambda *room: library.hayro_cmap_encode(encoder, data, len(data), *room, offset),
+                room_len=ROOM_EACH * len(data),
+            )
         if string is None:
-            raise Unencodable(text, len(data[: offset.value].decode()))
+            raise unencodable(text, data, offset)
         return string
+
+    def encode_lossy(self, text: str, missing: bytes) -> bytes:
+        """The same with `missing` for each character that no string shows."""
+        data = utf8_of(text)
+        arguments = (data, len(data), missing, len(missing))
+        with self._held() as encoder:
+            string = put(library.hayro_cmap_encode_lossy, encoder, *arguments, room_len=ROOM_EACH * len(data))
+        if string is None:
+            raise ValueError(f"missing is {missing!r}, which isn't whole codes of the font")
+        return string
+
+    def pieces(self, text: str) -> List[Piece]:
+        """The pieces of a text, whose codes `encode` gives one after another."""
+        data, string, made, start, end = utf8_of(text), self.encode(text), [], 0, 0
+        for piece in self._pieces(text, data):
+            characters = data[start : start + piece.text_len].decode()
+            made.append(Piece(characters, string[end : end + piece.code_len], Grade(piece.grade)))
+            start, end = start + piece.text_len, end + piece.code_len
+        return made
+
+    def _pieces(self, text: str, data: bytes) -> List[EncodedPiece]:
+        """The lengths of the pieces of a text, whose bytes are `data`."""
+        needed, offset, status = c_size_t(len(text)), c_size_t(), NO_ROOM
+        while status == NO_ROOM:
+            room = (EncodedPiece * needed.value)()
+            arguments = (data, len(data), room, len(room), needed, offset)
+            status = checked(self._ask(library.hayro_cmap_encode_pieces, *arguments))
+        if status != OK:
+            raise unencodable(text, data, offset)
+        return room[: needed.value]
+
+
+def utf8_of(text: str) -> bytes:
+    """The bytes of a text. Unencodable where it has a lone surrogate."""
+    try:
+        return str.encode(text)
+    except UnicodeEncodeError as fault:
+        raise Unencodable(text, fault.start) from None
+
+
+def unencodable(text: str, data: bytes, offset: c_size_t) -> Unencodable:
+    """That a text is refused at an offset of its bytes, which are `data`."""
+    return Unencodable(text, len(data[: offset.value].decode()))

@@ -2,11 +2,11 @@
 
 import functools
 import itertools
-from typing import Any, Callable, Dict, Iterable, Iterator, List, NamedTuple, Optional, Tuple
+from typing import Any, Callable, Dict, Iterable, Iterator, List, NamedTuple, Optional, Tuple, Union
 
 from ._bundle import Bundle
 from ._candidates import candidates
-from ._encoder import Encoder
+from ._encoder import Encoder, Piece
 from ._library import NO_ROOM, Handle
 from ._map import CODE, CMap, Code, code_of_fields
 from ._reading import Files
@@ -36,12 +36,16 @@ class Character(NamedTuple):
 
 
 class Extractor:
-    """The maps of a font, by which the texts of its strings are found (ISO 32000-1, 9.10.2).
+    """The maps of a font, by which the texts of its strings are found (ISO 32000-1, 9.10.2), and the strings of texts.
 
-    `encoding` is the font's CMap, `to_unicode` its ToUnicode CMap, and `collection` a map from the CIDs of its character
-    collection to Unicode, as Adobe-Japan1-UCS2. Without that one but with `files` or a `bundle`, it is looked for there,
-    as `CMap.collection` of the encoding does: `Extractor(cmap, files=hayro_cmap.predefined)`. A simple font has no
-    CMap, and codes of one byte: of it `encoding` is None.
+    `encoding` is the font's CMap, `to_unicode` its ToUnicode CMap, `collection` a map from the CIDs of its character
+    collection to Unicode, as Adobe-Japan1-UCS2, and `unicode` one from Unicode to them, as UniJIS-UTF16-H, by which
+    `encode` has the glyphs that the collection means. Without the last two but with `files` or a `bundle`, they are
+    looked for there, as `CMap.collection` and `CMap.unicode` of the encoding do: `Extractor(cmap,
+    files=hayro_cmap.predefined)`. In place of a map `collection` may be the name of the collection, as "Adobe-Japan1":
+    Identity-H names none, and an embedded CMap may name another than the font does.
+
+    A simple font has no CMap, and codes of one byte: of it `encoding` is None.
 
     The maps are shared, so that they may be closed or used elsewhere; they are freed by `close`, by `with`, or with the
     last reference. Several threads may use one extractor at the same time.
@@ -51,19 +55,26 @@ class Extractor:
         self,
         encoding: Optional[CMap],
         to_unicode: Optional[CMap] = None,
-        collection: Optional[CMap] = None,
+        collection: Union[CMap, str, None] = None,
         files: Optional[Files] = None,
         bundle: Optional[Bundle] = None,
+        unicode: Optional[CMap] = None,
     ):
-        for cmap in (encoding, to_unicode, collection):
+        name = collection if isinstance(collection, str) else None
+        cids = None if isinstance(collection, str) else collection
+        for cmap in (encoding, to_unicode, cids, unicode):
             if not isinstance(cmap, (CMap, type(None))):
                 raise TypeError(f"an Extractor is made of CMaps, and not of {type(cmap).__name__}")
         if encoding is None:
             encoding = single_bytes()
-        if collection is None and (files is not None or bundle is not None):
-            collection = encoding.collection(files, bundle)
-        maps = (encoding, to_unicode, collection)
+        if files is not None or bundle is not None:
+            cids = encoding.collection(files, bundle, name) if cids is None else cids
+            unicode = encoding.unicode(files, bundle, name) if unicode is None else unicode
+        elif name is not None:
+            raise TypeError("files or a bundle are needed for the name of a collection")
+        maps = (encoding, to_unicode, cids, unicode)
         self._maps = [CMap(Handle()) if cmap is None else cmap.share() for cmap in maps]
+        self._encoders: Dict[bool, Encoder] = {}
         self._rooms: List[Room] = []
         self._known: Dict[bytes, Character] = {}
 
@@ -92,7 +103,7 @@ class Extractor:
         try:
             room = rooms.pop()
         except IndexError:
-            room = Room(self._maps, max(len(string), KEPT_ROOM))
+            room = Room(self._maps[:3], max(len(string), KEPT_ROOM))
         try:
             while status == NO_ROOM:
                 status = room.fill(string)
@@ -113,25 +124,35 @@ class Extractor:
             for code, has_text, start, text_len in room.characters()
         ]
 
-    def encode(self, text: str, missing: Optional[Buffer] = None) -> bytes:
-        """The string of a text: the codes of its pieces. A piece is a letter, a character and the marks after it, if that
-        has a code and the rest can be encoded; else less of the letter, and at last more than it. A piece has the code, in
-        a codespace range and of no notdef, of which it is the text, of several the shortest, and of these the least. A
-        character without one has that of a character that looks or means the same, and a variation selector no bytes.
+    def encode(self, text: str, missing: Optional[Buffer] = None, exact: bool = False) -> bytes:
+        """The string of a text: the codes of its pieces. A piece is a letter, a character and the marks after it, if
+        that has a code and the rest can be encoded; else less of the letter, and at last more than it. The code of a
+        piece lies in a codespace range, has no notdef, and is the first one by its `Grade`; of several that of the
+        character itself in the form of the map from Unicode, then the shortest, then the least. With `exact` only those
+        codes stand for a piece whose text is the piece, so that the string is read back as the text, and nothing stands
+        for a variation selector.
 
-        A text that has no such pieces is Unencodable. But where `missing` is given, as b"\\x00\\x3f" for a question mark,
-        the string is that of the longest prefix that has them, then these bytes for the character after it, then what is
-        left of the text likewise.
+        A text that has no such pieces is Unencodable. But where `missing` is given, as b"\\x00\\x3f" for a question
+        mark, the string is that of the longest prefix that has them, then these bytes for the character after it, then
+        what is left of the text likewise. ValueError where they aren't whole codes of the font: the bytes after them
+        would be other codes.
 
         What is needed for it is made of all codes of the font when it is first called, and kept.
         """
+        encoder = self._encoder(text, exact)
+        return encoder.encode(text) if missing is None else encoder.encode_lossy(text, bytes_of(missing))
+
+    def pieces(self, text: str, exact: bool = False) -> List[Piece]:
+        """The pieces of a text, whose codes `encode` gives one after another, each with its code and how well that
+        stands for it."""
+        return self._encoder(text, exact).pieces(text)
+
+    def _encoder(self, text, exact):
+        """The encoder for a text, which is made when it is first asked for."""
         if not isinstance(text, str):
             raise TypeError(f"a text is encoded, and not {type(text).__name__}")
-        return self._encoder.encode(text, None if missing is None else bytes_of(missing))
-
-    @functools.cached_property
-    def _encoder(self):
-        return Encoder(*self._maps)
+        exact = bool(exact)
+        return self._encoders.get(exact) or self._encoders.setdefault(exact, Encoder(*self._maps, exact))
 
     def items(self) -> Iterator[Tuple[bytes, str]]:
         """Each code in a codespace range that has a text: its bytes, and the text that `characters` gives. So
@@ -140,7 +161,7 @@ class Extractor:
         They come in the order of their lengths, then of their bytes, and are looked for one after another: of a font
         with 2^32 codes `itertools.islice` takes some.
         """
-        codes = candidates(*self._maps)
+        codes = candidates(*self._maps[:3])
         for chunk in iter(lambda: list(itertools.islice(codes, CHUNK)), []):
             for code, found in zip(chunk, self.characters_of(chunk)):
                 # the bytes may begin with a shorter code
@@ -170,8 +191,8 @@ class Extractor:
             cmap.close()
         # no room is made any more, and those in use are freed when their calls end
         self._rooms = []
-        encoder = self.__dict__.pop("_encoder", None)
-        if encoder is not None:
+        encoders, self._encoders = self._encoders, {}
+        for encoder in encoders.values():
             encoder.close()
 
     def __enter__(self) -> "Extractor":

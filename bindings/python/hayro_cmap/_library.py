@@ -80,6 +80,12 @@ class Extracted(Structure):
     _fields_ = [("made", c_size_t), ("taken", c_size_t), ("used", c_size_t)]
 
 
+class EncodedPiece(Structure):
+    """A hayro_cmap_piece."""
+
+    _fields_ = [("text_len", c_size_t), ("code_len", c_uint32), ("grade", c_uint32)]
+
+
 class CodespaceRange(Structure):
     """A hayro_cmap_codespace."""
 
@@ -191,7 +197,8 @@ CALLS = {
     "hayro_cmap_decode": (c_int, [HANDLE, *DATA, POINTER(CodeInString), c_size_t, SIZE, SIZE]),
     "hayro_cmap_encode": (c_int, [HANDLE, *DATA, *ROOM, SIZE]),
     "hayro_cmap_encode_lossy": (c_int, [HANDLE, *DATA, *DATA, *ROOM]),
-    "hayro_cmap_encoder_build": (c_int, [HANDLE, HANDLE, HANDLE, HANDLE]),
+    "hayro_cmap_encode_pieces": (c_int, [HANDLE, *DATA, POINTER(EncodedPiece), c_size_t, SIZE, SIZE]),
+    "hayro_cmap_encoder_build_with": (c_int, [HANDLE, HANDLE, HANDLE, HANDLE, HANDLE, c_bool]),
     "hayro_cmap_encoder_free": (None, [HANDLE]),
     "hayro_cmap_encoder_share": (c_int, [HANDLE, HANDLE]),
     "hayro_cmap_explain": (c_int, [HANDLE, *DATA, *OVER_FILES, POINTER(Fault), *ROOM]),
@@ -217,6 +224,7 @@ CALLS = {
     "hayro_cmap_text": (c_int, [HANDLE, c_uint32, *ROOM]),
     "hayro_cmap_text_ranges": (c_int, [HANDLE, c_size_t, POINTER(DeclaredTexts), c_size_t, SIZE]),
     "hayro_cmap_text_units": (c_int, [HANDLE, c_size_t, c_size_t, POINTER(c_uint16), c_size_t, SIZE]),
+    "hayro_cmap_unicode_name": (c_int, [*DATA, c_uint32, *ROOM]),
     "hayro_cmap_uses": (c_int, [*DATA, HANDLE, SIZE, c_size_t, SIZE, *ROOM]),
     "hayro_cmap_version": (c_int, ROOM),
     "hayro_cmap_warning_name": (c_int, [c_uint32, *ROOM]),

@@ -376,15 +376,38 @@ class CMap(Owned):
             raise NotWritable("no one CMap file answers as the map does")
         return text
 
-    def collection(self, files: Optional[Files] = None, bundle: Optional[Bundle] = None) -> Optional["CMap"]:
-        """The map from the CIDs of the character collection to Unicode, as Adobe-Japan1-UCS2 (ISO 32000-1, 9.10.2), by
-        the first layer that gives a collection. None where no layer does, or no file has the name; the parameters are
-        those of `open`."""
-        for layer in self.layers:
-            it = layer.metadata
-            if it.registry is not None and it.ordering is not None:
-                return opened_or_none(b"%b-%b-UCS2" % (it.registry, it.ordering), files, bundle)
-        return None
+    def collection(
+        self, files: Optional[Files] = None, bundle: Optional[Bundle] = None, name: Optional[Name] = None
+    ) -> Optional["CMap"]:
+        """The map from the CIDs of the character collection to Unicode, as Adobe-Japan1-UCS2 (ISO 32000-1, 9.10.2).
+
+        `name` is that of the collection, as Adobe-Japan1; by default it is that of the first layer that gives one. None
+        where no layer does, or no file has the name of the map; `files` and `bundle` are those of `open`."""
+        named = self._collection_name(name)
+        return None if named is None else opened_or_none(named + b"-UCS2", files, bundle)
+
+    def unicode(
+        self, files: Optional[Files] = None, bundle: Optional[Bundle] = None, name: Optional[Name] = None
+    ) -> Optional["CMap"]:
+        """The map from Unicode to the CIDs of the character collection, as UniJIS-UTF16-H, or UniJIS-UTF16-V where the
+        file gives vertical writing. Another handle of this map, if the file's own name begins with Uni.
+
+        None where the collection has none: only Japan1, GB1, CNS1, Korea1, KR and Japan2 of Adobe have one. The
+        parameters are those of `collection`."""
+        it = self.metadata
+        if it.name is not None and it.name.startswith(b"Uni"):
+            return self.share()
+        named = self._collection_name(name)
+        asked = None if named is None else unicode_name(named, it.writing_mode or WritingMode.HORIZONTAL)
+        return None if asked is None else opened_or_none(asked, files, bundle)
+
+    def _collection_name(self, name: Optional[Name]) -> Optional[bytes]:
+        """The name of the character collection, as Adobe-Japan1: this one, if it is given."""
+        if name is not None:
+            return name_of(name)
+        said = (layer.metadata for layer in self.layers)
+        found = ((it.registry, it.ordering) for it in said if it.registry is not None and it.ordering is not None)
+        return next((b"%b-%b" % it for it in found), None)
 
     @property
     def metadata(self) -> Metadata:
@@ -478,6 +501,11 @@ def codespace_of(given):
     low, high, byte_len = given
     most = 256 ** code_length(byte_len) - 1
     return Codespace(number(low, 0, most, "the low code"), number(high, 0, most, "the high code"), byte_len)
+
+
+def unicode_name(collection: bytes, mode: WritingMode) -> Optional[bytes]:
+    """The name of the CMap from Unicode to the CIDs of a character collection, as Adobe-Japan1, or None."""
+    return put(library.hayro_cmap_unicode_name, collection, len(collection), mode)
 
 
 def opened_or_none(name, files, bundle):

@@ -12,7 +12,7 @@ from concurrent.futures import ThreadPoolExecutor
 from pathlib import Path
 
 import hayro_cmap
-from hayro_cmap import CMap, Code, Extractor, Refused, Unencodable, to_unicode
+from hayro_cmap import CMap, Code, Extractor, Grade, Piece, Refused, Unencodable, to_unicode
 from hayro_cmap._room import Room
 
 from .files import BROKEN, SMALL, needs_pdftotext, needs_resources, pdf_showing, predefined
@@ -28,6 +28,39 @@ def identity_font(texts=TO_UNICODE):
     """A font of Identity-H with these texts."""
     with CMap.identity() as identity, CMap.parse(texts) as cmap:
         return Extractor(identity, cmap)
+
+
+def graded_font():
+    """A font with a code of each grade."""
+    encoding = SMALL.replace(b"1 beginbfchar <41> <0041> endbfchar", b"")
+    texts = b"beginbfchar <003D> <00A5> <0279> <3042> <027A> <3042> <027B> <2F00> <027C> <845B> endbfchar"
+    unicode = b"begincodespacerange <0000> <FFFF> endcodespacerange begincidchar <3042> 634 <4E00> 635 endcidchar"
+    files = [encoding, b"beginbfchar <41> <0061> <2D> <2010> endbfchar", texts, unicode]
+    encoding, own, texts, unicode = map(CMap.parse, files)
+    return Extractor(encoding, own, texts, unicode=unicode)
+
+
+def string_of(font, text):
+    """The string of a text, or None."""
+    try:
+        return font.encode(text)
+    except Unencodable:
+        return None
+
+
+def from_unicode(cids):
+    """A file from Unicode, in UTF-16, to these CIDs."""
+    return b"begincodespacerange <0000> <FFFF> endcodespacerange begincidchar %b endcidchar" % cids
+
+
+#: The maps of two collections.
+COLLECTIONS = {
+    "Adobe-KR-UCS2": b"beginbfchar <0005> <AC00> <0006> <AC00> endbfchar",
+    "UniAKR-UTF16-H": from_unicode(b"<AC00> 6"),
+    "Adobe-Japan1-UCS2": b"beginbfchar <0005> <3042> <0006> <3042> <0007> <3042> endbfchar",
+    "UniJIS-UTF16-H": from_unicode(b"<3042> 6"),
+    "UniJIS-UTF16-V": from_unicode(b"<3042> 7"),
+}
 
 
 class Texts(unittest.TestCase):
@@ -278,6 +311,10 @@ class Encoding(unittest.TestCase):
             self.assertEqual(font.encode("axa", missing=b"\0?"), b"\0A\0?\0A")
             self.assertEqual(font.encode("x日a", missing=bytearray(b"")), b"\0A")
             self.assertRaises(Unencodable, font.encode, "a\udc00", missing=b"")
+            for wrong in [b"?", b"\0?\0"]:
+                with self.assertRaisesRegex(ValueError, "which isn't whole codes of the font") as raised:
+                    font.encode("axa", missing=wrong)
+                self.assertNotIsInstance(raised.exception, Unencodable)
             for wrong in ["x", 5]:
                 self.assertRaises(TypeError, font.encode, "a", wrong)
             self.assertRaises(TypeError, font.encode, b"a")
@@ -287,20 +324,124 @@ class Encoding(unittest.TestCase):
             self.assertEqual(font.encode(""), b"")
             self.assertRaises(Unencodable, font.encode, "a")
 
+    def test_pieces(self):
+        """One of each grade; the codes are those of the string."""
+        with graded_font() as font:
+            text = "aあ葛\U000E0100-\\一"
+            pieces = [
+                Piece("a", b"A", Grade.STATED),
+                Piece("あ", b"\x81\x41", Grade.CANONICAL),
+                Piece("葛", b"\x81\x43", Grade.COLLECTION),
+                Piece("\U000E0100", b"", Grade.ALIKE),
+                Piece("-", b"-", Grade.ALIKE),
+                Piece("\\", b"\\", Grade.NATIONAL),
+                Piece("一", b"\x81\x42", Grade.CANONICAL),
+            ]
+            self.assertEqual(font.pieces(text), pieces)
+            self.assertEqual(font.encode(text), b"".join(piece.code for piece in pieces))
+            self.assertEqual(font.pieces(""), [])
+            self.assertEqual(font.pieces(text * 1000), pieces * 1000)
+            self.assertRaises(TypeError, font.pieces, b"a")
+            for text, offset in [("aあx", 2), ("あ\ud800", 1)]:
+                with self.assertRaises(Unencodable) as raised:
+                    font.pieces(text)
+                self.assertEqual((raised.exception.text, raised.exception.offset), (text, offset))
+        self.assertRaises(ValueError, font.pieces, "a")
+        self.assertLess(Grade.STATED, Grade.NATIONAL)
+
+    def test_exact_strings(self):
+        with graded_font() as font:
+            string = font.encode("aあ葛⼀", exact=True)
+            self.assertEqual((string, font.text(string)), (b"A\x81\x41\x81\x43\x81\x42", "aあ葛⼀"))
+            self.assertEqual([it.grade for it in font.pieces("a⼀", exact=True)], [Grade.STATED, Grade.COLLECTION])
+            for text, offset in [("a一", 1), ("葛\U000E0100", 1), ("-", 0), ("\\", 0)]:
+                self.assertEqual(len(font.pieces(text)), len(text))
+                with self.assertRaises(Unencodable) as raised:
+                    font.encode(text, exact=True)
+                self.assertEqual(raised.exception.offset, offset)
+            self.assertEqual(font.encode("一a", missing=b"\x81\x40", exact=True), b"\x81\x40A")
+
+    def test_named_collections(self):
+        """The map from Unicode is that of the writing mode; the collection that is named counts."""
+        calls = [
+            (False, "Adobe-Japan1", "あ", b"\0\6"),
+            (True, "Adobe-Japan1", "あ", b"\0\7"),
+            (True, "Adobe-KR", "가", b"\0\6"),
+            (False, "Adobe-GB1", "あ", None),
+            (False, None, "あ", None),
+        ]
+        for vertical, name, text, string in calls:
+            with CMap.identity(vertical) as cmap, Extractor(cmap, collection=name, files=COLLECTIONS) as font:
+                self.assertEqual(string_of(font, text), string)
+        with CMap.parse(SMALL) as cmap, Extractor(cmap, files=COLLECTIONS) as font:
+            self.assertEqual(font.encode("あ"), b"\x25")
+            with Extractor(cmap, collection="Adobe-KR", files=COLLECTIONS) as other:
+                self.assertEqual((string_of(other, "가"), string_of(other, "あ")), (b"\x25", None))
+        with CMap.identity() as cmap:
+            self.assertRaises(TypeError, Extractor, cmap, collection="Adobe-Japan1")
+            self.assertRaises(TypeError, Extractor, cmap, collection=b"Adobe-Japan1", files=COLLECTIONS)
+            self.assertRaises(TypeError, Extractor, cmap, unicode="UniJIS-UTF16-H")
+            with self.assertRaises(Refused):
+                Extractor(cmap, collection="Adobe-Japan1", files={"UniJIS-UTF16-H": BROKEN})
+
+    def test_given_map_from_unicode(self):
+        with CMap.identity() as cmap, CMap.parse(COLLECTIONS["UniJIS-UTF16-V"]) as unicode:
+            with Extractor(cmap, collection="Adobe-Japan1", files=COLLECTIONS, unicode=unicode) as font:
+                self.assertEqual(font.encode("あ"), b"\0\7")
+            with Extractor(cmap, unicode=unicode) as font:
+                self.assertEqual((font.encode("あ"), font.text(b"\0\7")), (b"\0\7", "\uFFFD"))
+
+    def test_map_from_unicode_of_its_own(self):
+        """Of a CMap whose name begins with Uni."""
+        own = b"/CMapName /UniOwn-H def begincodespacerange <0000> <FFFF> endcodespacerange "
+        own += b"begincidchar <2F00> 5 <3042> 8 <4E00> 5 endcidchar"
+        files = {"Adobe-Japan1-UCS2": b"beginbfchar <0005> <2F00> endbfchar", "UniJIS-UTF16-H": BROKEN}
+        with CMap.parse(own) as cmap:
+            with Extractor(cmap, collection="Adobe-Japan1", files=files) as font:
+                self.assertEqual(font.encode("一⼀あ"), b"\x4E\0\x2F\0\x30\x42")
+            with Extractor(cmap, files={}) as font:
+                self.assertEqual(font.encode("あ"), b"\x30\x42")
+            with Extractor(cmap) as font:
+                self.assertIsNone(string_of(font, "あ"))
+
     @needs_resources
-    def test_texts_of_predefined_maps(self):
-        """The string of each text has it again, and no code of a glyph with the text comes before it."""
+    def test_codes_of_codecs(self):
+        """A code is that of Python's codec, which is the vendor's own."""
+        ideographs, kana, hangul = (0x4E00, 0x9FFF), (0x3041, 0x30F6), (0xAC00, 0xD7A3)
+        # compatibility ideographs of NEC and IBM, which the collection reads as others; and one that Big5 has twice
+        others = {"寬90ms-RKSJ-H": b"", "昻90ms-RKSJ-H": b"", "仝ETen-B5-H": b"\xC6\xDF"}
+        rows = [
+            ("90ms-RKSJ-H", "cp932", ideographs, 6682),
+            ("90ms-RKSJ-H", "cp932", kana, 173),
+            ("GBK-EUC-H", "gbk", ideographs, 20902),
+            ("ETen-B5-H", "big5", ideographs, 13061),
+            ("KSCms-UHC-H", "cp949", hangul, 11172),
+        ]
+        for name, codec, (first, last), count in rows:
+            known = {it: it.encode(codec, "ignore") for it in map(chr, range(first, last + 1))}
+            known = {it: code for it, code in known.items() if code}
+            self.assertEqual(len(known), count)
+            with CMap.open(name) as cmap, Extractor(cmap, files=hayro_cmap.predefined) as font:
+                for character, code in known.items():
+                    expected = others.get(character + name, code)
+                    self.assertEqual(font.encode(character, missing=b""), expected, character + name)
+
+    @needs_resources
+    def test_exact_strings_of_predefined_maps(self):
+        """The exact string of each text of a code has it again."""
         for name in ["90ms-RKSJ-H", "UniGB-UCS2-H", "KSCms-UHC-H", "ETen-B5-H"]:
             with CMap.open(name) as cmap, Extractor(cmap, files=hayro_cmap.predefined) as font:
-                first = {}
-                for code, text in font.items():
-                    if len(text) == 1 and text != "\uFFFD" and code[0] > 0x1F:  # codes before it may be notdefs
-                        first.setdefault(text, code)
-                self.assertGreater(len(first), 6000)
-                for text, code in first.items():
-                    string = font.encode(text)
-                    self.assertEqual(font.text(string), text)
-                    self.assertLessEqual((len(string), string), (len(code), code))
+                texts = {text for code, text in font.items() if len(text) == 1 and text != "\uFFFD" and code[0] > 0x1F}
+                self.assertGreater(len(texts), 6000)
+                for text in texts:
+                    self.assertEqual(font.text(font.encode(text, exact=True)), text)
+
+    @needs_resources
+    def test_glyphs_of_collections(self):
+        """By Identity-H: full-width kana, an ideograph and no radical, and no compound."""
+        with CMap.identity() as cmap, Extractor(cmap, collection="Adobe-Japan1", files=hayro_cmap.predefined) as font:
+            codes = font.characters(font.encode("あ一(A)100"))
+        self.assertEqual([it.code.cid for it in codes], [843, 1200, 9, 34, 10, 18, 17, 17])
 
 
 #: Texts, by the predefined CMaps that have codes for them, and the orderings of their collections.

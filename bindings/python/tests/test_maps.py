@@ -113,6 +113,33 @@ class Lookups(unittest.TestCase):
             self.assertIsNone(silent.collection(files))
         self.assertRaises(Refused, self.cmap.collection, {"Adobe-Japan1-UCS2": BROKEN})
         self.assertRaises(Refused, self.cmap.collection, {"Adobe-Japan1-UCS2": uses(b"Missing")})
+        with CMap.identity() as identity, identity.collection(files, name="Adobe-Japan1") as texts:
+            self.assertEqual(texts.text(34), "A")
+        self.assertIsNone(self.cmap.collection(files, name=b"Adobe-GB1"))
+
+    def test_map_from_unicode(self):
+        names = {
+            ("Adobe-Japan1", False): b"UniJIS-UTF16-H",
+            ("Adobe-Japan1", True): b"UniJIS-UTF16-V",
+            ("Adobe-GB1", True): b"UniGB-UTF16-V",
+            ("Adobe-CNS1", False): b"UniCNS-UTF16-H",
+            ("Adobe-Korea1", False): b"UniKS-UTF16-H",
+            ("Adobe-KR", True): b"UniAKR-UTF16-H",
+            ("Adobe-Japan2", False): b"UniHojo-UTF16-H",
+        }
+        files = {name: b"/CMapName /%b def" % name for name in names.values()}
+        for (collection, vertical), name in names.items():
+            with CMap.identity(vertical) as identity, identity.unicode(files, name=collection) as found:
+                self.assertEqual(found.metadata.name, name)
+                self.assertIsNone(identity.unicode({}, name=collection))
+                with found.unicode({}) as own:
+                    self.assertEqual(own.metadata.name, name)
+        with self.cmap.unicode(files) as found:
+            self.assertEqual(found.metadata.name, b"UniJIS-UTF16-H")
+        with CMap.identity() as identity:
+            for collection in [None, "Adobe-Identity", "Adobe-Japan", ""]:
+                self.assertIsNone(identity.unicode(files, name=collection))
+        self.assertRaises(Refused, self.cmap.unicode, {"UniJIS-UTF16-H": BROKEN})
 
     def test_open_path(self):
         with tempfile.TemporaryDirectory() as folder:

@@ -1,6 +1,7 @@
 //! Character collections, and the CMaps that lead from and to Unicode.
 
-use crate::CMapName;
+use crate::extracting::unicode_name;
+use crate::{CMapName, WritingMode};
 use alloc::vec::Vec;
 
 /// A family of character collections: the registry and the ordering of a CIDSystemInfo dictionary.
@@ -68,6 +69,25 @@ impl CidFamily {
     /// The name of the CMap from the CIDs of the family to Unicode: its registry, its ordering and `UCS2`, as
     /// Adobe-Japan1-UCS2. Any family has one, also where nobody made such a CMap. ISO 32000-1, 9.10.2.
     pub fn ucs2_name(&self) -> Vec<u8> {
+        [&self.name()[..], b"UCS2"].join(&b'-')
+    }
+
+    /// The name of the CMap from Unicode, in UTF-16, to the CIDs of the family, as UniJIS-UTF16-H, or
+    /// UniJIS-UTF16-V for vertical text. Only Japan1, GB1, CNS1, Korea1, KR and Japan2 of Adobe have one.
+    ///
+    /// ```
+    /// use hayro_cmap::{CidFamily, WritingMode};
+    ///
+    /// let name = CidFamily::AdobeGB1.unicode_name(WritingMode::Vertical);
+    /// assert_eq!(name.as_deref(), Some(&b"UniGB-UTF16-V"[..]));
+    /// assert_eq!(CidFamily::AdobeIdentity.unicode_name(WritingMode::Horizontal), None);
+    /// ```
+    pub fn unicode_name(&self, mode: WritingMode) -> Option<Vec<u8>> {
+        unicode_name(&self.name(), mode)
+    }
+
+    /// Its registry and its ordering, as Adobe-Japan1.
+    fn name(&self) -> Vec<u8> {
         let (registry, ordering): (&[u8], &[u8]) = match self {
             CidFamily::AdobeJapan1 => (b"Adobe", b"Japan1"),
             CidFamily::AdobeGB1 => (b"Adobe", b"GB1"),
@@ -76,7 +96,7 @@ impl CidFamily {
             CidFamily::AdobeIdentity => (b"Adobe", b"Identity"),
             CidFamily::Custom { registry, ordering } => (registry, ordering),
         };
-        [registry, ordering, b"UCS2"].join(&b'-')
+        [registry, ordering].join(&b'-')
     }
 }
 

@@ -1,8 +1,10 @@
 //! The strings of texts.
 
 use crate::encode_error::EncodeError;
+use crate::extracting::ask;
 use crate::extractor::Extractor;
-use crate::ffi::EncoderHandle;
+use crate::ffi::{EncoderHandle, RawPiece};
+use crate::piece::{Grade, Piece};
 use crate::pool::Pool;
 use std::fmt::{self, Debug, Formatter};
 
@@ -27,7 +29,30 @@ impl Extractor {
     /// # Ok::<(), hayro_cmap::EncodeError>(())
     /// ```
     pub fn encoder(&self) -> Encoder {
-        let handle = self.ask(EncoderHandle::build);
+        self.built(false)
+    }
+
+    /// The encoder of the font for strings that are read back as their texts: only those codes stand for a
+    /// piece whose text is the piece, and nothing stands for a variation selector.
+    ///
+    /// ```
+    /// use hayro_cmap::{CMap, Extractor};
+    ///
+    /// let font = Extractor::simple(CMap::parse(b"beginbfchar <20> <00A0> endbfchar", |_| None));
+    /// assert_eq!(font.encoder().encode(" ")?, b" ");
+    /// assert_eq!(font.exact_encoder().encode(" ").unwrap_err().offset, 0);
+    /// # Ok::<(), hayro_cmap::EncodeError>(())
+    /// ```
+    pub fn exact_encoder(&self) -> Encoder {
+        self.built(true)
+    }
+
+    fn built(&self, exact: bool) -> Encoder {
+        let handle = ask(self.unicode.as_ref(), |unicode| {
+            self.ask(|encoding, to_unicode, collection| {
+                EncoderHandle::build(encoding, to_unicode, collection, unicode, exact)
+            })
+        });
         Encoder { pool: Pool::new(handle) }
     }
 }
@@ -35,11 +60,27 @@ impl Extractor {
 impl Encoder {
     /// The string of a text: the codes of its pieces. A piece is a letter, a character and the marks after
     /// it, if that has a code and the rest can be encoded; else less of the letter, and at last more than
-    /// it. A piece has the code, in a codespace range and of no notdef, of which it is the text, of several
-    /// the shortest, and of these the least. A character without one has that of a character that looks or
-    /// means the same, and a variation selector no bytes.
+    /// it. The code of a piece lies in a codespace range, has no notdef, and is the first one by its
+    /// [`Grade`]; of several that of the character itself in the form of the map from Unicode, then the
+    /// shortest, then the least.
     pub fn encode(&self, text: &str) -> Result<Vec<u8>, EncodeError> {
         self.pool.ask(|encoder| encoder.encode(text)).map_err(|offset| EncodeError { offset })
+    }
+
+    /// The pieces of a text, whose codes [`Encoder::encode`] gives one after another.
+    ///
+    /// ```
+    /// use hayro_cmap::{CMap, Extractor, Grade};
+    ///
+    /// let to_unicode = CMap::parse(b"beginbfchar <41> <0061> <2D> <2010> endbfchar", |_| None);
+    /// let pieces = Extractor::simple(to_unicode).encoder().pieces("a-")?;
+    /// assert_eq!(pieces.iter().map(|it| it.grade).collect::<Vec<_>>(), [Grade::Stated, Grade::Alike]);
+    /// # Ok::<(), hayro_cmap::EncodeError>(())
+    /// ```
+    pub fn pieces(&self, text: &str) -> Result<Vec<Piece>, EncodeError> {
+        let pieces = self.pool.ask(|encoder| encoder.pieces(text));
+        let pieces = pieces.map_err(|offset| EncodeError { offset })?;
+        Ok(pieces.iter().map(Piece::of).collect())
     }
 
     /// The same as far as the text can be encoded: the string of its longest prefix that can be, then
@@ -51,8 +92,40 @@ impl Encoder {
     /// let to_unicode = CMap::parse(b"beginbfrange <20> <7E> <0020> endbfrange", |_| None);
     /// assert_eq!(Extractor::simple(to_unicode).encoder().encode_lossy("cafés", b"?"), b"caf?s");
     /// ```
+    ///
+    /// # Panics
+    ///
+    /// Where `missing` isn't whole codes of the font ([`Encoder::are_codes`]): the bytes after it would be
+    /// other codes.
     pub fn encode_lossy(&self, text: &str, missing: &[u8]) -> Vec<u8> {
-        self.pool.ask(|encoder| encoder.encode_lossy(text, missing))
+        let string = self.pool.ask(|encoder| encoder.encode_lossy(text, missing));
+        string
+            .unwrap_or_else(|| panic!("{missing:02X?}: these bytes aren't whole codes of the font"))
+    }
+
+    /// Whether a string is whole codes of the font, one after another, or empty.
+    pub fn are_codes(&self, string: &[u8]) -> bool {
+        self.pool.ask(|encoder| encoder.encode_lossy("", string)).is_some()
+    }
+}
+
+impl Piece {
+    fn of(raw: &RawPiece) -> Piece {
+        let RawPiece { text_len, code_len, grade } = *raw;
+        // a code has at most four bytes
+        Piece { text_len, code_len: code_len as u8, grade: Grade::of(grade) }
+    }
+}
+
+impl Grade {
+    fn of(number: u32) -> Grade {
+        match number {
+            0 => Grade::Stated,
+            1 => Grade::Canonical,
+            2 => Grade::Collection,
+            3 => Grade::Alike,
+            _ => Grade::National,
+        }
     }
 }
 

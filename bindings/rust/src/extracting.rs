@@ -1,8 +1,9 @@
 //! The texts of strings.
 
 use crate::extractor::{Character, Extractor};
-use crate::ffi::{MapHandle, RawCharacter};
+use crate::ffi::{self, MapHandle, RawCharacter};
 use crate::map::{CMap, StringCode};
+use crate::metadata::WritingMode;
 use crate::text::BfString;
 
 impl Extractor {
@@ -15,7 +16,7 @@ impl Extractor {
         })
     }
 
-    /// Asks all maps at once.
+    /// Asks the maps by which strings are read, all at once.
     pub(crate) fn ask<R>(
         &self,
         call: impl FnOnce(&mut MapHandle, &mut MapHandle, &mut MapHandle) -> R,
@@ -29,7 +30,7 @@ impl Extractor {
 }
 
 /// Asks a map, or an empty one in the place of one that is absent.
-fn ask<R>(map: Option<&CMap>, call: impl FnOnce(&mut MapHandle) -> R) -> R {
+pub(crate) fn ask<R>(map: Option<&CMap>, call: impl FnOnce(&mut MapHandle) -> R) -> R {
     match map {
         Some(map) => map.ask(call),
         None => call(&mut MapHandle::empty()),
@@ -55,6 +56,11 @@ fn extracted(
         }
     }
     characters
+}
+
+/// The name of the CMap from Unicode to the CIDs of a character collection, as Adobe-Japan1.
+pub(crate) fn unicode_name(collection: &[u8], mode: WritingMode) -> Option<Vec<u8>> {
+    ffi::unicode_name(collection, mode)
 }
 
 impl Character {

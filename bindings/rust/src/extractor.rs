@@ -1,13 +1,14 @@
 //! The maps of a font, and the codes of its strings.
 
-use crate::CMapName;
 use crate::map::{CMap, StringCode};
 use crate::refusal::Refusal;
 use crate::text::BfString;
+use crate::{CMapName, CidFamily};
 use alloc::string::String;
 use alloc::vec::Vec;
 
-/// The maps of a font, by which the texts of its strings are found. ISO 32000-1, 9.10.2.
+/// The maps of a font, by which the texts of its strings are found, and the strings of texts. ISO 32000-1,
+/// 9.10.2.
 ///
 /// ```
 /// use hayro_cmap::{BfString, CMap, Extractor};
@@ -21,6 +22,7 @@ pub struct Extractor {
     pub(crate) encoding: CMap,
     pub(crate) to_unicode: Option<CMap>,
     pub(crate) collection: Option<CMap>,
+    pub(crate) unicode: Option<CMap>,
 }
 
 impl Extractor {
@@ -28,11 +30,13 @@ impl Extractor {
     /// of its character collection to Unicode, as one of a
     /// [`CidFamily::ucs2_cmap`](crate::CidFamily::ucs2_cmap). A clone of a map copies nothing.
     pub fn new(encoding: CMap, to_unicode: Option<CMap>, collection: Option<CMap>) -> Extractor {
-        Extractor { encoding, to_unicode, collection }
+        Extractor { encoding, to_unicode, collection, unicode: None }
     }
 
-    /// The same with the map of the character collection that the encoding names: that of the file of
-    /// `get_cmap` whose name is [`CidFamily::ucs2_name`](crate::CidFamily::ucs2_name), if there is one.
+    /// The same with the maps of the character collection that the encoding names: those of the files of
+    /// `get_cmap` whose names are [`CidFamily::ucs2_name`](crate::CidFamily::ucs2_name) and
+    /// [`CidFamily::unicode_name`](crate::CidFamily::unicode_name), if there are such. An encoding whose own
+    /// name begins with `Uni` is itself the map from Unicode.
     ///
     /// ```
     /// use hayro_cmap::{CMap, Extractor};
@@ -53,11 +57,64 @@ impl Extractor {
         to_unicode: Option<CMap>,
         get_cmap: impl Fn(CMapName<'_>) -> Option<&'a [u8]>,
     ) -> Result<Extractor, Refusal> {
-        let collection = match ucs2_name_of(&encoding) {
-            Some(name) => CMap::open(CMapName::from_bytes(&name), get_cmap)?,
-            None => None,
+        let family = family_of(&encoding);
+        let open = |name: CMapName<'_>| CMap::open(name, &get_cmap);
+        Extractor::by_names(encoding, to_unicode, family.as_ref(), open)
+    }
+
+    /// The same with the maps of this character collection, whichever the encoding names: that of the font's
+    /// CIDSystemInfo dictionary, for Identity-H, which names none, and for an embedded CMap.
+    ///
+    /// ```
+    /// use hayro_cmap::{CMap, CMapName, CidFamily, Extractor};
+    ///
+    /// let texts: &[u8] = b"beginbfchar <020E> <3042> <034B> <3042> endbfchar";
+    /// let unicode: &[u8] =
+    ///     b"begincodespacerange <0000> <FFFF> endcodespacerange begincidchar <3042> 843 endcidchar";
+    /// let get_cmap = |name: CMapName<'_>| match name.to_bytes() {
+    ///     b"Adobe-Japan1-UCS2" => Some(texts),
+    ///     b"UniJIS-UTF16-H" => Some(unicode),
+    ///     _ => None,
+    /// };
+    /// let family = CidFamily::AdobeJapan1;
+    /// let font = Extractor::over_collection(CMap::identity_h(), None, &family, get_cmap)?;
+    /// assert_eq!(font.encoder().encode("あ").unwrap(), 843_u16.to_be_bytes());
+    /// # Ok::<(), hayro_cmap::Refusal>(())
+    /// ```
+    pub fn over_collection<'a>(
+        encoding: CMap,
+        to_unicode: Option<CMap>,
+        family: &CidFamily,
+        get_cmap: impl Fn(CMapName<'_>) -> Option<&'a [u8]>,
+    ) -> Result<Extractor, Refusal> {
+        let open = |name: CMapName<'_>| CMap::open(name, &get_cmap);
+        Extractor::by_names(encoding, to_unicode, Some(family), open)
+    }
+
+    /// The maps of a font, those of its character collection by their names.
+    pub(crate) fn by_names<E>(
+        encoding: CMap,
+        to_unicode: Option<CMap>,
+        family: Option<&CidFamily>,
+        open: impl Fn(CMapName<'_>) -> Result<Option<CMap>, E>,
+    ) -> Result<Extractor, E> {
+        let opened = |name: Option<Vec<u8>>| match name {
+            Some(name) => open(CMapName::from_bytes(&name)),
+            None => Ok(None),
         };
-        Ok(Extractor::new(encoding, to_unicode, collection))
+        let collection = opened(family.map(CidFamily::ucs2_name))?;
+        let mode = encoding.metadata().writing_mode.unwrap_or_default();
+        let unicode = match is_from_unicode(&encoding) {
+            true => Some(encoding.clone()),
+            false => opened(family.and_then(|family| family.unicode_name(mode)))?,
+        };
+        Ok(Extractor { encoding, to_unicode, collection, unicode })
+    }
+
+    /// The same with this map from Unicode to the CIDs of the character collection, as UniJIS-UTF16-H. By it
+    /// an [`Encoder`](crate::Encoder) has the glyphs of characters that the collection means.
+    pub fn with_unicode(self, unicode: CMap) -> Extractor {
+        Extractor { unicode: Some(unicode), ..self }
     }
 
     /// Of a simple font, which has no CMap: its codes are bytes. ISO 32000-1, 9.6.
@@ -87,13 +144,16 @@ impl Extractor {
     }
 }
 
-/// The name of the CMap from the CIDs of a map to Unicode, by the first of its files that names a character
-/// collection.
-pub(crate) fn ucs2_name_of(encoding: &CMap) -> Option<Vec<u8>> {
-    let layers = encoding.layers();
-    let collection =
-        layers.iter().find_map(|layer| layer.metadata.character_collection.as_ref())?;
-    Some(collection.family.ucs2_name())
+/// The family of the character collection of the first of the files of a map that names one.
+pub(crate) fn family_of(encoding: &CMap) -> Option<CidFamily> {
+    let mut layers = encoding.layers().into_iter();
+    layers.find_map(|layer| Some(layer.metadata.character_collection?.family))
+}
+
+/// Whether a map is one from Unicode, by its own name.
+fn is_from_unicode(encoding: &CMap) -> bool {
+    let name = encoding.metadata().name.as_ref();
+    name.is_some_and(|name| name.starts_with(b"Uni"))
 }
 
 /// A code of a string of a font.

@@ -19,6 +19,17 @@ const NO_MEMORY: u32 = 2;
 const OVER_BUDGET: u32 = 3;
 const NO_ROOM: u32 = 6;
 
+/// The number of no writing mode.
+const NO_MODE: u16 = 2;
+
+/// The number of a writing mode.
+fn mode_of(mode: WritingMode) -> u16 {
+    match mode {
+        WritingMode::Horizontal => 0,
+        WritingMode::Vertical => 1,
+    }
+}
+
 /// At most so many names lead to a file at fault.
 const MOST_NAMES: usize = 16;
 
@@ -224,14 +235,19 @@ impl<'a> RawFacts<'a> {
             supplement,
             has_name: file.name.is_some().into(),
             has_collection: collection.is_some().into(),
-            writing_mode: match file.writing_mode {
-                Some(WritingMode::Horizontal) => 0,
-                Some(WritingMode::Vertical) => 1,
-                None => 2,
-            },
+            writing_mode: file.writing_mode.map_or(NO_MODE, mode_of),
             lent: PhantomData,
         }
     }
+}
+
+/// A piece of a text.
+#[repr(C)]
+#[derive(Clone, Copy, Default)]
+pub(crate) struct RawPiece {
+    pub(crate) text_len: usize,
+    pub(crate) code_len: u32,
+    pub(crate) grade: u32,
 }
 
 /// Why a file gives no map.
@@ -463,11 +479,13 @@ unsafe extern "C" {
         room_len: usize,
         needed: *mut usize,
     ) -> u32;
-    fn hayro_cmap_encoder_build(
+    fn hayro_cmap_encoder_build_with(
         encoder: *mut RawEncoder,
         encoding: *mut RawMap,
         to_unicode: *mut RawMap,
         collection: *mut RawMap,
+        unicode: *mut RawMap,
+        exact: bool,
     ) -> u32;
     fn hayro_cmap_encoder_share(encoder: *mut RawEncoder, other: *mut RawEncoder) -> u32;
     fn hayro_cmap_encoder_free(encoder: *mut RawEncoder);
@@ -480,12 +498,29 @@ unsafe extern "C" {
         needed: *mut usize,
         offset: *mut usize,
     ) -> u32;
+    fn hayro_cmap_encode_pieces(
+        encoder: *mut RawEncoder,
+        text: *const u8,
+        text_len: usize,
+        pieces: *mut RawPiece,
+        pieces_len: usize,
+        needed: *mut usize,
+        offset: *mut usize,
+    ) -> u32;
     fn hayro_cmap_encode_lossy(
         encoder: *mut RawEncoder,
         text: *const u8,
         text_len: usize,
         missing: *const u8,
         missing_len: usize,
+        room: *mut u8,
+        room_len: usize,
+        needed: *mut usize,
+    ) -> u32;
+    fn hayro_cmap_unicode_name(
+        collection: *const u8,
+        collection_len: usize,
+        mode: u32,
         room: *mut u8,
         room_len: usize,
         needed: *mut usize,
@@ -1079,20 +1114,24 @@ impl EncoderHandle {
         EncoderHandle(RawEncoder { full: false, encoder: ptr::null_mut() })
     }
 
-    /// The encoder of a font, of which the last two maps may be empty.
+    /// The encoder of a font, of which the last three maps may be empty.
     pub(crate) fn build(
         encoding: &mut MapHandle,
         to_unicode: &mut MapHandle,
         collection: &mut MapHandle,
+        unicode: &mut MapHandle,
+        exact: bool,
     ) -> EncoderHandle {
         let mut encoder = EncoderHandle::empty();
         // SAFETY: see the head of the module.
         expect_memory(unsafe {
-            hayro_cmap_encoder_build(
+            hayro_cmap_encoder_build_with(
                 &mut encoder.0,
                 &mut encoding.0,
                 &mut to_unicode.0,
                 &mut collection.0,
+                &mut unicode.0,
+                exact,
             )
         });
         encoder
@@ -1118,9 +1157,30 @@ impl EncoderHandle {
         string.ok_or(offset)
     }
 
-    /// The same with these bytes for each character that no string shows.
-    pub(crate) fn encode_lossy(&mut self, text: &str, missing: &[u8]) -> Vec<u8> {
-        let string = written(BYTES_EACH * text.len(), |room, needed| {
+    /// The pieces of a text; else the offset where it is refused.
+    pub(crate) fn pieces(&mut self, text: &str) -> Result<Vec<RawPiece>, usize> {
+        let mut offset = 0;
+        let pieces = written(text.len(), |room, needed| {
+            // SAFETY: see the head of the module.
+            unsafe {
+                hayro_cmap_encode_pieces(
+                    &mut self.0,
+                    text.as_ptr(),
+                    text.len(),
+                    room.as_mut_ptr(),
+                    room.len(),
+                    needed,
+                    &mut offset,
+                )
+            }
+        });
+        pieces.ok_or(offset)
+    }
+
+    /// The string of a text with these bytes for each character that no string shows; `None` where they
+    /// aren't whole codes.
+    pub(crate) fn encode_lossy(&mut self, text: &str, missing: &[u8]) -> Option<Vec<u8>> {
+        written(BYTES_EACH * text.len(), |room, needed| {
             // SAFETY: see the head of the module.
             unsafe {
                 hayro_cmap_encode_lossy(
@@ -1134,8 +1194,7 @@ impl EncoderHandle {
                     needed,
                 )
             }
-        });
-        string.unwrap_or_default()
+        })
     }
 }
 
@@ -1206,6 +1265,23 @@ pub(crate) fn warning_name(warning: u32) -> Option<Vec<u8>> {
     written(SHORT, |room, needed| {
         // SAFETY: see the head of the module.
         unsafe { hayro_cmap_warning_name(warning, room.as_mut_ptr(), room.len(), needed) }
+    })
+}
+
+/// The name of the CMap from Unicode to the CIDs of a character collection.
+pub(crate) fn unicode_name(collection: &[u8], mode: WritingMode) -> Option<Vec<u8>> {
+    written(SHORT, |room, needed| {
+        // SAFETY: see the head of the module.
+        unsafe {
+            hayro_cmap_unicode_name(
+                collection.as_ptr(),
+                collection.len(),
+                mode_of(mode).into(),
+                room.as_mut_ptr(),
+                room.len(),
+                needed,
+            )
+        }
     })
 }
 

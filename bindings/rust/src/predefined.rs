@@ -1,11 +1,11 @@
 //! The predefined CMap files that a system has.
 
-use crate::CMapName;
-use crate::extractor::{Extractor, ucs2_name_of};
+use crate::extractor::{Extractor, family_of};
 use crate::map::CMap;
 use crate::options::ParseOptions;
 use crate::reading::MOST_FILES;
 use crate::refusal::Refusal;
+use crate::{CMapName, CidFamily};
 use std::collections::BTreeMap;
 use std::ffi::OsStr;
 use std::fmt::{self, Display, Formatter};
@@ -126,8 +126,8 @@ impl CMap {
 }
 
 impl Extractor {
-    /// The maps of a font as [`Extractor::over`] has them, with the map of the character collection that the
-    /// system has, as Adobe-Japan1-UCS2, if it has one.
+    /// The maps of a font as [`Extractor::over`] has them, with those maps of the character collection that
+    /// the system has, as Adobe-Japan1-UCS2 and UniJIS-UTF16-H.
     ///
     /// ```no_run
     /// use hayro_cmap::{CMap, Extractor};
@@ -141,11 +141,28 @@ impl Extractor {
         encoding: CMap,
         to_unicode: Option<CMap>,
     ) -> Result<Extractor, OpenError> {
-        let collection = match ucs2_name_of(&encoding) {
-            Some(name) => CMap::open_predefined(CMapName::from_bytes(&name))?,
-            None => None,
-        };
-        Ok(Extractor::new(encoding, to_unicode, collection))
+        let family = family_of(&encoding);
+        let open = |name: CMapName<'_>| CMap::open_predefined(name);
+        Extractor::by_names(encoding, to_unicode, family.as_ref(), open)
+    }
+
+    /// The same with the maps of this character collection, as [`Extractor::over_collection`] has them.
+    ///
+    /// ```no_run
+    /// use hayro_cmap::{CMap, CidFamily, Extractor};
+    ///
+    /// let (encoding, family) = (CMap::identity_h(), CidFamily::AdobeJapan1);
+    /// let font = Extractor::over_predefined_collection(encoding, None, &family)?;
+    /// assert_eq!(font.encoder().encode("あ").unwrap(), 843_u16.to_be_bytes());
+    /// # Ok::<(), hayro_cmap::OpenError>(())
+    /// ```
+    pub fn over_predefined_collection(
+        encoding: CMap,
+        to_unicode: Option<CMap>,
+        family: &CidFamily,
+    ) -> Result<Extractor, OpenError> {
+        let open = |name: CMapName<'_>| CMap::open_predefined(name);
+        Extractor::by_names(encoding, to_unicode, Some(family), open)
     }
 }
 

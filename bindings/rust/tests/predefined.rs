@@ -1,6 +1,6 @@
 //! Predefined files, in folders that `CMAP_PATH` names. They are one test, since the variable is one for all threads.
 
-use hayro_cmap::{CMap, CMapName, predefined_file};
+use hayro_cmap::{CMap, CMapName, CidFamily, Extractor, predefined_file};
 use std::{env, fs, process};
 
 fn has_file(name: &[u8]) -> bool {
@@ -15,6 +15,12 @@ fn predefined_files_are_found() {
     fs::create_dir_all(&hidden).unwrap();
     fs::write(below.join("Top"), "/Base usecmap begincidchar <02> 2 endcidchar").unwrap();
     fs::write(below.join("Base"), "begincidchar <01> 1 endcidchar").unwrap();
+    fs::write(below.join("A-B-UCS2"), "beginbfchar <05> <0061> endbfchar").unwrap();
+    fs::write(below.join("Adobe-GB1-UCS2"), "beginbfchar <05> <0061> <06> <0061> endbfchar")
+        .unwrap();
+    let unicode =
+        "begincodespacerange <0000> <FFFF> endcodespacerange begincidchar <0061> 6 endcidchar";
+    fs::write(below.join("UniGB-UTF16-H"), unicode).unwrap();
     fs::write(folder.join("Outside"), "begincidchar <01> 1 endcidchar").unwrap();
     fs::write(hidden.join("Hidden"), "begincidchar <01> 1 endcidchar").unwrap();
 
@@ -26,6 +32,13 @@ fn predefined_files_are_found() {
     assert!(CMap::open_predefined(CMapName::Custom(b"Else")).unwrap().is_none());
     assert!(CMap::open_predefined(CMapName::IdentityV).unwrap().is_some());
     assert!(CMap::open_predefined("Top").unwrap().is_some());
+    let encoded = |family| {
+        let font = Extractor::over_predefined_collection(CMap::identity_h(), None, &family);
+        font.unwrap().encoder().encode("a").ok()
+    };
+    assert_eq!(encoded(CidFamily::AdobeGB1), Some(b"\0\x06".to_vec()));
+    assert_eq!(encoded(CidFamily::from_registry_ordering(b"A", b"B")), Some(b"\0\x05".to_vec()));
+    assert_eq!(encoded(CidFamily::AdobeCNS1), None);
     assert!(!has_file(b"below") && !has_file(b"") && !has_file(b"..") && !has_file(b"Top\0"));
     assert!(!has_file(b"Hidden"));
 
