@@ -5,7 +5,8 @@
 //     else if (auto cid = map->cid(0x3042, 2)) std::cout << *cid << '\n';
 //
 // It is hayro_cmap.h with classes that free what they own. A refused file is a value; std::bad_alloc is
-// thrown where memory ran out, and predefined_file says what it throws. What is noexcept takes no memory.
+// thrown where memory ran out, and predefined_file and encode_lossy say what they throw. What is noexcept
+// takes no memory.
 //
 // - A Map, a Bundle or an Encoder is moved and not copied. One that was moved from is empty, and answers
 //   nothing.

@@ -1,5 +1,3 @@
-use Rattle.std.proofs.Common.{◌≡◌, List, ℕ, sym, subst}
-use Rattle.std.specs.Str.{chars}
 use Rattle.cmap_c_encoder.proofs.StringsPut.{string_known}
 use Rattle.cmap_c_encoder.proofs.encode.string_of.Goals as goal
 
