@@ -8,7 +8,7 @@ use Rattle.cmap_values.specs.declared.fault.Fault.{Fault}
 use Rattle.cmap_values.specs.declared.fault.Fault.TheVariants as fault
 use Rattle.cmap_encode.specs.ChoicesSeen.{choices_of, grade_of, own_choice, owned}
 use Rattle.cmap_encode.specs.EncoderSeen.{IsEncoderOf}
-use Rattle.cmap_encode.specs.Encodings.{AreChoicesOf, IsEncodingBy, IsEncodingOf, IsLossyEncodingBy, IsLossyEncodingOf, IsStuckAt, IsStuckBy}
+use Rattle.cmap_encode.specs.Encodings.{AreChoicesOf, ArePiecesBy, ArePiecesOf, IsEncodingBy, IsEncodingOf, IsLossyEncodingBy, IsLossyEncodingOf, IsStuckAt, IsStuckBy}
 use Rattle.cmap_encode.specs.IndexSeen.{own_in}
 use Rattle.cmap_encode.specs.Maps.{Maps}
 use Rattle.cmap_encode.specs.Pieces.{Choice, Choices}
@@ -17,6 +17,7 @@ use Rattle.cmap_encode.specs.Standing.{standing}
 use Rattle.cmap_encode.specs.StandsFor.{IsOwn}
 use Rattle.cmap_encode.specs.declared.encoder.Encoder.{Encoder}
 use Rattle.cmap_encode.specs.declared.encoder.Unencodable.{Unencodable}
+use Rattle.cmap_encode.specs.declared.pieces.Piece.{Piece}
 use Rattle.cmap_encode.specs.declared.rank.Rank.{Rank}
 use Rattle.cmap_encode.specs.declared.rank.Rank.TheVariants.{Stated, OwnForm, Canonical, Collection}
 use Rattle.cmap_encode.specs.declared.rank.Ranked.{Ranked}
@@ -38,6 +39,12 @@ module _ (maps : Maps) (encoder : Encoder) (is : IsEncoderOf maps encoder) where
   encoding_by text (Ok string) by = (record { choices = choices_of encoder.choices; are = choices_by maps encoder is; encoding = by.0 }, tt)
   encoding_by text (Err (fault.Refused refused)) by = (tt, record { choices = choices_of encoder.choices; are = choices_by maps encoder is; stuck = by.1 })
   encoding_by text (Err fault.Memory) by = (tt, tt)
+
+  pub pieces_by : (text : List ℕ) (made : Result (Vec Piece) (Fault Unencodable)) → Outcome (λ pieces. ArePiecesBy (choices_of encoder.choices) text pieces.items) (λ refused. IsStuckBy (choices_of encoder.choices) text refused.offset) made
+      → Outcome (λ pieces. ArePiecesOf maps text pieces.items) (λ refused. IsStuckAt maps text refused.offset) made
+  pieces_by text (Ok pieces) by = (record { choices = choices_of encoder.choices; are = choices_by maps encoder is; pieces_by = by.0 }, tt)
+  pieces_by text (Err (fault.Refused refused)) by = (tt, record { choices = choices_of encoder.choices; are = choices_by maps encoder is; stuck = by.1 })
+  pieces_by text (Err fault.Memory) by = (tt, tt)
 
   pub lossy_by : (missing text : List ℕ) (made : Result (Vec ℕ) AllocError) → IfOk made (λ string. IsLossyEncodingBy (choices_of encoder.choices) missing text string.items) → IfOk made (λ string. IsLossyEncodingOf maps missing text string.items)
   lossy_by missing text (Ok string) by = record { choices = choices_of encoder.choices; are = choices_by maps encoder is; encoding = by }

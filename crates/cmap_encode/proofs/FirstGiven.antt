@@ -1,11 +1,12 @@
 -- What the first of some elements gives for which it gives something.
-use Rattle.std.proofs.Common.{◌≡◌, ℕ, ◌+◌, ◌<◌, List, [], ◌∷◌, ◌++◌, get_or, length, take, drop, Option, None, Some, refl, sym, ap, ◌∙◌}
+use Rattle.std.proofs.Common.{◌≡◌, ℕ, zero, suc, ◌+◌, ◌<◌, List, [], ◌∷◌, ◌++◌, get_or, length, take, drop, Option, None, Some, refl, sym, ap, ◌∙◌, arith}
 use Rattle.std.specs.Option.{option_or}
 use Rattle.std.proofs.lemmas.List.{take-append-drop, take_more}
 use Rattle.cmap_encode.specs.Alike.{first_given}
+use Rattle.cmap_encode.specs.Letters.{counted}
 
 module _ {A B : Type 0} (f : A → Option B) where
-  given_append : (xs ys : List A) → first_given f (xs ++ ys) ≡ option_or (first_given f xs) (first_given f ys)
+  pub given_append : (xs ys : List A) → first_given f (xs ++ ys) ≡ option_or (first_given f xs) (first_given f ys)
   given_append [] ys = refl
   given_append (x ∷ xs) ys = one (f x) (first_given f (xs ++ ys)) (first_given f xs) (first_given f ys) (given_append xs ys)
     where
@@ -35,3 +36,20 @@ module _ {A B : Type 0} (f : A → Option B) where
     some_here y gives =
         ap (first_given f) (sym (take-append-drop (i + 1) xs)) ∙ given_append (take (i + 1) xs) (drop (i + 1) xs)
         ∙ ap (λ o. option_or o (first_given f (drop (i + 1) xs))) (up_to ∙ gives)
+
+-- nothing is given for any
+pub none_given : {A B : Type 0} (f : A → Option B) (xs : List A) → ((x : A) → f x ≡ None) → first_given f xs ≡ None
+none_given f [] none = refl
+none_given f (x ∷ xs) none = ap (λ o. option_or o (first_given f xs)) (none x) ∙ none_given f xs none
+
+-- ---- numbers in a row
+pub length-counted : (first count : ℕ) → length (counted first count) ≡ count
+unfolding counted
+length-counted first zero = refl
+length-counted first (suc count) = ap suc (length-counted (first + 1) count)
+
+pub get_or-counted : (first count k d : ℕ) → k < count → get_or (counted first count) k d ≡ first + k
+unfolding counted
+get_or-counted first zero k d lt = absurd (omega arith)
+get_or-counted first (suc count) zero d lt = omega arith
+get_or-counted first (suc count) (suc k) d lt = get_or-counted (first + 1) count k d (omega arith) ∙ omega arith

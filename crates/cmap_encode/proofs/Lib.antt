@@ -25,3 +25,5 @@ pub mod ChosenBy
 pub mod FormCodes
 pub mod SilentRows
 pub mod CharactersAdded
+pub mod StringsCut
+pub mod SelectorsTried

@@ -1,12 +1,15 @@
 -- The encoding to which ways lead.
 use Rattle.std.proofs.Common.{◌≡◌, ℕ, ◌+◌, ◌-◌, ◌≤◌, ◌<◌, List, [], ◌∷◌, ◌++◌, length, drop, get_or, Option, Some, None, refl, sym, ap, ◌∙◌, subst, arith, append_assoc, append-nil, length-drop}
-use Rattle.std.specs.Prelude.{IfSome, flat_map, slice_get}
+use Rattle.std.specs.Prelude.{IfSome, flat_map, slice_get, take}
+use Rattle.std.specs.Char.{encode_utf8}
 use Rattle.std.proofs.lemmas.Option.{slice_get-get_or}
 use Rattle.std.proofs.lemmas.List.{drop-drop, drop_all}
 use Rattle.cmap_encode.specs.ChoicesSeen.{choice_seen}
-use Rattle.cmap_encode.specs.Encodings.{IsEncodingBy}
+use Rattle.cmap_encode.specs.Encodings as also
+use Rattle.cmap_encode.specs.Encodings.{ArePiecesBy, IsEncodingBy, IsPieceOf}
 use Rattle.cmap_encode.specs.Pieces.{AreChoices, Choice, Choices, IsEncodable, next, nothing}
 use Rattle.cmap_encode.specs.Ways.{IsWay, last_of}
+use Rattle.cmap_encode.specs.declared.pieces.Piece.{Piece}
 use Rattle.cmap_encode.specs.declared.ways.Way.{Way}
 
 abbrev bytes_of : List Choice → List ℕ
@@ -67,6 +70,40 @@ module _ (choices : Choices) (text : List ℕ) where
         are = subst (AreChoices choices text) (append-nil first.pieces) (first.found [] (subst (λ t. AreChoices choices t []) (sym nothing_left) nothing));
         is = first.is;
       }
+
+-- these are the first pieces of a text, of which so many characters are left
+pub record AreFirstPieces (choices : Choices) (text : List ℕ) (pieces : List Piece) (left : ℕ) : Type 0 where
+  pub within : left ≤ length text
+  pub found : (rest : List Piece) → ArePiecesBy choices (last_of left text) rest → ArePiecesBy choices text (pieces ++ rest)
+  pub none : (IsEncodable choices (last_of left text) → ⊥) → IsEncodable choices text → ⊥
+
+module _ (choices : Choices) (text : List ℕ) where
+  pub first_piece : AreFirstPieces choices text [] (length text)
+  first_piece = record {
+    within = omega arith;
+    found = λ rest are. subst (λ t. ArePiecesBy choices t rest) (all_left choices text) are;
+    none = λ not encodable. not (subst (IsEncodable choices) (sym (all_left choices text)) encodable);
+  }
+
+  -- one more
+  pub piece_more : (pieces : List Piece) (left : ℕ) (way : Way) (piece : Piece) → AreFirstPieces choices text pieces left → IsWay choices (last_of left text) way
+      → IsPieceOf (length (flat_map encode_utf8 (take way.taken (last_of left text)))) (choice_seen way.choice) piece → AreFirstPieces choices text (pieces ++ piece ∷ []) (left - way.taken)
+  piece_more pieces left way piece first is of =
+      let count : length (last_of left text) ≡ left = omega (arith, length-drop (length text - left) text, first.within) in
+      let after = rest_left choices text left way.taken (omega (arith, is.begins.may.within)) first.within in
+      record {
+        within = omega (arith, first.within);
+        found = λ rest are.
+            subst (ArePiecesBy choices text) (sym (append_assoc pieces (piece ∷ []) rest))
+            (first.found (piece ∷ rest) (also.next (last_of left text) way.taken (choice_seen way.choice) piece rest is.begins is.chosen of (subst (λ t. ArePiecesBy choices t rest) (sym after) are)));
+        none = λ not. absurd (not (subst (IsEncodable choices) after is.begins.may.rest));
+      }
+
+  -- all of them
+  pub all_pieces : (pieces : List Piece) (left : ℕ) → left ≡ 0 → AreFirstPieces choices text pieces left → ArePiecesBy choices text pieces
+  all_pieces pieces left empty first =
+      let end : last_of left text ≡ [] = drop_all (length text - left) text (omega arith) in
+      subst (ArePiecesBy choices text) (append-nil pieces) (first.found [] (subst (λ t. ArePiecesBy choices t []) (sym end) also.nothing))
 
 -- ---- one of the ways
 pub way_at : (ways : List (Option Way)) (k : ℕ) (d o : Option Way) (P : Option Way → Type 0) → k < length ways → get_or ways k d ≡ o → IfSome (slice_get ways k) P → P o

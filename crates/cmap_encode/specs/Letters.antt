@@ -9,12 +9,12 @@ abbrev pub is_selector : ℕ → Bool
 is_selector character = is_between 0xFE00 0xFE0F character || is_between 0xE0100 0xE01EF character
 
 -- so many numbers from a first one on
-abbrev pub counted : ℕ → ℕ → List ℕ
+unfoldable pub counted : ℕ → ℕ → List ℕ
 counted first zero = []
 counted first (suc count) = first ∷ counted (first + 1) count
 
 -- all of them, one after another
-abbrev pub selectors : List ℕ
+unfoldable pub selectors : List ℕ
 selectors = counted 0xFE00 16 ++ counted 0xE0100 240
 
 -- marks of the letter before them: variation selectors, diacritical marks, vowels and finals of old and new jamo, marks for symbols, and voiced sound marks

@@ -28,8 +28,11 @@ module _ (own : Choices) (exact : Bool) where
   selected character = first_given (λ last. own (character ∷ last ∷ [])) selectors
 
   -- or else that of the first character that is alike and has one
+  abbrev pub nearest : ℕ → Option Choice
+  nearest character = option_or (selected character) (first_given (λ other. own (other ∷ [])) (alike_to character))
+
   abbrev pub near : ℕ → Option Choice
-  near character = alike_as (option_or (selected character) (first_given (λ other. own (other ∷ [])) (alike_to character)))
+  near character = alike_as (nearest character)
 
   -- the byte of the character, as the code of one that national versions of ISO 646 show by it
   abbrev pub national : ℕ → Option Choice

@@ -1,6 +1,6 @@
 //! What stands for a piece of a text.
 
-ghost use Rattle.std.specs.Prelude.{◌≡◌, ◌++◌, ◌∷◌, [], Some, OnOk, option_and_then, option_map};
+ghost use Rattle.std.specs.Prelude.{◌≡◌, ◌+◌, ◌<◌, ◌^◌, ◌++◌, ◌∷◌, [], Some, OnOk, option_and_then, option_map};
 ghost use Rattle.cmap_encode.specs.Alike.{first_given};
 ghost use Rattle.cmap_encode.specs.Letters.{counted};
 ghost use Rattle.cmap_encode.specs.ChoicesSeen.{choice_seen, own_choice, owned, owned_at};
@@ -10,7 +10,7 @@ ghost use Rattle.cmap_encode.specs.TreeSeen.{step_of};
 use crate::alike::{alike_to, national_of};
 use crate::code::Code;
 use crate::index::Index;
-use crate::letters::{SELECTORS, Selectors, is_selector};
+use crate::letters::{Row, SELECTORS, SUPPLEMENT, is_selector};
 use crate::rank::Ranked;
 use crate::tree::EMPTY;
 use std::alloc::AllocError;
@@ -95,40 +95,48 @@ impl Choices {
         }
     }
 
-    /// The code of the character with a variation selector, or else that of a character alike.
+    /// The code of a character with a variation selector, or else of a character alike.
     fn near(&self, character: char) -> Option<Choice>
         ensures { option_map choice_seen result
             ≡ standing.near (owned self.now.index) self.now.exact character }
     {
-        let own = match self.selected(character) {
-            Some(own) => own,
-            None => self.first_own(alike_to(character))?,
-        };
+        let own = self.nearest(character)?;
         Some(Choice {
             code: Some(own.code),
             grade: Grade::Alike,
         })
     }
 
-    /// The code of the character with a variation selector, the least with which it has one.
+    /// The same as the own code of another text.
+    fn nearest(&self, character: char) -> Option<Ranked>
+        ensures { option_map own_choice result
+            ≡ standing.nearest (owned self.now.index) self.now.exact character }
+    {
+        match self.selected(character) {
+            Some(own) => Some(own),
+            None => self.first_own(alike_to(character)),
+        }
+    }
+
+    /// The code of the character with a variation selector, the first with which it has one.
     fn selected(&self, character: char) -> Option<Ranked>
         ensures { option_map own_choice result
             ≡ standing.selected (owned self.now.index) self.now.exact character }
     {
         let node = self.index.after(Some(EMPTY), character)?;
-        let (first, second) = SELECTORS;
-        match self.first_after(node, first) {
+        match self.first_after(node, SELECTORS) {
             Some(own) => Some(own),
-            None => self.first_after(node, second),
+            None => self.first_after(node, SUPPLEMENT),
         }
     }
 
     /// The code of the text of a node and the first of these characters with which it has one.
-    fn first_after(&self, node: usize, last: Selectors) -> Option<Ranked>
+    fn first_after(&self, node: usize, row: Row) -> Option<Ranked>
+        requires { row.first + row.count < 2 ^ 32 }
         ensures { option_map own_choice result
-            ≡ first_given (owned_at self.now.index (Some node)) (counted last.first last.count) }
+            ≡ first_given (owned_at self.now.index (Some node)) (counted row.first row.count) }
     {
-        for last in last.first..last.first + last.count {
+        for last in row.first..row.first + row.count {
             if let Some(own) = self.index.find(Some(node), last) {
                 return Some(own);
             }

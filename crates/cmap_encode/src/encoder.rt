@@ -20,7 +20,6 @@ use crate::maps::Maps;
 use crate::pieces::{Piece, pieces_of};
 use crate::prefixes::{longest_prefix, stuck_at};
 use crate::ways::{all_ways, string_of};
-use cmap_codespaces::Spaces;
 use cmap_layers::layers::Layers;
 use cmap_unicode::Extractor;
 use cmap_values::fault::Fault;
@@ -31,7 +30,7 @@ use std::alloc::{AllocError, Global};
 pub struct Encoder {
     choices: Choices,
     /// Those of the font.
-    codespaces: Spaces,
+    codespaces: Layers,
 }
 
 /// A text that the codes of a font don't show.

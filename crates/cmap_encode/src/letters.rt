@@ -3,24 +3,24 @@
 ghost use Rattle.std.specs.Prelude.{◌≡◌};
 ghost use Rattle.cmap_encode.specs.Letters as letters;
 
-/// Variation selectors in a row.
+/// Characters in a row.
 #[derive(Clone, Copy)]
-pub(crate) struct Selectors {
+pub(crate) struct Row {
     pub(crate) first: u32,
     pub(crate) count: u32,
 }
 
-/// All of them. The Unicode Standard, 23.4.
-pub(crate) const SELECTORS: (Selectors, Selectors) = (
-    Selectors {
-        first: 0xFE00,
-        count: 16,
-    },
-    Selectors {
-        first: 0xE_0100,
-        count: 240,
-    },
-);
+/// The block Variation Selectors. The Unicode Standard, 23.4.
+pub(crate) const SELECTORS: Row = Row {
+    first: 0xFE00,
+    count: 16,
+};
+
+/// The block Variation Selectors Supplement.
+pub(crate) const SUPPLEMENT: Row = Row {
+    first: 0xE_0100,
+    count: 240,
+};
 
 /// Whether a character is a variation selector. The Unicode Standard, 23.4.
 pub(crate) fn is_selector(character: char) -> bool

@@ -56,6 +56,14 @@ fn family_of(encoding: &Layers) -> Option<&CidFamily>
     None
 }
 
+// The character collections of Adobe that have a CMap from Unicode.
+const JAPAN1: &[u8] = b"Adobe-Japan1";
+const GB1: &[u8] = b"Adobe-GB1";
+const CNS1: &[u8] = b"Adobe-CNS1";
+const KOREA1: &[u8] = b"Adobe-Korea1";
+const KR: &[u8] = b"Adobe-KR";
+const JAPAN2: &[u8] = b"Adobe-Japan2";
+
 /// The names of two CMaps from Unicode to the CIDs of a character collection.
 #[derive(Clone, Copy)]
 struct FromUnicode {
@@ -81,31 +89,41 @@ pub fn unicode_name(collection: &[u8], mode: WritingMode) -> Option<&'static [u8
 fn from_unicode(collection: &[u8]) -> Option<FromUnicode>
     ensures { option_map (λ names. (names.horizontal.now, names.vertical.now)) result ≡ names_of collection.now }
 {
-    match collection {
-        b"Adobe-Japan1" => Some(FromUnicode {
+    if collection == JAPAN1 {
+        return Some(FromUnicode {
             horizontal: b"UniJIS-UTF16-H",
             vertical: b"UniJIS-UTF16-V",
-        }),
-        b"Adobe-GB1" => Some(FromUnicode {
+        });
+    }
+    if collection == GB1 {
+        return Some(FromUnicode {
             horizontal: b"UniGB-UTF16-H",
             vertical: b"UniGB-UTF16-V",
-        }),
-        b"Adobe-CNS1" => Some(FromUnicode {
+        });
+    }
+    if collection == CNS1 {
+        return Some(FromUnicode {
             horizontal: b"UniCNS-UTF16-H",
             vertical: b"UniCNS-UTF16-V",
-        }),
-        b"Adobe-Korea1" => Some(FromUnicode {
+        });
+    }
+    if collection == KOREA1 {
+        return Some(FromUnicode {
             horizontal: b"UniKS-UTF16-H",
             vertical: b"UniKS-UTF16-V",
-        }),
-        b"Adobe-KR" => Some(FromUnicode {
+        });
+    }
+    if collection == KR {
+        return Some(FromUnicode {
             horizontal: b"UniAKR-UTF16-H",
             vertical: b"UniAKR-UTF16-H",
-        }),
-        b"Adobe-Japan2" => Some(FromUnicode {
+        });
+    }
+    if collection == JAPAN2 {
+        return Some(FromUnicode {
             horizontal: b"UniHojo-UTF16-H",
             vertical: b"UniHojo-UTF16-V",
-        }),
-        _ => None,
+        });
     }
+    None
 }
