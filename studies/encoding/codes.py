@@ -56,8 +56,10 @@ def encoded(codec: str, character: str) -> Optional[bytes]:
 
 def convention(name: str, character: str, code: bytes) -> Optional[str]:
     """Why the codec of a CMap is known to have another character at a code."""
-    if stem_of(name) in OF_1978:
+    if 0xE000 <= ord(character) < 0xF900:
+        return "private use"
+    if stem_of(name) in OF_1978 and encoded("euc_jp:94", character):
         return "forms of 1978"
     if codec_of(name) in ("big5", "cp950") and int.from_bytes(code, "big") in BIG5_TXT:
         return "BIG5.TXT"
-    return "private use" if 0xE000 <= ord(character) < 0xF900 else None
+    return None
