@@ -46,8 +46,8 @@ _cmap() {
         write) mapfile -t COMPREPLY < <(compgen -W "--base --bundle --no-predefined --budget --flatten --codes --tidy --binary --name --output --help" -- "$current") && return ;;
         make) mapfile -t COMPREPLY < <(compgen -W "--name --collection --vertical --use --output --help" -- "$current") && return ;;
         bundle) mapfile -t COMPREPLY < <(compgen -W "--output --name --verify --help" -- "$current") && return ;;
-        encode) mapfile -t COMPREPLY < <(compgen -W "--to-unicode --missing --budget --lenient" -- "$current") ;;
-        find | decode | text) mapfile -t COMPREPLY < <(compgen -W "--to-unicode --budget --lenient" -- "$current") ;;
+        encode) mapfile -t COMPREPLY < <(compgen -W "--to-unicode --collection --simple --exact --missing --pieces --budget --lenient" -- "$current") ;;
+        find | decode | text) mapfile -t COMPREPLY < <(compgen -W "--to-unicode --collection --simple --budget --lenient" -- "$current") ;;
         check) mapfile -t COMPREPLY < <(compgen -W "--budget --files-from --null --first --lint --to-unicode --deny --quiet" -- "$current") ;;
         *) mapfile -t COMPREPLY < <(compgen -W "--budget --lenient" -- "$current") ;;
         esac

@@ -34,6 +34,10 @@ complete -c cmap -n "__fish_seen_subcommand_from $reading" -l lenient -d 'Read p
 complete -c cmap -n "__fish_seen_subcommand_from $reading check write" -l budget -x -d 'The most bytes of all files'
 complete -c cmap -n '__fish_seen_subcommand_from list' -l effective -d 'What codes have over all layers'
 complete -c cmap -n '__fish_seen_subcommand_from find decode text encode' -l to-unicode -r -d 'The ToUnicode CMap of the font'
+complete -c cmap -n '__fish_seen_subcommand_from find decode text encode' -l collection -x -d 'The character collection of the font'
+complete -c cmap -n '__fish_seen_subcommand_from find decode text encode' -l simple -d 'FILE is the ToUnicode CMap of a simple font'
+complete -c cmap -n '__fish_seen_subcommand_from encode' -l exact -d 'Only codes that are read as the very text'
+complete -c cmap -n '__fish_seen_subcommand_from encode' -l pieces -d 'Also the pieces of each text'
 complete -c cmap -n '__fish_seen_subcommand_from encode' -l missing -x -d 'The code for what no string shows'
 
 complete -c cmap -n '__fish_seen_subcommand_from check' -l files-from -r -d 'A list of paths'

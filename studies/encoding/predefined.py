@@ -2,6 +2,7 @@
 
 import glob
 import os
+from typing import Dict
 
 import model
 import resources
@@ -29,6 +30,16 @@ class Folder:
             data = self.data(name)
             self.parsed[name] = None if data is None else resources.parse(data, self.data)
         return self.parsed[name]
+
+    def cids(self, name: str) -> Dict[bytes, int]:
+        """The CIDs of the codes of a CMap."""
+        layers = self.layers(name)
+        return model.glyphs(model.split(layers), layers)
+
+    def texts(self, collection: str) -> Dict[int, str]:
+        """The texts of the CIDs of a collection."""
+        name = MAPS[collection][1]
+        return model.texts(self.layers(name)) if name else {}
 
     def collection(self, name):
         return next((layer.ordering.decode() for layer in self.layers(name) if layer.ordering is not None), None)

@@ -14,7 +14,9 @@ pub(crate) fn decode(
     bases: &mut Bases<'_>,
 ) -> Result<u8, Failure> {
     let (font, strings) = font_and_strings(rt, options, bases)?;
-    print_codes(rt, options, &font.extractor(), &strings)
+    let status = print_codes(rt, options, &font.extractor(), &strings)?;
+    font.report_unknown(rt, options, bases)?;
+    Ok(status)
 }
 
 fn print_codes(

@@ -1,14 +1,14 @@
 //! `cmap encode`: the strings of a font that show texts.
 
-use crate::command_line::flags::MISSING;
+use crate::command_line::flags::{EXACT, MISSING, PIECES};
 use crate::font::{StringOptions, font_and_texts};
 use crate::strings::spelled;
 use clap::ArgMatches;
 use cmap_encode::Encoder;
-use cmap_files::failure::Failure;
+use cmap_files::failure::{Failure, fault};
 use cmap_files::path_text::push_path;
 use cmap_files::status::{ACCEPTED, REFUSED};
-use cmap_report::encode::{push_string_json, push_string_line, string_of};
+use cmap_report::encode::{Asked, push_pieces, push_string_json, push_string_line, string_of};
 use cmap_sources::bases::Bases;
 
 /// What the arguments of `encode` ask for.
@@ -17,6 +17,10 @@ pub(crate) struct EncodeOptions<'m, 'w> {
     pub(crate) of_texts: StringOptions<'m, 'w>,
     /// What stands for a character that can't be shown, in hexadecimal digits.
     missing: Option<&'w str>,
+    /// Whether codes have to be read as the pieces for which they stand.
+    is_exact: bool,
+    /// Whether the pieces of texts are printed too.
+    pieces: bool,
 }
 
 impl<'m, 'w> EncodeOptions<'m, 'w> {
@@ -24,6 +28,8 @@ impl<'m, 'w> EncodeOptions<'m, 'w> {
         EncodeOptions {
             of_texts: StringOptions::of(arguments),
             missing: MISSING.text(arguments),
+            is_exact: EXACT.is_given(arguments),
+            pieces: PIECES.is_given(arguments),
         }
     }
 }
@@ -36,14 +42,18 @@ pub(crate) fn encode(
 ) -> Result<u8, Failure> {
     let missing = missing_of(rt, options)?;
     let (font, texts) = font_and_texts(rt, &options.of_texts, bases)?;
-    let encoder = Encoder::build(rt.alloc(), &font.extractor())?;
+    let from_unicode = font.from_unicode(rt, &options.of_texts, bases)?;
+    let glyphs = font.glyphs(&from_unicode);
+    let encoder = Encoder::build_with(rt.alloc(), &font.extractor(), glyphs, options.is_exact)?;
+    check_missing(rt, options, &encoder, missing.as_deref())?;
     let printer = Printer {
         encoder,
         missing,
+        pieces: options.pieces,
         json: options.of_texts.json,
     };
     let status = printer.print_strings(rt, &texts)?;
-    if status != ACCEPTED {
+    if status != ACCEPTED && glyphs.is_none() {
         font.report_missing(rt, bases)?;
     }
     Ok(status)
@@ -60,18 +70,37 @@ fn missing_of(
     }
 }
 
+/// Refuses such bytes that would change how the codes after them are read.
+fn check_missing(
+    rt: &HostRuntime,
+    options: &EncodeOptions<'_, '_>,
+    encoder: &Encoder,
+    missing: Option<&[u8]>,
+) -> Result<(), Failure> {
+    match (options.missing, missing) {
+        (Some(digits), Some(missing)) if !encoder.are_codes(missing) => {
+            Err(fault(rt, digits, "not whole codes of the font"))
+        }
+        _ => Ok(()),
+    }
+}
+
 /// What is needed for the string of a text.
 #[derive(Drop)]
 struct Printer {
     encoder: Encoder,
     missing: Option<Vec<u8>>,
+    pieces: bool,
     json: bool,
 }
 
 impl Printer {
     fn print_strings(&self, rt: &HostRuntime, texts: &[String]) -> Result<u8, Failure> {
         let mut status = ACCEPTED;
-        for text in texts {
+        for (index, text) in texts.iter().enumerate() {
+            if index > 0 && self.pieces && !self.json {
+                rt.println("")?;
+            }
             if !self.print_string(rt, text.as_str())? {
                 status = REFUSED;
             }
@@ -81,11 +110,16 @@ impl Printer {
 
     /// Prints the string of a text, and gives whether it shows the whole text.
     fn print_string(&self, rt: &HostRuntime, text: &str) -> Result<bool, Failure> {
-        let found = string_of(rt.alloc(), &self.encoder, text, self.missing.as_deref())?;
+        let asked = Asked {
+            missing: self.missing.as_deref(),
+            pieces: self.pieces,
+        };
+        let found = string_of(rt.alloc(), &self.encoder, text, asked)?;
         let mut line = String::new(rt.alloc());
         if self.json {
             push_string_json(rt.alloc(), &mut line, text, &found)?;
         } else {
+            push_pieces(rt.alloc(), &mut line, text, &found)?;
             push_string_line(rt.alloc(), &mut line, &found)?;
         }
         rt.print(line.as_str())?;

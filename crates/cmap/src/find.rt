@@ -27,6 +27,7 @@ pub(crate) fn find(
         options.json,
     )?;
     rt.print(lines.as_str())?;
+    font.report_unknown(rt, options, bases)?;
     Ok(if are_found { ACCEPTED } else { REFUSED })
 }
 

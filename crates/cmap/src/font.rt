@@ -1,24 +1,29 @@
 //! The CMaps of a font, and the strings that are read by them.
 
-use crate::command_line::flags::{JSON, TO_UNICODE};
+use crate::collection::{
+    declared_collection, from_unicode_of, is_from_unicode, to_unicode_of, ucs2_of,
+};
+use crate::command_line::flags::{JSON, OF_COLLECTION, SIMPLE, TO_UNICODE};
 use crate::command_line::{arguments_of, file_of};
 use crate::options::{Sources, manner_of};
 use crate::strings::{strings_of, texts_of};
 use clap::ArgMatches;
-use cmap_files::failure::{Failure, report_message};
-use cmap_files::inputs::{STANDARD_INPUT, needed};
-use cmap_files::path_text::path_text;
+use cmap_files::failure::{Failure, fault, report_message};
 use cmap_sources::bases::Bases;
-use cmap_sources::maps::{map_needed, map_of, unknown_name};
+use cmap_sources::maps::{map_needed, unknown_name};
 use cmap_sources::reading::Manner;
-use cmap_unicode::{Extractor, collection_name};
-use hayro_cmap::CMap;
+use cmap_unicode::{Extractor, simple_encoding};
+use hayro_cmap::{CMap, Layers};
 
 /// What the arguments of `find`, `decode`, `text` and `encode` ask for.
 #[derive(Clone, Copy)]
 pub(crate) struct StringOptions<'m, 'w> {
     file: &'w str,
     to_unicode: Option<&'w str>,
+    /// The character collection of the font's CIDs, in the place of the one that the file names.
+    collection: Option<&'w str>,
+    /// Whether the file is the ToUnicode CMap of a simple font.
+    is_simple: bool,
     /// Strings in hexadecimal digits; of `encode`, texts; of `find`, `cid:N` and `text:TEXT`.
     pub(crate) strings: &'m [&'w str],
     pub(crate) sources: Sources<'m, 'w>,
@@ -31,6 +36,8 @@ impl<'m, 'w> StringOptions<'m, 'w> {
         StringOptions {
             file: file_of(arguments),
             to_unicode: TO_UNICODE.text(arguments),
+            collection: OF_COLLECTION.text(arguments),
+            is_simple: SIMPLE.is_given(arguments),
             strings: arguments_of(arguments),
             sources: Sources::of(arguments),
             manner: manner_of(arguments),
@@ -42,43 +49,99 @@ impl<'m, 'w> StringOptions<'m, 'w> {
 /// The CMaps of a font.
 #[derive(Drop)]
 pub(crate) struct Font {
-    encoding: CMap,
+    /// Its encoding; of a simple font, its ToUnicode CMap.
+    file: CMap,
+    /// The codes of a simple font.
+    one_byte: Option<Layers>,
+    /// Its ToUnicode CMap, if that is another file.
     to_unicode: Option<CMap>,
-    /// From the CIDs of the encoding's collection to Unicode.
-    collection: Option<CMap>,
-    /// The name of that CMap, if no file has it.
-    missing: Option<Vec<u8>>,
+    /// The name of the character collection of its CIDs.
+    collection: Option<String>,
+    /// From the CIDs of the collection to Unicode.
+    texts: Option<CMap>,
 }
 
 impl Font {
+    /// Its codes, with their CIDs.
+    fn encoding(&self) -> &Layers {
+        match &self.one_byte {
+            Some(codes) => codes,
+            None => self.file.layers(),
+        }
+    }
+
     /// Reads strings by these CMaps. Without a ToUnicode CMap, the encoding gives the texts.
     pub(crate) fn extractor(&self) -> Extractor<'_> {
         let to_unicode = match &self.to_unicode {
             Some(map) => map,
-            None => &self.encoding,
+            None => &self.file,
         };
-        let collection = match &self.collection {
+        let collection = match &self.texts {
             Some(map) => Some(map.layers()),
             None => None,
         };
         Extractor {
-            encoding: self.encoding.layers(),
+            encoding: self.encoding(),
             to_unicode: Some(to_unicode.layers()),
             collection,
         }
     }
 
-    /// Reports that no file has the CMap of the collection, if none has. That may be why a code has no text.
+    /// The CMap of its collection from Unicode, if a file has its name. An encoding whose codes are Unicode needs none.
+    pub(crate) fn from_unicode(
+        &self,
+        rt: &HostRuntime,
+        options: &StringOptions<'_, '_>,
+        bases: &mut Bases<'_>,
+    ) -> Result<Option<CMap>, Failure> {
+        let encoding = self.encoding();
+        if is_from_unicode(encoding) {
+            return Ok(None);
+        }
+        from_unicode_of(
+            rt,
+            self.collection.as_deref(),
+            encoding,
+            options.manner,
+            bases,
+        )
+    }
+
+    /// The layers that choose the glyphs of characters: those of the encoding itself if its codes are Unicode, or else
+    /// those of this map.
+    pub(crate) fn glyphs<'m>(&'m self, from_unicode: &'m Option<CMap>) -> Option<&'m Layers> {
+        let encoding = self.encoding();
+        match from_unicode {
+            Some(map) => Some(map.layers()),
+            None if is_from_unicode(encoding) => Some(encoding),
+            None => None,
+        }
+    }
+
+    /// Reports that no file has the CMap of the collection to Unicode, if none has. That may be why a code has no text.
     pub(crate) fn report_missing(
         &self,
         rt: &HostRuntime,
         bases: &Bases<'_>,
     ) -> Result<(), Failure> {
-        let Some(name) = &self.missing else {
+        let (Some(collection), None) = (&self.collection, &self.texts) else {
             return Ok(());
         };
-        let name = path_text(rt.alloc(), name)?;
+        let name = ucs2_of(rt.alloc(), collection.as_str())?;
         report_message(rt, unknown_name(rt, name.as_str(), bases))
+    }
+
+    /// The same where the arguments name the collection.
+    pub(crate) fn report_unknown(
+        &self,
+        rt: &HostRuntime,
+        options: &StringOptions<'_, '_>,
+        bases: &Bases<'_>,
+    ) -> Result<(), Failure> {
+        match options.collection {
+            Some(_) => self.report_missing(rt, bases),
+            None => Ok(()),
+        }
     }
 }
 
@@ -110,20 +173,44 @@ pub(crate) fn font_of(
     options: &StringOptions<'_, '_>,
     bases: &mut Bases<'_>,
 ) -> Result<Font, Failure> {
-    let encoding = map_needed(rt, options.file, options.manner, bases)?;
-    let to_unicode = to_unicode_of(rt, options, bases)?;
-    let name = collection_name(rt.alloc(), encoding.layers())?;
-    let collection = collection_of(rt, name.as_deref(), options, bases)?;
-    let missing = if collection.is_none() { name } else { None };
+    if options.is_simple {
+        return simple_font(rt, options, bases);
+    }
+    let file = map_needed(rt, options.file, options.manner, bases)?;
+    let to_unicode = given_to_unicode(rt, options, bases)?;
+    let collection = match options.collection {
+        Some(name) => Some(String::from_str(rt.alloc(), name)?),
+        None => declared_collection(rt.alloc(), file.layers())?,
+    };
+    let texts = to_unicode_of(rt, collection.as_deref(), options.manner, bases)?;
     Ok(Font {
-        encoding,
+        file,
+        one_byte: None,
         to_unicode,
         collection,
-        missing,
+        texts,
     })
 }
 
-fn to_unicode_of(
+/// A simple font, whose codes have one byte and no CIDs.
+fn simple_font(
+    rt: &HostRuntime,
+    options: &StringOptions<'_, '_>,
+    bases: &mut Bases<'_>,
+) -> Result<Font, Failure> {
+    if options.to_unicode.is_some() || options.collection.is_some() {
+        return Err(fault(rt, "--simple", "not with --to-unicode or --collection"));
+    }
+    Ok(Font {
+        file: map_needed(rt, options.file, options.manner, bases)?,
+        one_byte: Some(simple_encoding(rt.alloc())?),
+        to_unicode: None,
+        collection: None,
+        texts: None,
+    })
+}
+
+fn given_to_unicode(
     rt: &HostRuntime,
     options: &StringOptions<'_, '_>,
     bases: &mut Bases<'_>,
@@ -132,21 +219,4 @@ fn to_unicode_of(
         Some(path) => Ok(Some(map_needed(rt, path, options.manner, bases)?)),
         None => Ok(None),
     }
-}
-
-/// The CMap of this name, from the CIDs of an encoding's collection to Unicode, if a file has the name.
-fn collection_of(
-    rt: &HostRuntime,
-    name: Option<&[u8]>,
-    options: &StringOptions<'_, '_>,
-    bases: &mut Bases<'_>,
-) -> Result<Option<CMap>, Failure> {
-    let Some(name) = name else {
-        return Ok(None);
-    };
-    let Some(bytes) = bases.file(rt, name)? else {
-        return Ok(None);
-    };
-    let path = path_text(rt.alloc(), name)?;
-    Ok(Some(map_of(rt, path.as_str(), bytes.as_slice(), options.manner, bases)?))
 }

@@ -3,6 +3,7 @@
 
 mod bundle;
 mod check;
+mod collection;
 mod command_line;
 mod decode;
 mod diff;

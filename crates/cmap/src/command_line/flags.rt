@@ -158,6 +158,40 @@ pub(crate) const MISSING: Flag = Flag {
     help: "The code that stands for each character that no string shows",
 };
 
+/// Of the same ones.
+pub(crate) const OF_COLLECTION: Flag = Flag {
+    id: "of-collection",
+    short: None,
+    long: "collection",
+    value: Value::Text("NAME"),
+    help: "The character collection of the font's CIDs, as Adobe-Japan1",
+};
+
+/// Of the same ones.
+pub(crate) const SIMPLE: Flag = Flag {
+    id: "simple",
+    short: None,
+    long: "simple",
+    value: Value::Nothing,
+    help: "FILE is the ToUnicode CMap of a simple font, whose codes have one byte",
+};
+
+pub(crate) const EXACT: Flag = Flag {
+    id: "exact",
+    short: None,
+    long: "exact",
+    value: Value::Nothing,
+    help: "Only codes that are read as the very piece for which they stand",
+};
+
+pub(crate) const PIECES: Flag = Flag {
+    id: "pieces",
+    short: None,
+    long: "pieces",
+    value: Value::Nothing,
+    help: "Also the pieces of each text, with their codes and how well these stand for them",
+};
+
 pub(crate) const FILES_FROM: Flag = Flag {
     id: "files-from",
     short: None,
