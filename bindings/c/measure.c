@@ -1,12 +1,12 @@
 /* Looks up all codes of two bytes N times, so that callgrind can count a round:
  *
- *     measure cid|strict|decode|cids|extract|apart|encode FILE N [COLLECTION]
+ *     measure cid|strict|decode|cids|extract|apart|encode FILE N [COLLECTION [UNICODE]]
  *
  * A round calls hayro_cmap_cid or hayro_cmap_cid_strict for each code, hayro_cmap_decode for a string of all of
  * them, or hayro_cmap_cids for all at once; or hayro_cmap_extract for the string, with the map COLLECTION, or in its
  * place hayro_cmap_decode, and hayro_cmap_text for each CID. It prints the sum of the CIDs of the last round, and of the
- * bytes of the texts. Or a round calls hayro_cmap_encode for the texts of all these codes together, and it prints how
- * many characters they have. */
+ * bytes of the texts. Or a round calls hayro_cmap_encode for the texts of all these codes together, by an encoder with the
+ * map UNICODE, if it is given, and it prints how many characters they have. */
 #include "hayro_cmap.h"
 #include <inttypes.h>
 #include <stdio.h>
@@ -22,6 +22,7 @@ static hayro_cmap_character characters[2 * CODES];
 static uint8_t texts[8 * CODES];
 static uint8_t wanted[8 * CODES];
 static hayro_cmap collection = HAYRO_CMAP_EMPTY;
+static hayro_cmap unicode = HAYRO_CMAP_EMPTY;
 static hayro_cmap_encoder encoder = HAYRO_CMAP_EMPTY;
 
 static void fail(const char *what) {
@@ -94,11 +95,11 @@ static uint64_t apart(hayro_cmap *map) {
     return sum;
 }
 
-/* The texts of codes in codespace ranges, one after another: how many bytes they have. */
+/* The texts of codes in codespace ranges that have a glyph, one after another: how many bytes they have. */
 static size_t text_of_all(hayro_cmap *map) {
     size_t made = extract_all(map), len = 0;
     for (size_t i = 0; i < made; i++)
-        if (characters[i].code.in_codespace) {
+        if (characters[i].code.in_codespace && characters[i].code.cid) {
             memcpy(wanted + len, texts + characters[i].text_start, characters[i].text_len);
             len += characters[i].text_len;
         }
@@ -110,7 +111,8 @@ static uint64_t encoded(hayro_cmap *map) {
     if (!encoder.full) {
         hayro_cmap none = HAYRO_CMAP_EMPTY;
         len = text_of_all(map);
-        if (hayro_cmap_encoder_build(&encoder, map, &none, &collection) != HAYRO_CMAP_OK) fail("there is no encoder");
+        if (hayro_cmap_encoder_build_with(&encoder, map, &none, &collection, &unicode, false) != HAYRO_CMAP_OK)
+            fail("there is no encoder");
     }
     size_t needed, offset;
     if (hayro_cmap_encode(&encoder, wanted, len, string, sizeof string, &needed, &offset) != HAYRO_CMAP_OK)
@@ -142,18 +144,20 @@ static void parse(hayro_cmap *map, const char *path) {
 }
 
 int main(int argc, char **argv) {
-    if (argc != 4 && argc != 5) fail("three or four arguments are wanted");
+    if (argc < 4 || argc > 6) fail("three to five arguments are wanted");
     for (size_t i = 0; i < CODES; i++) {
         string[2 * i] = (uint8_t)(i >> 8);
         string[2 * i + 1] = (uint8_t)i;
     }
     hayro_cmap map = HAYRO_CMAP_EMPTY;
     parse(&map, argv[2]);
-    if (argc == 5) parse(&collection, argv[4]);
+    if (argc > 4) parse(&collection, argv[4]);
+    if (argc > 5) parse(&unicode, argv[5]);
     uint64_t sum = 0;
     for (long n = strtol(argv[3], NULL, 10); n > 0; n--) sum = round_of(argv[1], &map);
     printf("%" PRIu64 "\n", sum);
     hayro_cmap_encoder_free(&encoder);
+    hayro_cmap_free(&unicode);
     hayro_cmap_free(&collection);
     hayro_cmap_free(&map);
     return 0;
