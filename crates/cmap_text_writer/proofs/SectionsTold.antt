@@ -4,7 +4,7 @@ use Rattle.std.specs.Prelude.{All, decimal, flat_map}
 use Rattle.std.specs.List.{AllByRecursion}
 use Rattle.std.proofs.lemmas.List.{append_assoc, append-nil, length-map}
 use Rattle.std.proofs.lemmas.List.Concat.{flat_map-append}
-use Rattle.std.proofs.lemmas.List.Elements.{All-cons, All-head, All-map, All-nil, All-tail}
+use Rattle.std.proofs.lemmas.List.Elements.{All-cons, All-head, All-nil, All-tail}
 use Rattle.cmap_values.specs.Files.{BfEntry, CidEntry, Codespace, Declaration}
 use Rattle.cmap_tokens.specs.Numbers.{numeral, integer, radix_integer, is_real}
 use Rattle.cmap_tokens.specs.Tokens.{IsToken, Token}
