@@ -1,3 +1,4 @@
 mod AllDeclared
 mod LengthsGiven
+mod TextsGiven
 mod UnitsGiven

@@ -1,11 +1,13 @@
 -- What C hands in to make a file: the file that it stands for.
-use Rattle.std.specs.Prelude.{ℕ, ◌==◌, ◌&&◌, List, [], ◌∷◌, Option, Some, None, flat_map, length, nat_le, nat_lt, option_and_then, option_map, if◌then◌else◌}
+use Rattle.std.specs.Prelude.{ℕ, ◌==◌, ◌&&◌, Bool, false, not, true, List, [], ◌∷◌, Option, Some, None, flat_map, length, nat_le, nat_lt, option_and_then, option_map, if◌then◌else◌}
 use Rattle.std.specs.Char.Escape.{encode_utf16}
 use Rattle.std.specs.Str.{chars, is_utf8}
 use Rattle.cmap_values.specs.Files as files
-use Rattle.cmap_values.specs.Files.{File, bf, cid, codespace, lists_of, notdef}
+use Rattle.cmap_values.specs.Files.{Codespace, File, bf, cid, codespace, lists_of, notdef}
 use Rattle.cmap_values.specs.Metadata.{Collection, FileMetadata, mode_numbered}
 use Rattle.cmap_values.specs.Names.{family_of}
+use Rattle.cmap_text_writer.specs.Lengths.{length_by}
+use Rattle.cmap_text_writer.specs.Spelled.{end_length}
 use Rattle.cmap_c_writer.specs.declared.declaration.Declaration.{Declaration}
 use Rattle.cmap_c_writer.specs.declared.declaration.Kind.{Kind}
 use Rattle.cmap_c_writer.specs.declared.declaration.Kind.TheVariants.{CidRange, CodespaceRange, NotdefRange, TextRange}
@@ -57,3 +59,28 @@ metadata_given facts = record { collection = collection_given facts; name = name
 -- the file that says this of itself and these declarations, and uses no other
 abbrev pub file_given : Facts → List Declaration → Option File
 file_given facts ds = option_map (λ said. record { metadata = metadata_given facts; lists = lists_of said; uses = [] }) (all_declared ds)
+
+-- the declaration gives texts
+abbrev pub gives_text : Option Kind → Bool
+gives_text (Some TextRange) = true
+gives_text other = false
+
+-- the length is another one
+abbrev pub is_other : Option ℕ → ℕ → Bool
+is_other None len = false
+is_other (Some before) len = not (before == len)
+
+-- how many bytes the codes of all texts have, also of those before; nothing where these differ, or where there is no text
+abbrev pub same_after : Option ℕ → List Declaration → Option ℕ
+same_after before [] = before
+same_after before (d ∷ ds) =
+    if gives_text (kind_numbered d.kind) then (if is_other before d.byte_len then None else same_after (Some d.byte_len) ds)
+    else same_after before ds
+
+-- a code of a text has as many, or four where these are too few; else by the codespace ranges
+abbrev pub length_of_text : Option ℕ → List Codespace → ℕ → ℕ
+length_of_text (Some len) ss code = end_length len code
+length_of_text None ss code = length_by ss code
+
+abbrev pub text_lengths_given : List Declaration → List Codespace → ℕ → ℕ
+text_lengths_given ds ss code = length_of_text (option_and_then length_given (same_after None ds)) ss code

@@ -8,17 +8,17 @@ use Rattle.cmap_values.specs.declared.fault.Fault.TheVariants as fault
 use Rattle.cmap_handles.specs.Rooms.{IsPut}
 use Rattle.cmap_handles.specs.Statuses.{number}
 use Rattle.cmap_handles.specs.declared.status.Status.TheVariants.{NoMemory, Refused}
-use Rattle.cmap_text.specs.TextFiles.{IsTextFile}
 use Rattle.cmap_text_writer.specs.Obstacles.{NoTextSays}
+use Rattle.cmap_text_writer.specs.Written.{IsWritten}
 use Rattle.cmap_tidy.specs.Tidied.{IsTidied}
-use Rattle.cmap_c_writer.specs.Given.{file_given}
+use Rattle.cmap_c_writer.specs.Given.{file_given, text_lengths_given}
 use Rattle.cmap_c_writer.specs.declared.declaration.Declaration.{Declaration}
 use Rattle.cmap_c_writer.specs.declared.facts.Facts.{Facts}
 use Rattle.cmap_c_writer.specs.declared.written.NoText.{NoText}
 
--- the text says what the file says in the fewest declarations
-abbrev pub IsTidyText : File → List ℕ → Type 0
-IsTidyText file text = (tidied : File) × IsTidied file tidied × IsTextFile text tidied
+-- the text says what the file says in the fewest declarations, and is laid out, where codes of texts have so many bytes
+abbrev pub IsTidyText : (ℕ → ℕ) → File → List ℕ → Type 0
+IsTidyText lengths file text = (tidied : File) × IsTidied file tidied × IsWritten lengths tidied text
 
 -- no text says so
 abbrev pub HasNoTidyText : File → Type 0
@@ -26,7 +26,7 @@ HasNoTidyText file = (tidied : File) × IsTidied file tidied × NoTextSays tidie
 
 -- what C hands in stands for a file, and the text says what that says
 abbrev pub IsMadeText : Facts → List Declaration → List ℕ → Type 0
-IsMadeText facts ds text = IsSomeAnd (file_given facts ds) (λ file. IsTidyText file text)
+IsMadeText facts ds text = IsSomeAnd (file_given facts ds) (λ file. IsTidyText (text_lengths_given ds file.lists.spaces) file text)
 
 -- what C hands in stands for no file, or for one that no text says
 abbrev pub HasNoMadeText : Facts → List Declaration → Type 0

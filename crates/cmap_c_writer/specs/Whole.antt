@@ -4,8 +4,9 @@ use Rattle.cmap_flatten.specs.Subsets.{Contradicts, IsContradiction, IsFlat, IsS
 use Rattle.cmap_flatten.specs.declared.answers.Contradiction.{Contradiction}
 use Rattle.cmap_flatten.specs.declared.codes.Codes.{Codes}
 use Rattle.cmap_layers.specs.Layers.{Layer}
-use Rattle.cmap_text.specs.TextFiles.{IsTextFile}
+use Rattle.cmap_text_writer.specs.Lengths.{length_by}
 use Rattle.cmap_text_writer.specs.Obstacles.{NoTextSays}
+use Rattle.cmap_text_writer.specs.Written.{IsWritten}
 use Rattle.cmap_values.specs.CodeLengths.{length_of}
 use Rattle.cmap_values.specs.Files.{File}
 use Rattle.cmap_c_writer.specs.Given.{length_given}
@@ -37,9 +38,9 @@ abbrev pub HasNoFile : List ChosenCodes → List Layer → Type 0
 HasNoFile [] layers = HasNoFlatFile layers
 HasNoFile (one ∷ more) layers = HasNoFileOfChosen (one ∷ more) layers
 
--- the text says what such a file says
+-- the text says what such a file says, and is laid out, where codes of texts have the length of the codespace ranges around them
 abbrev pub IsWrittenText : List Layer → List ChosenCodes → List ℕ → Type 0
-IsWrittenText layers chosen text = (file : File) × AnswersFor chosen layers file × IsTextFile text file
+IsWrittenText layers chosen text = (file : File) × AnswersFor chosen layers file × IsWritten (length_by file.lists.spaces) file text
 
 -- there is no such file, or no text says what it says
 abbrev pub HasNoWrittenText : List Layer → List ChosenCodes → Type 0

@@ -17,7 +17,7 @@ use cmap_values::range::Range;
 use std::alloc::Global;
 
 /// What a declaration gives its codes.
-#[derive(Clone, Copy, PartialEq, Eq)]
+#[derive(Clone, Copy)]
 pub(crate) enum Kind {
     /// They are codes.
     CodespaceRange,

@@ -1,5 +1,11 @@
 //! How many bytes the codes of texts are written with.
 
+ghost use Rattle.std.specs.Prelude.{◌≡◌, ℕ, None, map, option_and_then, option_map};
+ghost use Rattle.cmap_text_writer.specs.Lengths.{text_length};
+ghost use Rattle.cmap_values.specs.CodeLengths.{length_of};
+ghost use Rattle.cmap_values.specs.DeclarationsSeen.{codespace_seen};
+ghost use Rattle.cmap_c_writer.specs.Given.{gives_text, is_other, kind_numbered, length_given, same_after, text_lengths_given};
+
 use crate::code_lengths::code_length;
 use crate::declaration::{Declaration, Kind};
 use cmap_text_writer::TextLengths;
@@ -7,7 +13,10 @@ use cmap_values::code_length::CodeLength;
 use cmap_values::declarations::Codespace;
 
 /// As many as the declarations of texts say, if all say the same; else as the codespace ranges have.
-pub(crate) fn text_lengths(declarations: &[Declaration<'_>], spaces: &[Codespace]) -> TextLengths {
+pub(crate) fn text_lengths(declarations: &[Declaration<'_>], spaces: &[Codespace]) -> TextLengths
+    ensures { (code : ℕ) → text_length result code
+        ≡ text_lengths_given declarations.now (map codespace_seen spaces.now) code }
+{
     match same_length(declarations) {
         Some(len) => TextLengths::same(len),
         None => TextLengths::by(spaces),
@@ -15,13 +24,35 @@ pub(crate) fn text_lengths(declarations: &[Declaration<'_>], spaces: &[Codespace
 }
 
 /// The length of the codes of texts, if all have the same.
-fn same_length(declarations: &[Declaration<'_>]) -> Option<CodeLength> {
-    let mut texts = declarations.iter().filter(|declaration| Kind::numbered(declaration.kind)
-        == Some(Kind::TextRange));
-    let first = texts.next()?.byte_len;
-    if texts.all(|text| text.byte_len == first) {
-        code_length(u32::from(first))
-    } else {
-        None
+fn same_length(declarations: &[Declaration<'_>]) -> Option<CodeLength>
+    ensures { option_map length_of result ≡ option_and_then length_given (same_after None declarations.now) }
+{
+    let mut same = None;
+    for declaration in declarations {
+        if !is_text(declaration) {
+            continue;
+        }
+        if is_other(same, declaration.byte_len) {
+            return None;
+        }
+        same = Some(declaration.byte_len);
+    }
+    code_length(u32::from(same?))
+}
+
+/// Whether a declaration gives texts.
+fn is_text(declaration: &Declaration<'_>) -> bool
+    ensures { result ≡ gives_text (kind_numbered declaration.now.kind) }
+{
+    matches!(Kind::numbered(declaration.kind), Some(Kind::TextRange))
+}
+
+/// Whether this is another length than the one before.
+fn is_other(before: Option<u16>, len: u16) -> bool
+    ensures { result ≡ is_other before len }
+{
+    match before {
+        Some(before) => before != len,
+        None => false,
     }
 }

@@ -3,8 +3,9 @@
 ghost use Rattle.std.specs.Prelude.{◌≡◌, List, ℕ, MatchResult};
 ghost use Rattle.cmap_values.specs.FilesSeen.{file_seen};
 ghost use Rattle.cmap_values.specs.Outcomes.{Outcome};
-ghost use Rattle.cmap_text.specs.TextFiles.{IsTextFile};
+ghost use Rattle.cmap_text_writer.specs.Lengths.{text_length};
 ghost use Rattle.cmap_text_writer.specs.Obstacles.{NoTextSays};
+ghost use Rattle.cmap_text_writer.specs.Written.{IsWritten};
 ghost use Rattle.cmap_c_writer.specs.Made.{EndsAs};
 
 use cmap_handles::room::put;
@@ -18,13 +19,13 @@ use std::alloc::Global;
 #[derive(Clone, Copy)]
 pub(crate) struct NoText;
 
-/// A text that says what the file says; refused where there is none.
+/// A text that says what the file says, with these lengths of the codes of texts; refused where there is none.
 pub(crate) fn text_of(
     alloc: Global,
     file: &File<'_>,
     lengths: TextLengths,
 ) -> Result<Vec<u8>, Fault<NoText>>
-    ensures { Outcome (λ text. IsTextFile text.items (file_seen file.now))
+    ensures { Outcome (λ text. IsWritten (text_length lengths) (file_seen file.now) text.items)
         (λ _. NoTextSays (file_seen file.now)) result }
 {
     match write_text_by(alloc, file, lengths) {

@@ -4,20 +4,22 @@ use Rattle.std.specs.Prelude.{All, decimal, flat_map}
 use Rattle.std.specs.List.{AllByRecursion}
 use Rattle.std.proofs.lemmas.List.{append_assoc, append-nil, length-map}
 use Rattle.std.proofs.lemmas.List.Concat.{flat_map-append}
+use Rattle.std.proofs.lemmas.List.Elements.{All-cons, All-head, All-nil, All-tail}
 use Rattle.cmap_values.specs.Files.{BfEntry, CidEntry, Codespace, Declaration}
 use Rattle.cmap_tokens.specs.Numbers.{numeral, integer, radix_integer, is_real}
 use Rattle.cmap_tokens.specs.Tokens.{IsToken, Token}
 use Rattle.cmap_text.specs.TextFiles.{AreEntries, CidKind, Extent, Item, Section, bf_char, bf_range, cids, closer, codespace_range, declared_by, declares_cid, entries, mapped, notdef, opener, other, range, single}
 use Rattle.cmap_text_writer.specs.Fits.{BeginsFitting, HasUnits, IsOfExtent, IsSmallCid, IsSmallText, IsSpaceFitting}
-use Rattle.cmap_text_writer.specs.Layout.{Block, block_spelled, char_spelled, chars, declared_in, declares, line_spelled, lines, section_spelled, spaces}
+use Rattle.cmap_text_writer.specs.Layout.{Block, IsSection, IsSingleLine, Serves, block_spelled, char_spelled, chars, declared_in, declares, line_spelled, lines, section_spelled, spaces}
 use Rattle.cmap_text_writer.specs.Spelled.{cid_spelled, closer_spelled, opener_spelled, space_spelled}
 use Rattle.cmap_text_writer.specs.Told.{Appends, HasLines, IsOfSections, TellsAnyway, TellsEntries, TellsItems, TellsSections}
-use Rattle.cmap_text_writer.proofs.ArraysTold.{declared_texts, lines_told}
+use Rattle.cmap_text_writer.proofs.ArraysTold.{declared_texts, lines_told, texts_in}
 use Rattle.cmap_text_writer.proofs.EntriesTold.{cids_told, spaces_told}
 use Rattle.cmap_text_writer.proofs.TextsTold.{HaveRoom, chars_told}
 use Rattle.cmap_text_writer.proofs.ItemsTold.{items_both, no_items, one_item, other_item}
 use Rattle.cmap_text_writer.proofs.StringsTold.{decimal_is_token, number_token}
 use Rattle.cmap_text_writer.proofs.TokensTold.{is_word, lined, spaced, tokens_both}
+use Rattle.cmap_text_writer.proofs.Walked.{all_both}
 
 -- ---- the words of a section
 opener_is : (section : Section) → IsToken (opener section) (Token.Name false (opener section))
@@ -60,9 +62,9 @@ body_told section ds body h =
     ))
 
 -- with the count before it
-section_told : (lengths : ℕ → ℕ) (block : Block) (section : Section) (count : ℕ) (body : List ℕ) → count < 2 ^ 63 → length (declared_in block) ≤ 100 → TellsEntries section (declared_in block) body → opener_spelled count section ++ (body ++ closer_spelled section) ≡ block_spelled lengths block
+section_told : (lengths : ℕ → ℕ) (block : Block) (section : Section) (count : ℕ) (body : List ℕ) → count < 2 ^ 63 → length (declared_in block) ≤ 100 → IsSection block → TellsEntries section (declared_in block) body → opener_spelled count section ++ (body ++ closer_spelled section) ≡ block_spelled lengths block
     → TellsSections lengths (declared_in block) (block_spelled lengths block)
-section_told lengths block section count body small few told same =
+section_told lengths block section count body small few serves told same =
     let t = number_token count in
     let parts : (decimal count ++ 32 ∷ []) ++ ((opener section ++ 10 ∷ []) ++ (body ++ closer_spelled section)) ≡ opener_spelled count section ++ (body ++ closer_spelled section) = simp append_assoc in
     let items = items_both (other t ∷ []) (entries (declared_in block) ∷ []) _ _ (other_item t _ (spaced (decimal count) t (decimal_is_token count small)) refl refl refl) (body_told section (declared_in block) body told) in record {
@@ -71,29 +73,46 @@ section_told lengths block section count body small few told same =
       all = (tt, (few, tt));
       flat = append-nil (declared_in block);
       blocks = block ∷ [];
+      served = All-cons IsSection block [] serves (All-nil IsSection);
       says = append-nil (declared_in block);
       spelled = sym (append-nil (block_spelled lengths block));
     }
 
-pub space_section : (ss : List Codespace) → length ss ≤ 100 → All IsSpaceFitting ss → TellsAnyway (map Declaration.codespace ss) (section_spelled codespace_range space_spelled ss)
-space_section ss few fit = record { at = λ lengths. section_told lengths (spaces ss) codespace_range (length ss) (flat_map space_spelled ss) (omega (arith, few)) (omega (arith, length-map ss Declaration.codespace, few)) (spaces_told ss fit) refl }
+pub space_section : (ss : List Codespace) → 0 < length ss → length ss ≤ 100 → All IsSpaceFitting ss → TellsAnyway (map Declaration.codespace ss) (section_spelled codespace_range space_spelled ss)
+space_section ss some few fit = record { at = λ lengths. section_told lengths (spaces ss) codespace_range (length ss) (flat_map space_spelled ss) (omega (arith, few)) (omega (arith, length-map ss Declaration.codespace, few)) some (spaces_told ss fit) refl }
 
-pub cid_section : (kind : CidKind) (extent : Extent) (len : ℕ) (es : List CidEntry) → length es ≤ 100 → All (BeginsFitting len) es → All IsSmallCid es → All (λ e. IsOfExtent extent e.start e.end) es → TellsAnyway (map (declares_cid kind len) es) (section_spelled (Section.cids kind extent) (cid_spelled len extent) es)
-cid_section kind extent len es few starts small extents = record {
-  at = λ lengths. section_told lengths (declares kind extent len es) (Section.cids kind extent) (length es) (flat_map (cid_spelled len extent) es) (omega (arith, few)) (omega (arith, length-map es (declares_cid kind len), few)) (cids_told kind len extent es starts small extents) refl;
+of_extent : (extent : Extent) (es : List CidEntry) → Serves extent (λ e. e.start ≡ e.end) es → All (λ e. IsOfExtent extent e.start e.end) es
+of_extent single es (some, all) = all
+of_extent range es serves = λ k d lt. tt
+
+pub cid_section : (kind : CidKind) (extent : Extent) (len : ℕ) (es : List CidEntry) → length es ≤ 100 → All (BeginsFitting len) es → All IsSmallCid es → Serves extent (λ e. e.start ≡ e.end) es → TellsAnyway (map (declares_cid kind len) es) (section_spelled (Section.cids kind extent) (cid_spelled len extent) es)
+cid_section kind extent len es few starts small serves = record {
+  at = λ lengths. section_told lengths (declares kind extent len es) (Section.cids kind extent) (length es) (flat_map (cid_spelled len extent) es) (omega (arith, few)) (omega (arith, length-map es (declares_cid kind len), few)) serves (cids_told kind len extent es starts small (of_extent extent es serves)) refl;
 }
 
-pub char_section : (lengths : ℕ → ℕ) → HaveRoom lengths → (es : List BfEntry) → length es ≤ 100 → All HasUnits es → All IsSmallText es → All (λ e. IsOfExtent single e.start e.end) es → TellsSections lengths (map Declaration.bf es) (section_spelled bf_char (char_spelled lengths) es)
-char_section lengths room es few units small singles = section_told lengths (chars es) bf_char (length es) (flat_map (char_spelled lengths) es) (omega (arith, few)) (omega (arith, length-map es Declaration.bf, few)) (chars_told lengths room es units small singles) refl
+pub char_section : (lengths : ℕ → ℕ) → HaveRoom lengths → (es : List BfEntry) → 0 < length es → length es ≤ 100 → All HasUnits es → All IsSmallText es → All (λ e. IsOfExtent single e.start e.end) es → TellsSections lengths (map Declaration.bf es) (section_spelled bf_char (char_spelled lengths) es)
+char_section lengths room es some few units small singles = section_told lengths (chars es) bf_char (length es) (flat_map (char_spelled lengths) es) (omega (arith, few)) (omega (arith, length-map es Declaration.bf, few)) (some, singles) (chars_told lengths room es units small singles) refl
 
-pub line_section : (lengths : ℕ → ℕ) → HaveRoom lengths → (es : List BfEntry) (count : ℕ) (body : List ℕ) → count < 2 ^ 63 → length es ≤ 100 → All HasUnits es → HasLines lengths es count [] body → TellsSections lengths (map Declaration.bf es) (opener_spelled count bf_range ++ (body ++ closer_spelled bf_range))
-line_section lengths room es count body small few units h =
+-- lines for single codes: as many as texts
+single_lines : (ls : List (BfEntry × List BfEntry)) → All IsSingleLine ls → (length (texts_in ls) ≡ length ls) × All (λ e. e.start ≡ e.end) (texts_in ls)
+single_lines [] all = (refl, All-nil (λ e. e.start ≡ e.end))
+single_lines (l ∷ ls) all =
+    let (here, alone) = All-head IsSingleLine l ls all in
+    let (count, singles) = single_lines ls (All-tail IsSingleLine l ls all) in
+    subst (λ more. (length ((l.0 ∷ more) ++ texts_in ls) ≡ length (l ∷ ls)) × All (λ e. e.start ≡ e.end) ((l.0 ∷ more) ++ texts_in ls)) (sym alone)
+    (omega (arith, count), All-cons (λ e. e.start ≡ e.end) l.0 (texts_in ls) here singles)
+
+pub line_section : (lengths : ℕ → ℕ) → HaveRoom lengths → (es : List BfEntry) (count : ℕ) (body : List ℕ) → count < 2 ^ 63 → length es ≤ 100 → All HasUnits es → (count ≡ length es → All (λ e. e.start ≡ e.end) es → ⊥) → HasLines lengths es count [] body → TellsSections lengths (map Declaration.bf es) (opener_spelled count bf_range ++ (body ++ closer_spelled bf_range))
+line_section lengths room es count body small few units others h =
     let ls = h.each in
     let texts = sym h.flat in
     let same : declared_in (lines ls) ≡ map Declaration.bf es = declared_texts ls ∙ ap (map Declaration.bf) h.flat in
     let spelled : opener_spelled count bf_range ++ (body ++ closer_spelled bf_range) ≡ block_spelled lengths (lines ls) = ap (λ n. opener_spelled n bf_range ++ (body ++ closer_spelled bf_range)) (sym h.counted) ∙ ap (λ bs. opener_spelled (length ls) bf_range ++ (bs ++ closer_spelled bf_range)) h.spelled in
     let told = lines_told lengths room ls h.rows (subst (All HasUnits) texts units) (subst (All IsSmallText) texts h.small) in
-    let made = section_told lengths (lines ls) bf_range (length ls) (flat_map (λ l. line_spelled lengths (l.0 ∷ l.1)) ls) (omega (arith, h.counted, small)) (omega (arith, ap (λ (ds : List Declaration). length ds) same, length-map es Declaration.bf, few)) told refl in
+    let serves : All IsSingleLine ls → ⊥ = λ all.
+    let (count_is, singles) = single_lines ls all in
+    others (sym h.counted ∙ sym count_is ∙ ap (λ (xs : List BfEntry). length xs) h.flat) (subst (All (λ e. e.start ≡ e.end)) h.flat singles) in
+    let made = section_told lengths (lines ls) bf_range (length ls) (flat_map (λ l. line_spelled lengths (l.0 ∷ l.1)) ls) (omega (arith, h.counted, small)) (omega (arith, ap (λ (ds : List Declaration). length ds) same, length-map es Declaration.bf, few)) serves told refl in
     subst (TellsSections lengths (map Declaration.bf es)) (sym spelled) (subst (λ ds. TellsSections lengths ds (block_spelled lengths (lines ls))) same made)
 
 -- an opener, a body and a closer that are appended
@@ -107,7 +126,7 @@ of_sections_both [] js all more = more
 of_sections_both (i ∷ is) js (first, later) more = (first, of_sections_both is js later more)
 
 pub no_sections : (lengths : ℕ → ℕ) → TellsSections lengths [] []
-no_sections lengths = record { items = []; told = no_items; all = tt; flat = refl; blocks = []; says = refl; spelled = refl }
+no_sections lengths = record { items = []; told = no_items; all = tt; flat = refl; blocks = []; served = All-nil IsSection; says = refl; spelled = refl }
 
 pub no_sections_anyway : TellsAnyway [] []
 no_sections_anyway = record { at = no_sections }
@@ -119,6 +138,7 @@ sections_both lengths ds es a b first second = let is = first.items in let js = 
   all = of_sections_both is js first.all second.all;
   flat = flat_map-append declared_by is js ∙ ap (λ xs. xs ++ flat_map declared_by js) first.flat ∙ ap (λ xs. ds ++ xs) second.flat;
   blocks = first.blocks ++ second.blocks;
+  served = all_both IsSection first.blocks second.blocks first.served second.served;
   says = flat_map-append declared_in first.blocks second.blocks ∙ ap (λ xs. xs ++ flat_map declared_in second.blocks) first.says ∙ ap (λ xs. ds ++ xs) second.says;
   spelled = ap (λ bs. bs ++ b) first.spelled ∙ ap (λ bs. flat_map (block_spelled lengths) first.blocks ++ bs) second.spelled ∙ sym (flat_map-append (block_spelled lengths) first.blocks second.blocks);
 }

@@ -133,7 +133,7 @@ whole_told lengths file body sayable fits h =
     let all = items_both [] (file_items type m file.uses sections) c (head ++ (uses ++ (meta ++ tail))) (comments_told m.name sayable.name) (items_both (header_items type) (flat_map use_items file.uses ++ (metadata_items m ++ (sections ++ footer_items))) head (uses ++ (meta ++ tail)) (header_told (is_to_unicode file.lists)) later) in
     let told = subst (TellsItems (file_items type m file.uses sections)) (sym (parts_front c head uses meta tail)) all in record {
       is = file_is type file sections (front_text file ++ tail) told h.all h.flat fits;
-      laid = record { blocks = h.blocks; declared = h.says; spelled = ap (λ bs. front_text file ++ (bs ++ footer)) h.spelled };
+      laid = record { blocks = h.blocks; served = h.served; declared = h.says; spelled = ap (λ bs. front_text file ++ (bs ++ footer)) h.spelled };
       short = has_short type m file.uses sections (front_text file ++ tail) told h.all;
     }
   where

@@ -1,5 +1,5 @@
 -- How a file is laid out as text: each byte, but for where sections end and which texts stand in arrays.
-use Rattle.std.specs.Prelude.{◌≡◌, ℕ, ◌+◌, ◌==◌, ◌&&◌, Bool, not, List, [], ◌∷◌, ◌++◌, codes, flat_map, length, map, is_some}
+use Rattle.std.specs.Prelude.{◌≡◌, ℕ, ◌+◌, ◌<◌, ◌==◌, ◌&&◌, All, Bool, not, List, [], ◌∷◌, ◌++◌, codes, flat_map, length, map, is_some}
 use Rattle.cmap_values.specs.Files.{BfEntry, ByLength, CidEntry, Codespace, Declaration, File, FileMetadata, Lists}
 use Rattle.cmap_values.specs.ListsByKind.{declarations_of}
 use Rattle.cmap_tokens.specs.Ascii.{space}
@@ -41,6 +41,22 @@ declared_in (declares kind extent len es) = map (declares_cid kind len) es
 declared_in (chars es) = map Declaration.bf es
 declared_in (lines ls) = flat_map (λ l. map Declaration.bf (l.0 ∷ l.1)) ls
 
+-- a section for single codes has some, and these alone; one for ranges has not these alone
+abbrev pub Serves : {X : Type 0} → Extent → (X → Type 0) → List X → Type 0
+Serves single IsSingle xs = (0 < length xs) × All IsSingle xs
+Serves range IsSingle xs = All IsSingle xs → ⊥
+
+-- the line is of one text, and not of an array, for a single code
+abbrev pub IsSingleLine : BfEntry × List BfEntry → Type 0
+IsSingleLine l = (l.0.start ≡ l.0.end) × (l.1 ≡ [])
+
+-- no section is empty, and each has entries of its kind
+abbrev pub IsSection : Block → Type 0
+IsSection (spaces ss) = 0 < length ss
+IsSection (declares kind extent len es) = Serves extent (λ e. e.start ≡ e.end) es
+IsSection (chars es) = Serves single (λ e. e.start ≡ e.end) es
+IsSection (lines ls) = Serves range IsSingleLine ls
+
 -- the number of its lines, its first word, its lines and its last word
 abbrev pub section_spelled : {X : Type 0} → Section → (X → List ℕ) → List X → List ℕ
 section_spelled section line xs = opener_spelled (length xs) section ++ (flat_map line xs ++ closer_spelled section)
@@ -70,5 +86,6 @@ front_text file = comments_text file.metadata.name ++ (header_text (is_to_unicod
 -- the text says the file in these sections, where codes of texts have so many bytes
 pub record IsLaidOut (lengths : ℕ → ℕ) (file : File) (text : List ℕ) : Type 0 where
   pub blocks : List Block
+  pub served : All IsSection blocks
   pub declared : flat_map declared_in blocks ≡ declarations_of file.lists
   pub spelled : text ≡ front_text file ++ (flat_map (block_spelled lengths) blocks ++ footer_text (is_some file.metadata.name))

@@ -4,7 +4,7 @@ use Rattle.std.specs.List.{AllByRecursion, AllZip}
 use Rattle.cmap_values.specs.Files.{BfEntry, Declaration}
 use Rattle.cmap_tokens.specs.Tokens.{Token, Tokens}
 use Rattle.cmap_text_writer.specs.Fits.{IsLine, IsSmallText}
-use Rattle.cmap_text_writer.specs.Layout.{Block, block_spelled, declared_in, line_spelled}
+use Rattle.cmap_text_writer.specs.Layout.{Block, IsSection, block_spelled, declared_in, line_spelled}
 use Rattle.cmap_text.specs.TextFiles.{AreEntries, AreItems, Extent, IsDestination, IsEntry, Item, Section, bf_char, bf_range, declared_by, entries, other, range, single}
 
 -- bytes of which this holds come after the old ones
@@ -74,6 +74,7 @@ pub record TellsSections (lengths : ℕ → ℕ) (declared : List Declaration) (
   pub all : AllByRecursion IsOfSections items
   pub flat : flat_map declared_by items ≡ declared
   pub blocks : List Block
+  pub served : All IsSection blocks
   pub says : flat_map declared_in blocks ≡ declared
   pub spelled : bytes ≡ flat_map (block_spelled lengths) blocks
 

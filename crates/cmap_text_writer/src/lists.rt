@@ -79,9 +79,8 @@ fn push_cids(
 {
     let mut left = entries;
     while !left.is_empty() {
-        let (extent, count) = next_cid_section(len, left);
-        let (here, later) = left.split_at(count);
-        push_cid_section(out, kind, len, extent, here)?;
+        let (here, later) = left.split_at(next_cid_section(len, left));
+        push_cid_section(out, kind, len, here)?;
         left = later;
     }
     Ok(())

@@ -18,13 +18,12 @@ pub(crate) const MOST: usize = 100;
 /// The least texts of codes in a row that are shorter as an array.
 const LEAST: usize = 3;
 
-/// Which declarations of a list are the next section: for what each entry is, and how many they are.
-pub(crate) fn next_cid_section(len: CodeLength, entries: &[CidRange]) -> (Extent, usize)
+/// How many declarations of a list are the next section.
+pub(crate) fn next_cid_section(len: CodeLength, entries: &[CidRange]) -> usize
     requires { 0 < length entries.now }
-    ensures some { 0 < result.1 }
-    ensures within { result.1 ≤ length entries.now }
-    ensures few { result.1 ≤ 100 }
-    ensures all { All (λ e. IsOfExtent (extent_seen result.0) e.range.start e.range.end) (take result.1 entries.now) }
+    ensures some { 0 < result }
+    ensures within { result ≤ length entries.now }
+    ensures few { result ≤ 100 }
 {
     let here = &entries[..entries.len().min(MOST)];
     let mut walk = Walk::new(len);
@@ -39,7 +38,8 @@ pub(crate) fn next_cid_section(len: CodeLength, entries: &[CidRange]) -> (Extent
         left = later;
     }
     let (extent, count) = walk.end(entries.len());
-    section_of(here, extent, count)
+    let (_, count) = section_of(here, extent, count);
+    count
 }
 
 /// Which texts of a list are the next section: for what each entry is, and how many they are.
@@ -98,6 +98,19 @@ fn count_alike(entries: &[CidRange]) -> usize
         }
     }
     entries.len()
+}
+
+/// Whether all declarations are for single codes.
+pub(crate) fn are_single<T: HasRange>(entries: &[T]) -> bool
+    ensures yes { IsTrue result → All (λ e. (T.span e).start ≡ (T.span e).end) entries.now }
+    ensures no { All (λ e. (T.span e).start ≡ (T.span e).end) entries.now → IsTrue result }
+{
+    for entry in entries {
+        if !is_single(entry.range()) {
+            return false;
+        }
+    }
+    true
 }
 
 /// How many declarations of single codes a list begins with.

@@ -1,11 +1,12 @@
 //! Sections: a count, an opener, entries, a closer.
 
-ghost use Rattle.std.specs.Prelude.{◌≡◌, ◌++◌, ◌≤◌, All, OnOk, length, map};
+ghost use Rattle.std.specs.Prelude.{◌≡◌, ◌++◌, ◌<◌, ◌≤◌, All, IsTrue, OnOk, length, map};
 ghost use Rattle.cmap_values.specs.DeclarationsSeen.{bf_entry_seen, codespace_seen, entries_seen};
 ghost use Rattle.cmap_values.specs.Files.{Declaration};
 ghost use Rattle.cmap_text.specs.TextFiles as files;
 ghost use Rattle.cmap_values.specs.CodeLengths.{length_of};
 ghost use Rattle.cmap_text_writer.specs.Fits.{BeginsFitting, HasUnits, IsOfExtent, IsSpaceFitting};
+ghost use Rattle.cmap_text_writer.specs.Layout.{Serves};
 ghost use Rattle.cmap_text_writer.specs.Lengths.{text_length};
 ghost use Rattle.cmap_text.specs.TextSeen.{extent_seen, kind_seen, section_seen};
 ghost use Rattle.cmap_text_writer.specs.Spelled.{closer_spelled, opener_spelled};
@@ -13,6 +14,7 @@ ghost use Rattle.cmap_text_writer.specs.Told.{Appends, TellsAnyway, TellsSection
 
 use crate::digits::push_number;
 use crate::entries::{push_chars, push_cid_entries, push_lines, push_spaces};
+use crate::runs::are_single;
 use crate::text_lengths::TextLengths;
 use cmap_text::{CidKind, Extent, Section};
 use cmap_values::code_length::CodeLength;
@@ -41,6 +43,7 @@ fn push_closer(out: &mut Vec<u8>, section: Section) -> Result<(), AllocError>
 
 /// Writes a section of codespace ranges.
 pub(crate) fn push_space_section(out: &mut Vec<u8>, spaces: &[Codespace]) -> Result<(), AllocError>
+    requires some { 0 < length spaces.now }
     requires few { length spaces.now ≤ 100 }
     requires fit { All IsSpaceFitting (map codespace_seen spaces.now) }
     ensures { OnOk result (Appends out.old.items out.new.items
@@ -56,19 +59,31 @@ pub(crate) fn push_cid_section(
     out: &mut Vec<u8>,
     kind: CidKind,
     len: CodeLength,
-    extent: Extent,
     entries: &[CidRange],
 ) -> Result<(), AllocError>
+    requires some { 0 < length entries.now }
     requires few { length entries.now ≤ 100 }
     requires start { All (BeginsFitting (length_of len)) (entries_seen entries.now) }
-    requires extent { All (λ e. IsOfExtent (extent_seen extent) e.start e.end) (entries_seen entries.now) }
     ensures { OnOk result (Appends out.old.items out.new.items
         (TellsAnyway (map (files.declares_cid (kind_seen kind) (length_of len)) (entries_seen entries.now)))) }
 {
+    let extent = extent_of(entries);
     let section = Section::Cids(kind, extent);
     push_opener(out, entries.len() as u32, section)?;
     push_cid_entries(out, len, extent, entries)?;
     push_closer(out, section)
+}
+
+/// What each entry of a section of these is for: a single code, if that holds of all.
+fn extent_of(entries: &[CidRange]) -> Extent
+    requires { 0 < length entries.now }
+    ensures { Serves (extent_seen result) (λ e. e.start ≡ e.end) (entries_seen entries.now) }
+{
+    if are_single(entries) {
+        Extent::Single
+    } else {
+        Extent::Range
+    }
 }
 
 /// Writes a section of texts.
@@ -79,6 +94,7 @@ pub(crate) fn push_text_section(
     extent: Extent,
     entries: &[BfRange],
 ) -> Result<(), AllocError>
+    requires some { 0 < length entries.now }
     requires few { length entries.now ≤ 100 }
     requires units { All HasUnits (map bf_entry_seen entries.now) }
     requires extent { All (λ e. IsOfExtent (extent_seen extent) e.start e.end) (map bf_entry_seen entries.now) }
@@ -97,6 +113,7 @@ fn push_char_section(
     lengths: TextLengths,
     entries: &[BfRange],
 ) -> Result<(), AllocError>
+    requires some { 0 < length entries.now }
     requires few { length entries.now ≤ 100 }
     requires units { All HasUnits (map bf_entry_seen entries.now) }
     requires single { All (λ e. IsOfExtent files.single e.start e.end) (map bf_entry_seen entries.now) }
@@ -108,13 +125,23 @@ fn push_char_section(
     push_closer(out, Section::BfChar)
 }
 
-/// Writes a section of texts of ranges and arrays of texts. How many these are stands before them.
+/// Whether as many lines as there are texts are for single codes.
+fn are_chars(count: u32, entries: &[BfRange]) -> bool
+    ensures yes { IsTrue result → All (λ e. e.start ≡ e.end) (map bf_entry_seen entries.now) }
+    ensures no { count ≡ length entries.now → All (λ e. e.start ≡ e.end) (map bf_entry_seen entries.now) → IsTrue result }
+{
+    count as usize == entries.len() && are_single(entries)
+}
+
+/// Writes a section of texts of ranges and arrays of texts. How many these are stands before them. Where
+/// there is neither a range nor an array, it is a section of single codes.
 fn push_line_section(
     alloc: Global,
     out: &mut Vec<u8>,
     lengths: TextLengths,
     entries: &[BfRange],
 ) -> Result<(), AllocError>
+    requires some { 0 < length entries.now }
     requires few { length entries.now ≤ 100 }
     requires units { All HasUnits (map bf_entry_seen entries.now) }
     ensures { OnOk result (Appends out.old.items out.new.items
@@ -122,6 +149,9 @@ fn push_line_section(
 {
     let mut lines = Vec::with_capacity(alloc, ROOM * entries.len())?;
     let count = push_lines(&mut lines, lengths, entries)?;
+    if are_chars(count, entries) {
+        return push_char_section(out, lengths, entries);
+    }
     push_opener(out, count, Section::BfRange)?;
     out.extend_from_slice(&lines)?;
     push_closer(out, Section::BfRange)

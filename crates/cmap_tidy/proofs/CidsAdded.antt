@@ -14,7 +14,7 @@ pub cids_merged : AreMerged cid_span cid_at IsCidRow CouldBeOneCid merge
 cids_merged = record {
   filled = λ e row. row.0.0;
   meets = λ e later one. one.0.0;
-  row = λ e later row row_too one. ((omega arith, one.0.1 ∙ row_too.0.1), omega arith);
+  row = λ e later row row_too one. ((omega arith, one.0.1 ∙ row_too.0.1, row_too.0.2), omega arith);
   spans = λ e later. refl;
   old = λ e later code. refl;
   new = λ e later code row row_too one from to.

@@ -13,7 +13,7 @@ pub notdefs_merged : AreMerged cid_span notdef_at IsNotdefRow CouldBeOneNotdef m
 notdefs_merged = record {
   filled = λ e row. row.0;
   meets = λ e later one. one.0.0;
-  row = λ e later row row_too one. (omega arith, one.0.1 ∙ row_too.1);
+  row = λ e later row row_too one. (omega arith, one.0.1 ∙ row_too.1, row_too.2);
   spans = λ e later. refl;
   old = λ e later code. refl;
   new = λ e later code row row_too one from to. sym one.1;

@@ -3,6 +3,7 @@ use Rattle.std.proofs.Common.{◌≡◌, ℕ, ◌+◌, ◌-◌, ◌<◌, ◌≤�
 use Rattle.std.specs.Prelude.{All, AllPairs, nat_lt}
 use Rattle.std.proofs.lemmas.Bool.Decides.{nat_tests}
 use Rattle.std.proofs.lemmas.Bool.{cond-true}
+use Rattle.std.proofs.lemmas.List.Elements.{All-weaker}
 use Rattle.std.proofs.lemmas.Option.{same_Some}
 use Rattle.cmap_tokens.specs.Texts.{shifted}
 use Rattle.cmap_values.specs.Files.{BfEntry, CidEntry}
@@ -60,64 +61,64 @@ texts_known = record {
       λ i. record { start = starts i; end = ends i; units = units i };
 }
 
--- ---- lists whose codes are of 32 bits
-abbrev pub Fit : List CidEntry → Type 0
-Fit entries = All (λ e. e.end < 2 ^ 32) entries
+-- ---- their codes are of 32 bits
+cid_rows_fit : (entries : List CidEntry) → All IsCidRow entries → All (λ e. e.end < 2 ^ 32) entries
+cid_rows_fit entries rows = All-weaker IsCidRow (λ e. e.end < 2 ^ 32) (λ e row. row.0.2) entries rows
 
-abbrev pub FitTexts : List BfEntry → Type 0
-FitTexts entries = All (λ e. e.end < 2 ^ 32) entries
+notdef_rows_fit : (entries : List CidEntry) → All IsNotdefRow entries → All (λ e. e.end < 2 ^ 32) entries
+notdef_rows_fit entries rows = All-weaker IsNotdefRow (λ e. e.end < 2 ^ 32) (λ e row. row.2) entries rows
+
+text_rows_fit : (entries : List BfEntry) → All IsTextRow entries → All (λ e. e.end < 2 ^ 32) entries
+text_rows_fit entries rows = All-weaker IsTextRow (λ e. e.end < 2 ^ 32) (λ e row. row.0.2) entries rows
 
 -- only one tidy list says what it says
-pub only_cids : (entries others : List CidEntry) → AreTidyCids entries → Fit entries → AreTidyCids others → Fit others → SaysTheSame (cid_said others) (cid_said entries) → entries ≡ others
-only_cids entries others tidy fit tidy_too fit_too same = only_one cid_span cid_at IsCidRow CouldBeOneCid cids_known (2 ^ 32) entries others tidy fit tidy_too fit_too same
+pub only_cids : (entries others : List CidEntry) → AreTidyCids entries → AreTidyCids others → SaysTheSame (cid_said others) (cid_said entries) → entries ≡ others
+only_cids entries others tidy tidy_too same = only_one cid_span cid_at IsCidRow CouldBeOneCid cids_known (2 ^ 32) entries others tidy (cid_rows_fit entries tidy.rows) tidy_too (cid_rows_fit others tidy_too.rows) same
 
-pub only_notdefs : (entries others : List CidEntry) → AreTidyNotdefs entries → Fit entries → AreTidyNotdefs others → Fit others → SaysTheSame (notdef_said others) (notdef_said entries) → entries ≡ others
-only_notdefs entries others tidy fit tidy_too fit_too same = only_one cid_span notdef_at IsNotdefRow CouldBeOneNotdef notdefs_known (2 ^ 32) entries others tidy fit tidy_too fit_too same
+pub only_notdefs : (entries others : List CidEntry) → AreTidyNotdefs entries → AreTidyNotdefs others → SaysTheSame (notdef_said others) (notdef_said entries) → entries ≡ others
+only_notdefs entries others tidy tidy_too same = only_one cid_span notdef_at IsNotdefRow CouldBeOneNotdef notdefs_known (2 ^ 32) entries others tidy (notdef_rows_fit entries tidy.rows) tidy_too (notdef_rows_fit others tidy_too.rows) same
 
-pub only_texts : (entries others : List BfEntry) → AreTidyTexts entries → FitTexts entries → AreTidyTexts others → FitTexts others → SaysTheSame (units_said others) (units_said entries) → entries ≡ others
-only_texts entries others tidy fit tidy_too fit_too same = only_one bf_span units_at IsTextRow CouldBeOneText texts_known (2 ^ 32) entries others tidy fit tidy_too fit_too same
+pub only_texts : (entries others : List BfEntry) → AreTidyTexts entries → AreTidyTexts others → SaysTheSame (units_said others) (units_said entries) → entries ≡ others
+only_texts entries others tidy tidy_too same = only_one bf_span units_at IsTextRow CouldBeOneText texts_known (2 ^ 32) entries others tidy (text_rows_fit entries tidy.rows) tidy_too (text_rows_fit others tidy_too.rows) same
 
 -- no list of rows in order without overlaps that says the same is shorter
-pub fewest_cids : (entries others : List CidEntry) → AreTidyCids entries → Fit entries → All IsCidRow others → AllPairs (λ e later. e.end < later.start) others → Fit others
-    → SaysTheSame (cid_said others) (cid_said entries) → length entries ≤ length others
-fewest_cids entries others tidy fit rows apart fit_too same = fewest cid_span cid_at IsCidRow CouldBeOneCid cids_known (2 ^ 32) entries others tidy fit rows apart fit_too same
+pub fewest_cids : (entries others : List CidEntry) → AreTidyCids entries → All IsCidRow others → AllPairs (λ e later. e.end < later.start) others → SaysTheSame (cid_said others) (cid_said entries) → length entries ≤ length others
+fewest_cids entries others tidy rows apart same = fewest cid_span cid_at IsCidRow CouldBeOneCid cids_known (2 ^ 32) entries others tidy (cid_rows_fit entries tidy.rows) rows apart (cid_rows_fit others rows) same
 
-pub fewest_notdefs : (entries others : List CidEntry) → AreTidyNotdefs entries → Fit entries → All IsNotdefRow others → AllPairs (λ e later. e.end < later.start) others → Fit others
-    → SaysTheSame (notdef_said others) (notdef_said entries) → length entries ≤ length others
-fewest_notdefs entries others tidy fit rows apart fit_too same = fewest cid_span notdef_at IsNotdefRow CouldBeOneNotdef notdefs_known (2 ^ 32) entries others tidy fit rows apart fit_too same
+pub fewest_notdefs : (entries others : List CidEntry) → AreTidyNotdefs entries → All IsNotdefRow others → AllPairs (λ e later. e.end < later.start) others → SaysTheSame (notdef_said others) (notdef_said entries) → length entries ≤ length others
+fewest_notdefs entries others tidy rows apart same = fewest cid_span notdef_at IsNotdefRow CouldBeOneNotdef notdefs_known (2 ^ 32) entries others tidy (notdef_rows_fit entries tidy.rows) rows apart (notdef_rows_fit others rows) same
 
-pub fewest_texts : (entries others : List BfEntry) → AreTidyTexts entries → FitTexts entries → All IsTextRow others → AllPairs (λ e later. e.end < later.start) others → FitTexts others
-    → SaysTheSame (units_said others) (units_said entries) → length entries ≤ length others
-fewest_texts entries others tidy fit rows apart fit_too same = fewest bf_span units_at IsTextRow CouldBeOneText texts_known (2 ^ 32) entries others tidy fit rows apart fit_too same
+pub fewest_texts : (entries others : List BfEntry) → AreTidyTexts entries → All IsTextRow others → AllPairs (λ e later. e.end < later.start) others → SaysTheSame (units_said others) (units_said entries) → length entries ≤ length others
+fewest_texts entries others tidy rows apart same = fewest bf_span units_at IsTextRow CouldBeOneText texts_known (2 ^ 32) entries others tidy (text_rows_fit entries tidy.rows) rows apart (text_rows_fit others rows) same
 
 -- ---- what a file is written anew as
-cids_say_some : (entries : List CidEntry) (code : ℕ) → AreTidyCids entries → Fit entries → cid_said entries code ≡ Some None → ⊥
-cids_say_some entries code tidy fit is =
-    let (e, row, from, to, none) = found cid_span cid_at IsCidRow CouldBeOneCid cids_known (2 ^ 32) entries code None tidy fit is in
+cids_say_some : (entries : List CidEntry) (code : ℕ) → AreTidyCids entries → cid_said entries code ≡ Some None → ⊥
+cids_say_some entries code tidy is =
+    let (e, row, from, to, none) = found cid_span cid_at IsCidRow CouldBeOneCid cids_known (2 ^ 32) entries code None tidy (cid_rows_fit entries tidy.rows) is in
     let nothing : Some (e.cid + (code - e.start)) ≡ None = sym (cid_given e code row from to) ∙ none in
     cc
 
 units_given : (e : BfEntry) (code : ℕ) → IsTextRow e → e.start ≤ code → code ≤ e.end → units_at e code ≡ Some (set e.units (length e.units - 1) (last_unit e.units + (code - e.start)))
 units_given e code row from to = shifted_set e.units (code - e.start) (last_unit e.units) (length e.units - 1) row.1 refl refl (omega arith)
 
-texts_say_some : (entries : List BfEntry) (code : ℕ) → AreTidyTexts entries → FitTexts entries → units_said entries code ≡ Some None → ⊥
-texts_say_some entries code tidy fit is =
-    let (e, row, from, to, none) = found bf_span units_at IsTextRow CouldBeOneText texts_known (2 ^ 32) entries code None tidy fit is in
+texts_say_some : (entries : List BfEntry) (code : ℕ) → AreTidyTexts entries → units_said entries code ≡ Some None → ⊥
+texts_say_some entries code tidy is =
+    let (e, row, from, to, none) = found bf_span units_at IsTextRow CouldBeOneText texts_known (2 ^ 32) entries code None tidy (text_rows_fit entries tidy.rows) is in
     let nothing : Some (set e.units (length e.units - 1) (last_unit e.units + (code - e.start))) ≡ None = sym (units_given e code row from to) ∙ none in
     cc
 
 -- a list is written anew as one list only
-pub one_cids : (old new other : List CidEntry) → AreTidiedCids old new → Fit new → AreTidiedCids old other → Fit other → new ≡ other
-one_cids old new other (inl tidied) fit (inl tidied_too) fit_too = only_cids new other tidied.0 fit tidied_too.0 fit_too (λ code small. tidied.1 code small ∙ sym (tidied_too.1 code small))
-one_cids old new other (inl tidied) fit (inr ((code, small, none), kept)) fit_too = absurd (cids_say_some new code tidied.0 fit (tidied.1 code small ∙ none))
-one_cids old new other (inr ((code, small, none), kept)) fit (inl tidied) fit_too = absurd (cids_say_some other code tidied.0 fit_too (tidied.1 code small ∙ none))
-one_cids old new other (inr kept) fit (inr kept_too) fit_too = kept.1 ∙ sym kept_too.1
+pub one_cids : (old new other : List CidEntry) → AreTidiedCids old new → AreTidiedCids old other → new ≡ other
+one_cids old new other (inl tidied) (inl tidied_too) = only_cids new other tidied.0 tidied_too.0 (λ code small. tidied.1 code small ∙ sym (tidied_too.1 code small))
+one_cids old new other (inl tidied) (inr ((code, small, none), kept)) = absurd (cids_say_some new code tidied.0 (tidied.1 code small ∙ none))
+one_cids old new other (inr ((code, small, none), kept)) (inl tidied) = absurd (cids_say_some other code tidied.0 (tidied.1 code small ∙ none))
+one_cids old new other (inr kept) (inr kept_too) = kept.1 ∙ sym kept_too.1
 
-pub one_notdefs : (old new other : List CidEntry) → AreTidiedNotdefs old new → Fit new → AreTidiedNotdefs old other → Fit other → new ≡ other
-one_notdefs old new other tidied fit tidied_too fit_too = only_notdefs new other tidied.0 fit tidied_too.0 fit_too (λ code small. tidied.1 code small ∙ sym (tidied_too.1 code small))
+pub one_notdefs : (old new other : List CidEntry) → AreTidiedNotdefs old new → AreTidiedNotdefs old other → new ≡ other
+one_notdefs old new other tidied tidied_too = only_notdefs new other tidied.0 tidied_too.0 (λ code small. tidied.1 code small ∙ sym (tidied_too.1 code small))
 
-pub one_texts : (old new other : List BfEntry) → AreTidiedTexts old new → FitTexts new → AreTidiedTexts old other → FitTexts other → new ≡ other
-one_texts old new other (inl tidied) fit (inl tidied_too) fit_too = only_texts new other tidied.0 fit tidied_too.0 fit_too (λ code small. tidied.1 code small ∙ sym (tidied_too.1 code small))
-one_texts old new other (inl tidied) fit (inr ((code, small, none), kept)) fit_too = absurd (texts_say_some new code tidied.0 fit (tidied.1 code small ∙ none))
-one_texts old new other (inr ((code, small, none), kept)) fit (inl tidied) fit_too = absurd (texts_say_some other code tidied.0 fit_too (tidied.1 code small ∙ none))
-one_texts old new other (inr kept) fit (inr kept_too) fit_too = kept.1 ∙ sym kept_too.1
+pub one_texts : (old new other : List BfEntry) → AreTidiedTexts old new → AreTidiedTexts old other → new ≡ other
+one_texts old new other (inl tidied) (inl tidied_too) = only_texts new other tidied.0 tidied_too.0 (λ code small. tidied.1 code small ∙ sym (tidied_too.1 code small))
+one_texts old new other (inl tidied) (inr ((code, small, none), kept)) = absurd (texts_say_some new code tidied.0 (tidied.1 code small ∙ none))
+one_texts old new other (inr ((code, small, none), kept)) (inl tidied) = absurd (texts_say_some other code tidied.0 (tidied.1 code small ∙ none))
+one_texts old new other (inr kept) (inr kept_too) = kept.1 ∙ sym kept_too.1

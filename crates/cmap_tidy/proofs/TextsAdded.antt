@@ -17,7 +17,7 @@ texts_merged = record {
   meets = λ e later one. one.0.0;
   row = λ e later row row_too one.
       let (front, same, small, made, last) = shifted_is e.units later.units (later.start - e.start) one.1 in
-      ((omega arith, one.0.1 ∙ row_too.0.1), row.1, row.2, omega arith);
+      ((omega arith, one.0.1 ∙ row_too.0.1, row_too.0.2), row.1, row.2, omega arith);
   spans = λ e later. refl;
   old = λ e later code. refl;
   new = λ e later code row row_too one from to.

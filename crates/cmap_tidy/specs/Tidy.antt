@@ -32,9 +32,9 @@ units_said entries code = said bf_span units_at entries code
 abbrev pub said_with : {X : Type 0} → Range → (ℕ → X) → (ℕ → Option X) → ℕ → Option X
 said_with range here before code = if contains (record { start = range.start; end = range.end }) code then Some (here code) else before code
 
--- codes that differ in their last byte alone: Adobe Technical Note 5014
+-- codes of 32 bits that differ in their last byte alone: Adobe Technical Note 5014
 abbrev pub IsCodeRow : Span → Type 0
-IsCodeRow span = (span.start ≤ span.end) × (span.start / 256 ≡ span.end / 256)
+IsCodeRow span = (span.start ≤ span.end) × (span.start / 256 ≡ span.end / 256) × (span.end < 2 ^ 32)
 
 -- the later codes go on from the others in the same row
 abbrev pub GoesOn : Span → Span → Type 0

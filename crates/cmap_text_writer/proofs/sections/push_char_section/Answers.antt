@@ -19,5 +19,5 @@ returns c =
     IfOk-weaker _ _ _
     (λ _ closed.
     let is : c.push_closer.new.out.items ≡ c.args.out.now.items ++ section_spelled bf_char (char_spelled (text_length lengths)) es = appended_section bf_char _ _ c.args.out.now.items c.push_opener.new.out.items c.push_chars.new.out.items c.push_closer.new.out.items (flat_map (char_spelled (text_length lengths)) es) (omega (arith, long)) c.in_ok-push_opener.ensures wrote.written closed in
-    (section_spelled bf_char (char_spelled (text_length lengths)) es, is, char_section (text_length lengths) (of_lengths lengths) es (omega (arith, long, c.requires.few)) c.requires.units wrote.small c.requires.single))
+    (section_spelled bf_char (char_spelled (text_length lengths)) es, is, char_section (text_length lengths) (of_lengths lengths) es (omega (arith, long, c.requires.some)) (omega (arith, long, c.requires.few)) c.requires.units wrote.small c.requires.single))
     c.push_closer.ensures

@@ -15,4 +15,4 @@ returns c =
     let long = length-map c.args.spaces.now codespace_seen in
     IfOk-weaker _ _ _ (λ _ closed.
     let is : c.push_closer.new.out.items ≡ c.args.out.now.items ++ section_spelled codespace_range space_spelled spaces = appended_section codespace_range _ _ c.args.out.now.items c.push_opener.new.out.items c.push_spaces.new.out.items c.push_closer.new.out.items (flat_map space_spelled spaces) (omega (arith, long)) c.in_ok-push_opener.ensures c.in_ok-push_spaces.ensures closed in
-    (section_spelled codespace_range space_spelled spaces, is, space_section spaces (omega (arith, long, c.requires.few)) c.requires.fit)) c.push_closer.ensures
+    (section_spelled codespace_range space_spelled spaces, is, space_section spaces (omega (arith, long, c.requires.some)) (omega (arith, long, c.requires.few)) c.requires.fit)) c.push_closer.ensures
