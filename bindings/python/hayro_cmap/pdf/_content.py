@@ -126,7 +126,7 @@ class Content:
     def _measure(self, font: Optional[Font]) -> Measure:
         """What measures the strings of a font."""
         if font not in self._measures:
-            self._measures[font] = Measure(font, lambda font, string: font.characters(string, *self._options))
+            self._measures[font] = Measure(font, *self._options)
         return self._measures[font]
 
     def font(self, dictionary: Any) -> Optional[Font]:

@@ -347,6 +347,11 @@ class Font:
         """
         return self._found(self._kept_extractor(lenient).characters(string), lenient, guesses)
 
+    def texts(self, string: bytes, lenient: bool, guesses: bool) -> List[Tuple[Code, Optional[str]]]:
+        """The codes of such a string, each with its text: what `characters` has of them, of which nothing is kept."""
+        found = self._kept_extractor(lenient).characters(string)
+        return [(code, self._text_and_source(code, text, lenient, guesses)[0]) for code, text in found]
+
     def characters_of(
         self, strings: Iterable[bytes], lenient: bool = True, guesses: bool = True
     ) -> List[List[Character]]:
@@ -362,18 +367,20 @@ class Font:
             key = code[:2] if not code.cut_short else (code.code, -code.byte_len)
             character = known.get(key)
             if character is None:
-                character = known[key] = self._character(code, text, lenient, guesses)
+                text, source = self._text_and_source(code, text, lenient, guesses)
+                character = known[key] = Character(self, code, text, source)
             found.append(character)
         return found
 
-    def _character(self, code: Code, text: Optional[str], lenient: bool, guesses: bool) -> Character:
-        """A character of the font, of which an extractor gives this text."""
+    def _text_and_source(
+        self, code: Code, text: Optional[str], lenient: bool, guesses: bool
+    ) -> Tuple[Optional[str], Source]:
+        """The text of a code, of which an extractor gives this one, and where it comes from."""
         if self.is_composite:
-            text, source = self._text_of_composite(code, text, lenient)
+            found = self._text_of_composite(code, text, lenient)
         else:
-            text, source = self._text_of_simple(code.code, text, lenient)
-        is_left_out = source.is_guess and not guesses
-        return Character(self, code, None, Source.NONE) if is_left_out else Character(self, code, text, source)
+            found = self._text_of_simple(code.code, text, lenient)
+        return found if guesses or not found[1].is_guess else (None, Source.NONE)
 
     def _text_of_composite(self, code: Code, text: Optional[str], lenient: bool) -> Tuple[Optional[str], Source]:
         """The text of a code of a composite font, of which an extractor gives this text."""

@@ -214,8 +214,8 @@ def is_vertical(font: "Font") -> bool:
     kind = font.encoding_kind
     if kind == "stream" and integer_at(font.dictionary.get("/Encoding"), "/WMode") == WritingMode.VERTICAL:
         return True
-    modes = (it.metadata.writing_mode for it in font.encoding_layers)
-    mode = next((it for it in modes if it is not None), None)
+    encoding = font.encoding.lenient
+    mode = None if encoding is None else encoding._first_writing_mode()
     if mode is None and kind == "name":
         # a predefined CMap that isn't at hand has its writing mode in its name
         return (font.encoding_name or "").endswith("V")
@@ -272,7 +272,7 @@ def values_of(listed: Any) -> List[Value]:
     try:
         if not isinstance(listed, pikepdf.Array):
             return []
-        written = listed.unparse()
+        written = listed.unparse(resolved=True)
         if NUMBERS.fullmatch(written):
             return list(map(float, written[1:-1].split()))
         if PLAIN.fullmatch(written):
