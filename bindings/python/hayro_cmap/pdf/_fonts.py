@@ -404,7 +404,7 @@ class Font:
             return text, Source.TO_UNICODE
         if lenient and self._has_empty_text(code):
             return "", Source.TO_UNICODE
-        found = ((text_of(code), source) for source, text_of in self._ways)
+        found = ((text_of(self, code), source) for source, text_of in self._ways)
         return next(((text, source) for text, source in found if text is not None), (None, Source.NONE))
 
     def _has_empty_text(self, code: int) -> bool:
@@ -425,17 +425,25 @@ class Font:
         return found
 
     @functools.cached_property
-    def _ways(self) -> List[Tuple[Source, Callable[[int], Optional[str]]]]:
+    def _ways(self) -> List[Tuple[Source, Callable[["Font", int], Optional[str]]]]:
         """How a code of a simple font has a text without a ToUnicode CMap, the best way first."""
-        by_name = (Source.GLYPH_NAME, self._text_of_name)
-        by_program = (Source.FONT_PROGRAM, lambda code: self.program_texts[code])
-        by_number = (Source.GLYPH_NUMBER, lambda code: self.guessed_texts.get(code))
+        by_name = (Source.GLYPH_NAME, Font._text_of_name)
+        by_program = (Source.FONT_PROGRAM, Font._text_of_program)
+        by_number = (Source.GLYPH_NUMBER, Font._text_of_number)
         is_by_code = self.subtype == "TrueType" and self.encoding_kind == "none"
         return [by_program, by_name, by_number] if is_by_code else [by_name, by_program, by_number]
 
     def _text_of_name(self, code: int) -> Optional[str]:
         """The text of the name of the glyph of a code of a simple font."""
         return texts_of_names([self.glyph_names[code]], self.base_font or "")[0]
+
+    def _text_of_program(self, code: int) -> Optional[str]:
+        """That of the glyph of the code in the embedded program."""
+        return self.program_texts[code]
+
+    def _text_of_number(self, code: int) -> Optional[str]:
+        """That of the number that the glyph has for a name, which is a guess."""
+        return self.guessed_texts.get(code)
 
     @property
     def faults(self) -> List[Fault]:
