@@ -350,6 +350,8 @@ class Font:
     def texts(self, string: bytes, lenient: bool, guesses: bool) -> List[Tuple[Code, Optional[str]]]:
         """The codes of such a string, each with its text: what `characters` has of them, of which nothing is kept."""
         found = self._kept_extractor(lenient).characters(string)
+        if not self.is_composite and all(text is not None for _, text in found):
+            return found
         return [(code, self._text_and_source(code, text, lenient, guesses)[0]) for code, text in found]
 
     def characters_of(

@@ -44,8 +44,10 @@ class Measured(NamedTuple):
 def is_right_to_left(text: str) -> bool:
     """Whether a text has a character that is written from right to left (Unicode Standard Annex 9, 3.2)."""
     # few texts have a character behind all that are written from left to right
-    return max(text, default="") >= FIRST_RIGHT_TO_LEFT and any(
-        unicodedata.bidirectional(it) in RIGHT_TO_LEFT for it in text
+    return (
+        not text.isascii()
+        and max(text) >= FIRST_RIGHT_TO_LEFT
+        and any(unicodedata.bidirectional(it) in RIGHT_TO_LEFT for it in text)
     )
 
 
