@@ -38,7 +38,7 @@ MOST_FAULTS = 1_000
 MOST_IN_CHAIN = 16
 
 #: How deep the nodes of pages are looked up for resources.
-MOST_NODES = 64
+MOST_NODES = 1 << 10
 
 #: The registries and orderings whose CIDs have a text, where the system has the map (ISO 32000-1, 9.10.2).
 COLLECTIONS = {b"Adobe-GB1", b"Adobe-CNS1", b"Adobe-Japan1", b"Adobe-Korea1", b"Adobe-KR"}
