@@ -316,7 +316,8 @@ class Font:
 
         A ToUnicode CMap with faults gives no text, but with `lenient` what it says apart from them. Where a composite
         font has no CMap that can be had, strings are cut by the codespace ranges of the ToUnicode CMap, and without
-        these into codes of two bytes.
+        these into codes of two bytes. Its `encode` goes by the map from Unicode to the collection, where the system has
+        that.
         """
         to_unicode = self.to_unicode.lenient if lenient else self.to_unicode.strict
         if not self.is_composite:
@@ -325,8 +326,11 @@ class Font:
         if encoding is None:
             left = self.to_unicode.lenient
             has_ranges = left is not None and any(layer.codespaces for layer in left.layers)
-            encoding = left if has_ranges else CMap.identity()
-        return Extractor(encoding, to_unicode=to_unicode, collection=self.texts_of_cids)
+            return Extractor(left if has_ranges else CMap.identity(), to_unicode=to_unicode)
+        extractor = Extractor(encoding, to_unicode=to_unicode, collection=self.texts_of_cids)
+        # few strings are encoded, and the map is large
+        extractor._unicode_of = functools.partial(unicode_or_none, encoding, self.collection)
+        return extractor
 
     def _kept_extractor(self, lenient: bool) -> Extractor:
         """The same, made once."""
@@ -559,6 +563,14 @@ def fault_of(refused: Refused, of: str, number: int, lines: Lines) -> Fault:
     """Why a CMap is refused, whose lines are these."""
     line = None if refused.names else lines.line(refused.offset)
     return Fault(of, number, refused.offset, line, refused.names, refused.words)
+
+
+def unicode_or_none(encoding: CMap, collection: Optional[bytes]) -> Optional[CMap]:
+    """The map from Unicode to the CIDs of the collection of a font; None where there is none."""
+    try:
+        return encoding.unicode(name=collection)
+    except Refused:
+        return None
 
 
 def collection_in(info: Any) -> Optional[bytes]:
