@@ -74,6 +74,8 @@ class Extractor:
             raise TypeError("files or a bundle are needed for the name of a collection")
         maps = (encoding, to_unicode, cids, unicode)
         self._maps = [CMap(Handle()) if cmap is None else cmap.share() for cmap in maps]
+        #: What finds the map from Unicode once it is needed, where none is given.
+        self._unicode_of: Optional[Callable[[], Optional[CMap]]] = None
         self._encoders: Dict[bool, Encoder] = {}
         self._rooms: List[Room] = []
         self._known: Dict[bytes, Character] = {}
@@ -152,7 +154,12 @@ class Extractor:
         if not isinstance(text, str):
             raise TypeError(f"a text is encoded, and not {type(text).__name__}")
         exact = bool(exact)
-        return self._encoders.get(exact) or self._encoders.setdefault(exact, Encoder(*self._maps, exact))
+        return self._encoders.get(exact) or self._encoders.setdefault(exact, self._made_encoder(exact))
+
+    def _made_encoder(self, exact):
+        """One more encoder, over the map from Unicode, which may have to be found."""
+        found = None if self._unicode_of is None else self._unicode_of()
+        return Encoder(*self._maps[:3], self._maps[3] if found is None else found, exact)
 
     def items(self) -> Iterator[Tuple[bytes, str]]:
         """Each code in a codespace range that has a text: its bytes, and the text that `characters` gives. So

@@ -464,14 +464,22 @@ class CMap(Owned):
     def _metadata(self, layer):
         supplement = c_int32()
         has_supplement = self._ask(library.hayro_cmap_layer_supplement, layer, supplement)
-        mode = self._ask(library.hayro_cmap_layer_writing_mode, layer)
         return Metadata(
             name=self._put(library.hayro_cmap_layer_name, layer),
             registry=self._put(library.hayro_cmap_layer_registry, layer),
             ordering=self._put(library.hayro_cmap_layer_ordering, layer),
             supplement=supplement.value if has_supplement else None,
-            writing_mode=None if mode == NO_MODE else WritingMode(mode),
+            writing_mode=self._writing_mode(layer),
         )
+
+    def _writing_mode(self, layer):
+        mode = self._ask(library.hayro_cmap_layer_writing_mode, layer)
+        return None if mode == NO_MODE else WritingMode(mode)
+
+    def _first_writing_mode(self) -> Optional[WritingMode]:
+        """That of the first layer that gives one."""
+        modes = map(self._writing_mode, range(self._ask(library.hayro_cmap_layers)))
+        return next((it for it in modes if it is not None), None)
 
     def _all_codespaces(self) -> List[Codespace]:
         """The codespace ranges of all layers."""

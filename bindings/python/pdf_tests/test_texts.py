@@ -5,7 +5,7 @@ from unittest import mock
 
 from pikepdf import Array, Dictionary, Name
 
-from hayro_cmap import Code, pdf
+from hayro_cmap import Code, Grade, pdf
 from hayro_cmap.pdf import Source, _encodings, _fonts, _glyphs, _interpreter
 
 from made import BAD, GOOD, WIDE, File, needs_glyph_list, needs_resources, showing
@@ -136,6 +136,14 @@ class Sources(unittest.TestCase):
         file.show(b"/F 9 Tf <00220023> Tj", F=file.composite(Name("/Identity-H"), "Japan1", to_unicode))
         self.assertEqual(file.text(), "xB")
         self.assertEqual([it.source for it in file.characters()], [Source.TO_UNICODE, Source.COLLECTION])
+
+    @needs_resources
+    def test_strings_by_the_map_from_unicode(self):
+        file = File()
+        file.show(b"", F=file.composite(Name("/Identity-H"), "Japan1"))
+        # UniJIS-UTF16-H has <0020> <005b> 1, and Adobe-Japan1 also has an A of half the width
+        [piece] = file.font().extractor().pieces("A")
+        self.assertEqual((piece.code, piece.grade), (b"\0\x22", Grade.CANONICAL))
 
     @needs_resources
     def test_the_collection_of_a_predefined_encoding(self):

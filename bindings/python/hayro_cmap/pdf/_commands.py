@@ -78,7 +78,8 @@ def run(path: str, command: str, options: Dict[str, Any], progress: Progress = i
     try:
         with opened(path) as on_disk:
             file = in_memory(on_disk)
-            with pikepdf.open(file, password=password) as pdf:
+            # what nodes above a page give it is looked up where it is needed, and a file that is written stays as it is
+            with pikepdf.open(file, password=password, inherit_page_attributes=False) as pdf:
                 job = Job(path, file, pdf, options, lambda pages: deadline.over(progress(pages)), deadline)
                 return COMMANDS[command](job)
     except pikepdf.PasswordError:

@@ -1,6 +1,7 @@
 """Which strings the pages of a PDF file show, with which fonts, and the lines of text that they make."""
 
 import functools
+import itertools
 from typing import Any, Dict, Iterator, List, NamedTuple, Optional, Tuple
 
 import pikepdf
@@ -95,20 +96,15 @@ class Content:
         A line goes on as long as strings are shown on it, one after another, and a wide gap between two is a space.
         Text from right to left is in the order in which it is read.
         """
-        left = MOST_CHARACTERS
-        for line in filter(None, self._lines_and_none(page)):
+        left, lines = MOST_CHARACTERS, Lines()
+        # of most strings there is no line, which then goes on
+        begun = map(lines.add, self.pieces(page, True, self._measure))
+        for line in filter(None, itertools.chain(begun, map(Lines.end, [lines]))):
             left -= len(line)
             if left < 0:
                 self.fault(f"a page has more than {MOST_CHARACTERS:,} characters")
                 return
             yield line
-
-    def _lines_and_none(self, page: pikepdf.Page) -> Iterator[Optional[str]]:
-        """The lines of a page, each when the string after it comes, and None where a string goes on with a line."""
-        lines = Lines()
-        for piece in self.pieces(page, True, self._measure):
-            yield lines.add(piece)
-        yield lines.end()
 
     def shown(self, page: pikepdf.Page, annotations: bool = True) -> Iterator[Shown]:
         """The strings that a page shows, in the order of its content, and then those of its annotations."""
@@ -126,7 +122,7 @@ class Content:
     def _measure(self, font: Optional[Font]) -> Measure:
         """What measures the strings of a font."""
         if font not in self._measures:
-            self._measures[font] = Measure(font, lambda font, string: font.characters(string, *self._options))
+            self._measures[font] = Measure(font, *self._options)
         return self._measures[font]
 
     def font(self, dictionary: Any) -> Optional[Font]:

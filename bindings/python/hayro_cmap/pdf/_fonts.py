@@ -38,7 +38,7 @@ MOST_FAULTS = 1_000
 MOST_IN_CHAIN = 16
 
 #: How deep the nodes of pages are looked up for resources.
-MOST_NODES = 64
+MOST_NODES = 1 << 10
 
 #: The registries and orderings whose CIDs have a text, where the system has the map (ISO 32000-1, 9.10.2).
 COLLECTIONS = {b"Adobe-GB1", b"Adobe-CNS1", b"Adobe-Japan1", b"Adobe-Korea1", b"Adobe-KR"}
@@ -316,7 +316,8 @@ class Font:
 
         A ToUnicode CMap with faults gives no text, but with `lenient` what it says apart from them. Where a composite
         font has no CMap that can be had, strings are cut by the codespace ranges of the ToUnicode CMap, and without
-        these into codes of two bytes.
+        these into codes of two bytes. Its `encode` goes by the map from Unicode to the collection, where the system has
+        that.
         """
         to_unicode = self.to_unicode.lenient if lenient else self.to_unicode.strict
         if not self.is_composite:
@@ -325,8 +326,11 @@ class Font:
         if encoding is None:
             left = self.to_unicode.lenient
             has_ranges = left is not None and any(layer.codespaces for layer in left.layers)
-            encoding = left if has_ranges else CMap.identity()
-        return Extractor(encoding, to_unicode=to_unicode, collection=self.texts_of_cids)
+            return Extractor(left if has_ranges else CMap.identity(), to_unicode=to_unicode)
+        extractor = Extractor(encoding, to_unicode=to_unicode, collection=self.texts_of_cids)
+        # few strings are encoded, and the map is large
+        extractor._unicode_of = functools.partial(unicode_or_none, encoding, self.collection)
+        return extractor
 
     def _kept_extractor(self, lenient: bool) -> Extractor:
         """The same, made once."""
@@ -347,6 +351,13 @@ class Font:
         """
         return self._found(self._kept_extractor(lenient).characters(string), lenient, guesses)
 
+    def texts(self, string: bytes, lenient: bool, guesses: bool) -> List[Tuple[Code, Optional[str]]]:
+        """The codes of such a string, each with its text: what `characters` has of them, of which nothing is kept."""
+        found = self._kept_extractor(lenient).characters(string)
+        if not self.is_composite and all(text is not None for _, text in found):
+            return found
+        return [(code, self._text_and_source(code, text, lenient, guesses)[0]) for code, text in found]
+
     def characters_of(
         self, strings: Iterable[bytes], lenient: bool = True, guesses: bool = True
     ) -> List[List[Character]]:
@@ -362,18 +373,20 @@ class Font:
             key = code[:2] if not code.cut_short else (code.code, -code.byte_len)
             character = known.get(key)
             if character is None:
-                character = known[key] = self._character(code, text, lenient, guesses)
+                text, source = self._text_and_source(code, text, lenient, guesses)
+                character = known[key] = Character(self, code, text, source)
             found.append(character)
         return found
 
-    def _character(self, code: Code, text: Optional[str], lenient: bool, guesses: bool) -> Character:
-        """A character of the font, of which an extractor gives this text."""
+    def _text_and_source(
+        self, code: Code, text: Optional[str], lenient: bool, guesses: bool
+    ) -> Tuple[Optional[str], Source]:
+        """The text of a code, of which an extractor gives this one, and where it comes from."""
         if self.is_composite:
-            text, source = self._text_of_composite(code, text, lenient)
+            found = self._text_of_composite(code, text, lenient)
         else:
-            text, source = self._text_of_simple(code.code, text, lenient)
-        is_left_out = source.is_guess and not guesses
-        return Character(self, code, None, Source.NONE) if is_left_out else Character(self, code, text, source)
+            found = self._text_of_simple(code.code, text, lenient)
+        return found if guesses or not found[1].is_guess else (None, Source.NONE)
 
     def _text_of_composite(self, code: Code, text: Optional[str], lenient: bool) -> Tuple[Optional[str], Source]:
         """The text of a code of a composite font, of which an extractor gives this text."""
@@ -397,7 +410,7 @@ class Font:
             return text, Source.TO_UNICODE
         if lenient and self._has_empty_text(code):
             return "", Source.TO_UNICODE
-        found = ((text_of(code), source) for source, text_of in self._ways)
+        found = ((text_of(self, code), source) for source, text_of in self._ways)
         return next(((text, source) for text, source in found if text is not None), (None, Source.NONE))
 
     def _has_empty_text(self, code: int) -> bool:
@@ -418,17 +431,25 @@ class Font:
         return found
 
     @functools.cached_property
-    def _ways(self) -> List[Tuple[Source, Callable[[int], Optional[str]]]]:
+    def _ways(self) -> List[Tuple[Source, Callable[["Font", int], Optional[str]]]]:
         """How a code of a simple font has a text without a ToUnicode CMap, the best way first."""
-        by_name = (Source.GLYPH_NAME, self._text_of_name)
-        by_program = (Source.FONT_PROGRAM, lambda code: self.program_texts[code])
-        by_number = (Source.GLYPH_NUMBER, lambda code: self.guessed_texts.get(code))
+        by_name = (Source.GLYPH_NAME, Font._text_of_name)
+        by_program = (Source.FONT_PROGRAM, Font._text_of_program)
+        by_number = (Source.GLYPH_NUMBER, Font._text_of_number)
         is_by_code = self.subtype == "TrueType" and self.encoding_kind == "none"
         return [by_program, by_name, by_number] if is_by_code else [by_name, by_program, by_number]
 
     def _text_of_name(self, code: int) -> Optional[str]:
         """The text of the name of the glyph of a code of a simple font."""
         return texts_of_names([self.glyph_names[code]], self.base_font or "")[0]
+
+    def _text_of_program(self, code: int) -> Optional[str]:
+        """That of the glyph of the code in the embedded program."""
+        return self.program_texts[code]
+
+    def _text_of_number(self, code: int) -> Optional[str]:
+        """That of the number that the glyph has for a name, which is a guess."""
+        return self.guessed_texts.get(code)
 
     @property
     def faults(self) -> List[Fault]:
@@ -542,6 +563,14 @@ def fault_of(refused: Refused, of: str, number: int, lines: Lines) -> Fault:
     """Why a CMap is refused, whose lines are these."""
     line = None if refused.names else lines.line(refused.offset)
     return Fault(of, number, refused.offset, line, refused.names, refused.words)
+
+
+def unicode_or_none(encoding: CMap, collection: Optional[bytes]) -> Optional[CMap]:
+    """The map from Unicode to the CIDs of the collection of a font; None where there is none."""
+    try:
+        return encoding.unicode(name=collection)
+    except Refused:
+        return None
 
 
 def collection_in(info: Any) -> Optional[bytes]:

@@ -1,10 +1,10 @@
 """The texts of shown strings, and how far they reach."""
 
 import unicodedata
-from typing import Callable, Dict, List, NamedTuple, Optional
+from typing import Dict, List, NamedTuple, Optional
 
 from .. import Code
-from ._fonts import Character, Font
+from ._fonts import Font
 
 #: What stands for a code without a text.
 REPLACEMENT = "\ufffd"
@@ -44,16 +44,19 @@ class Measured(NamedTuple):
 def is_right_to_left(text: str) -> bool:
     """Whether a text has a character that is written from right to left (Unicode Standard Annex 9, 3.2)."""
     # few texts have a character behind all that are written from left to right
-    return max(text, default="") >= FIRST_RIGHT_TO_LEFT and any(
-        unicodedata.bidirectional(it) in RIGHT_TO_LEFT for it in text
+    return (
+        not text.isascii()
+        and max(text) >= FIRST_RIGHT_TO_LEFT
+        and any(unicodedata.bidirectional(it) in RIGHT_TO_LEFT for it in text)
     )
 
 
 class Measure:
-    """Measures the strings of a font. Each code is looked up once, as long as there aren't many strings."""
+    """Measures the strings of a font, with the texts that `Font.characters` gives. Each code is looked up once, as long
+    as there aren't many strings."""
 
-    def __init__(self, font: Optional[Font], characters: Callable[[Font, bytes], List[Character]]):
-        self._font, self._characters = font, characters
+    def __init__(self, font: Optional[Font], lenient: bool, guesses: bool):
+        self._font, self._options = font, (lenient, guesses)
         self._widths = None if font is None else font.widths
         self._length = 1 if font is None else font.code_length
         self._known: Dict[bytes, Measured] = {}
@@ -78,8 +81,10 @@ class Measure:
     def _glyphs_of(self, string: bytes) -> List[Glyph]:
         """What the codes of a string are."""
         length, known = self._length, self._glyphs
-        if length is None or len(string) % length:
-            return self._looked_up(string)
+        if self._font is not None and (length is None or len(string) % length):
+            # the font keeps what it finds, since these codes may come again
+            characters = self._font.characters(string, *self._options)
+            return [self._glyph(code, text) for _, code, text, _ in characters]
         codes = [string[at : at + length] for at in range(0, len(string), length)]
         unknown = [code for code in dict.fromkeys(codes) if code not in known]
         if unknown:
@@ -90,7 +95,7 @@ class Measure:
         """What the codes of a string are, as the font says; each byte is one where there is no font."""
         if self._font is None:
             return [Glyph(REPLACEMENT, 0.0, False)] * len(string)
-        return [self._glyph(code, text) for _, code, text, _ in self._characters(self._font, string)]
+        return [self._glyph(code, text) for code, text in self._font.texts(string, *self._options)]
 
     def _glyph(self, code: Code, text: Optional[str]) -> Glyph:
         """What a code with this text is."""

@@ -119,7 +119,9 @@ class Widths:
     def of(cls, font: "Font") -> "Widths":
         """The widths of a font."""
         if not font.is_composite:
-            return cls(simple_widths(font), {}, DEFAULT_OF_CODE, missing=lambda: missing_width(font))
+            # without the font, which has these widths: no reference goes round
+            missing = functools.partial(missing_width, font.dictionary, scale_of(font))
+            return cls(simple_widths(font), {}, DEFAULT_OF_CODE, missing=missing)
         descendant = pikepdf.Dictionary() if font.descendant is None else font.descendant
         default = number_at(descendant, "/DW", DEFAULT_OF_CID)
         by_cid = widths_of_cids(descendant, font.budget)
@@ -174,9 +176,9 @@ def given_widths(font: "Font") -> List[Optional[float]]:
     return table
 
 
-def missing_width(font: "Font") -> float:
+def missing_width(font: pikepdf.Dictionary, scale: float) -> float:
     """The width of the codes of a simple font that its array Widths doesn't have (ISO 32000-1, 9.8.1)."""
-    return scale_of(font) * number_at(dictionary_at(font.dictionary, "/FontDescriptor"), "/MissingWidth", 0.0)
+    return scale * number_at(dictionary_at(font, "/FontDescriptor"), "/MissingWidth", 0.0)
 
 
 def program_widths(font: "Font") -> List[float]:
@@ -214,8 +216,8 @@ def is_vertical(font: "Font") -> bool:
     kind = font.encoding_kind
     if kind == "stream" and integer_at(font.dictionary.get("/Encoding"), "/WMode") == WritingMode.VERTICAL:
         return True
-    modes = (it.metadata.writing_mode for it in font.encoding_layers)
-    mode = next((it for it in modes if it is not None), None)
+    encoding = font.encoding.lenient
+    mode = None if encoding is None else encoding._first_writing_mode()
     if mode is None and kind == "name":
         # a predefined CMap that isn't at hand has its writing mode in its name
         return (font.encoding_name or "").endswith("V")
@@ -272,7 +274,7 @@ def values_of(listed: Any) -> List[Value]:
     try:
         if not isinstance(listed, pikepdf.Array):
             return []
-        written = listed.unparse()
+        written = listed.unparse(resolved=True)
         if NUMBERS.fullmatch(written):
             return list(map(float, written[1:-1].split()))
         if PLAIN.fullmatch(written):
