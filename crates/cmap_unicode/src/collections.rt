@@ -58,10 +58,15 @@ fn family_of(encoding: &Layers) -> Option<&CidFamily>
 
 // The character collections of Adobe that have a CMap from Unicode.
 const JAPAN1: &[u8] = b"Adobe-Japan1";
+
 const GB1: &[u8] = b"Adobe-GB1";
+
 const CNS1: &[u8] = b"Adobe-CNS1";
+
 const KOREA1: &[u8] = b"Adobe-Korea1";
+
 const KR: &[u8] = b"Adobe-KR";
+
 const JAPAN2: &[u8] = b"Adobe-Japan2";
 
 /// The names of two CMaps from Unicode to the CIDs of a character collection.

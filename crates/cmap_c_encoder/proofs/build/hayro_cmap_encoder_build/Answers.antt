@@ -9,5 +9,5 @@ pub returns-clause-encoder : goal.returns-clause-encoder
 returns-clause-encoder c =
     let call = c.hayro_cmap_encoder_build_with in let now = call.new.encoder.slot.encoder in
     let P : Option (List Layer) → Type 0 = λ unicode. MatchOption c.args.encoding.now.slot.map ((call.result ≡ number Absent) × (now ≡ None))
-        (λ layers. IsBuilt (record { encoding = layers; to_unicode = c.args.to_unicode.now.slot.map; collection = c.args.collection.now.slot.map }) unicode false now call.result) in
+    (λ layers. IsBuilt (record { encoding = layers; to_unicode = c.args.to_unicode.now.slot.map; collection = c.args.collection.now.slot.map }) unicode false now call.result) in
     subst P c.empty-none.ensures call.ensures.encoder
