@@ -269,6 +269,28 @@ def test_headers_compile_with_clang(checks, setting):
     checks.ended("the headers as C++ with clang++", run("clang++", *WARNINGS, *flags, path), "")
 
 
+WITHOUT_EXCEPTIONS = """\
+#include <hayro_cmap.hpp>
+#include <cstdio>
+
+int main() {
+    auto map = hayro::Map::parse("begincidchar <41> 7 endcidchar");
+    std::printf("%d\\n", map ? static_cast<int>(map->decode(std::string_view("A"))[0].cid) : -1);
+}
+"""
+
+
+@needs("g++")
+def test_the_header_for_cpp_needs_no_exceptions(checks, setting):
+    """Nor type information at run time."""
+    path, program = setting.work / "without_exceptions.cc", setting.work / "without_exceptions"
+    path.write_text(WITHOUT_EXCEPTIONS)
+    flags = ["-fno-exceptions", "-fno-rtti", f"-I{setting.library.include}"]
+    built = run(*COMPILERS[".cc"], *WARNINGS, *flags, "-o", program, path, setting.library.archive)
+    checks.ended("a program without exceptions is built", built, "")
+    checks.ended("a program without exceptions", run(program), "7\n")
+
+
 LAYERS_AS_A_RANGE = """\
 #include <hayro_cmap.hpp>
 #include <ranges>
