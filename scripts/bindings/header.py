@@ -3,6 +3,7 @@ installed."""
 
 import ctypes
 import re
+import shutil
 
 from links import dead_links_under
 
@@ -248,6 +249,24 @@ def test_installed_pages_link_what_is_installed(checks, setting):
     folder = setting.library.prefix / "share" / "doc"
     checks.holds("a page is installed", any(folder.rglob("*.md")), f"there is none under {folder}")
     checks.same("dead links", dead_links_under(folder), [])
+
+
+def test_what_is_installed_is_taken_away(checks, setting):
+    """All that the manifest lists, in a copy, and no other file."""
+    prefix, copy = setting.library.prefix, setting.work / "uninstalled"
+    lines = (prefix / "share" / "hayro_cmap" / "manifest").read_text().splitlines()
+    checks.same("what is listed and missing", [line for line in lines if not (prefix / line).exists()], [])
+    for line in lines:
+        (copy / line).parent.mkdir(parents=True, exist_ok=True)
+        if not line.endswith("/"):
+            shutil.copy2(prefix / line, copy / line, follow_symlinks=False)
+    (copy / "include" / "other.h").write_text("")
+    ran = run(TOP / "scripts" / "install", "--uninstall", copy)
+    checks.ended("scripts/install --uninstall", ran, f"hayro_cmap isn't in {copy} any more\n")
+    stay = [str(path.relative_to(copy)) for path in copy.rglob("*") if not path.is_dir()]
+    checks.same("the files that stay", stay, ["include/other.h"])
+    ran = run(TOP / "scripts" / "install", "--uninstall", copy)
+    checks.holds("without a manifest", ran.status == 1 and "there is no manifest" in ran.err, ran)
 
 
 @needs("gcc", "g++")
