@@ -32,6 +32,7 @@
 #include <map>
 #include <new>
 #include <optional>
+#include <set>
 #include <sstream>
 #include <stdexcept>
 #include <string>
@@ -484,6 +485,11 @@ public:
     static std::optional<Result> open(Bytes name, Bundle &bundle, const Files &files = {},
                                       std::uint64_t budget = no_budget);
 
+    // Reads a CMap text over a base, as the entry UseCMap of a stream in a PDF file gives it (ISO 32000-1, 9.7.5.3).
+    // Whatever names the text uses, each stands for the base; a text that uses none is over it, too. The base counts
+    // by the one file that write makes of it. There is no answer where write makes none.
+    static std::optional<Result> parse_with_base(Bytes data, Map &base, std::uint64_t budget = no_budget);
+
     // Reads the predefined CMap file of a name, and those that it uses, each as predefined_file finds it.
     static std::optional<Result> open_predefined(const std::string &name);
 
@@ -585,6 +591,11 @@ public:
     }
     std::optional<WritingMode> writing_mode() noexcept {
         return detail::mode_of(hayro_cmap_writing_mode(handle()));
+    }
+    // That of the first layer which gives one, else horizontal.
+    WritingMode effective_writing_mode() noexcept {
+        auto mode = detail::mode_of(hayro_cmap_effective_writing_mode(handle()));
+        return mode.value_or(WritingMode::horizontal);
     }
 
     // The layers: the file's own is layer 0, then that of the file that it is based on, and so on. It is a
@@ -1151,6 +1162,33 @@ inline std::optional<std::vector<std::string>> uses(Bytes data, Bundle &bundle) 
 inline std::optional<std::vector<std::string>> uses(Bytes data) {
     Bundle none;
     return uses(data, none);
+}
+
+namespace detail {
+
+// The names of the files that a text uses; of one outside the grammar those that it uses in spite of its faults.
+inline std::set<std::string> names_in(Bytes data) {
+    if (auto names = uses(data)) return {names->begin(), names->end()};
+    std::set<std::string> missing;
+    for (const auto &fault : Map::salvage(data).faults)
+        if (fault.cause() == Cause::no_file) missing.insert(fault.names().front());
+    return missing;
+}
+
+} // namespace detail
+
+inline std::optional<Result> Map::parse_with_base(Bytes data, Map &base, std::uint64_t budget) {
+    const auto file = write(base);
+    if (!file) return std::nullopt;
+    const auto names = detail::names_in(data);
+    Files files;
+    for (const auto &name : names) files.add(name, *file);
+    Result map = parse(data, files, budget);
+    if (!map || !names.empty()) return map;
+    const std::string use = "/UseCMap usecmap\n";
+    files.add("UseCMap", *file);
+    const std::uint64_t left = no_budget - budget;
+    return parse(use + std::string(data.text()), files, budget + std::min<std::uint64_t>(use.size(), left));
 }
 
 // The files that a file uses, and those that they use, each asked for once: `get` answers a name, a

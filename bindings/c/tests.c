@@ -725,6 +725,21 @@ static void layers_speak_of_themselves(void) {
     hayro_cmap_free(&map);
 }
 
+static void the_first_writing_mode_counts(void) {
+    hayro_cmap map = map_over_base();
+    CHECK(hayro_cmap_effective_writing_mode(&map) == HAYRO_CMAP_VERTICAL);
+    hayro_cmap_file base = {TEXT("Base"), TEXT(FILE_TEXT)};
+    CHECK(hayro_cmap_parse(&map, TEXT("/Base usecmap /WMode 0 def"), TEXT(""), &base, 1, HAYRO_CMAP_NO_BUDGET)
+          == HAYRO_CMAP_OK);
+    CHECK(hayro_cmap_effective_writing_mode(&map) == HAYRO_CMAP_HORIZONTAL);
+    CHECK(hayro_cmap_parse(&map, TEXT(""), TEXT(""), hayro_cmap_files(NULL), 0, HAYRO_CMAP_NO_BUDGET)
+          == HAYRO_CMAP_OK);
+    CHECK(hayro_cmap_writing_mode(&map) == HAYRO_CMAP_NO_MODE);
+    CHECK(hayro_cmap_effective_writing_mode(&map) == HAYRO_CMAP_HORIZONTAL);
+    hayro_cmap_free(&map);
+    CHECK(hayro_cmap_effective_writing_mode(&map) == HAYRO_CMAP_NO_MODE);
+}
+
 static void layers_have_codespace_ranges(void) {
     hayro_cmap map = map_over_base();
     hayro_cmap_codespace ranges[2] = {{0, 0, 0}, {0, 0, 0}};
@@ -1067,6 +1082,7 @@ int main(void) {
     uses_are_named();
     uses_with_room_for_fewer_lengths_are_not_written();
     layers_speak_of_themselves();
+    the_first_writing_mode_counts();
     layers_have_codespace_ranges();
     layers_declare_cids();
     declarations_without_room_are_not_written();

@@ -638,6 +638,52 @@ static void maps_are_written() {
     CHECK(torn && torn->cid(0x41, 1) == 0x62u && !hayro::write(*torn));
 }
 
+// The CIDs of codes of two bytes.
+static std::vector<std::optional<hayro::Cid>> cids_of(hayro::Map &map, std::initializer_list<std::uint32_t> codes) {
+    std::vector<std::optional<hayro::Cid>> cids;
+    for (auto code : codes) cids.push_back(map.cid_strict(code, 2));
+    return cids;
+}
+
+static void files_stand_on_a_base() {
+    using Cids = std::vector<std::optional<hayro::Cid>>;
+    auto base = map_of(any_two_bytes + "begincidrange <0040> <004F> 100 endcidrange");
+    for (auto uses : {"/Identity-H usecmap ", "/A usecmap /B usecmap /A usecmap ", ""}) {
+        auto map = hayro::Map::parse_with_base(uses + "begincidchar <0041> 7 endcidchar"s, base);
+        CHECK(map && *map && cids_of(**map, {0x41, 0x42, 0x50}) == (Cids{7, 102, std::nullopt}));
+    }
+    auto second = *hayro::Map::parse_with_base("/Base usecmap begincidchar <0041> 7 endcidchar", base).value();
+    auto third = *hayro::Map::parse_with_base("/Base usecmap begincidchar <0042> 8 endcidchar", second).value();
+    CHECK(cids_of(third, {0x40, 0x41, 0x42, 0x43}) == (Cids{100, 7, 8, 103}));
+
+    // A refusal is that of the text.
+    for (auto [text, offset] : {std::pair("begincidchar <01> x", 19u), std::pair("/A usecmap begincidchar <01> x", 30u)}) {
+        auto refused = hayro::Map::parse_with_base(text, base);
+        CHECK(refused && !*refused && refused->refusal().offset() == offset && refused->refusal().names().empty());
+    }
+    auto torn = hayro::Map::parse("/Base usecmap beginbfchar <41> <0062> endbfchar",
+                                  {{"Base", "begincidchar <41> 5 endcidchar"}});
+    CHECK(!hayro::Map::parse_with_base("", *torn));
+
+    const std::size_t of_base = hayro::write(base).value_or("").size();
+    for (auto text : {"/A usecmap"s, "% nothing"s}) {
+        auto within = [&](std::size_t bytes) { return hayro::Map::parse_with_base(text, base, bytes).value(); };
+        CHECK(within(text.size() + of_base));
+        auto over = within(text.size() + of_base - 1);
+        CHECK(!over && over.refusal().cause() == hayro::Cause::past_budget);
+    }
+}
+
+static void the_first_writing_mode_counts() {
+    auto vertical = hayro::Map::identity(hayro::WritingMode::vertical);
+    auto over = *hayro::Map::parse_with_base("", vertical).value();
+    CHECK(!over.writing_mode() && over.effective_writing_mode() == hayro::WritingMode::vertical);
+    auto other = *hayro::Map::parse_with_base("/WMode 0 def", vertical).value();
+    CHECK(other.effective_writing_mode() == hayro::WritingMode::horizontal);
+    CHECK(map_of("").effective_writing_mode() == hayro::WritingMode::horizontal);
+    CHECK(hayro::Map().effective_writing_mode() == hayro::WritingMode::horizontal);
+}
+
 static void threads_share_a_map() {
     auto map = hayro::Map::parse("begincidrange <0000> <FFFF> 5 endcidrange");
     std::vector<std::thread> threads;
@@ -713,6 +759,8 @@ int main() {
     folders_are_listed_as_far_as_they_can_be_read();
     files_are_made();
     maps_are_written();
+    files_stand_on_a_base();
+    the_first_writing_mode_counts();
     threads_share_a_map();
     threads_share_an_extractor();
     threads_share_an_encoder();
