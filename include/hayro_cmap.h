@@ -197,7 +197,7 @@ typedef struct hayro_cmap_facts {
     int32_t supplement;
     uint8_t has_name;       /* 0 where it gives no name */
     uint8_t has_collection; /* 0 where it gives no character collection */
-    uint16_t writing_mode;  /* a hayro_cmap_mode */
+    uint16_t writing_mode;  /* a hayro_cmap_mode; any other number is as HAYRO_CMAP_NO_MODE */
 } hayro_cmap_facts;
 
 /* How a call ends. It is an int of 32 bits. */

@@ -931,6 +931,20 @@ static void a_file_is_made_of_declarations(void) {
     hayro_cmap_free(&map);
 }
 
+static void a_writing_mode_has_a_number(void) {
+    static const uint16_t others[] = {2, 3, 77, 255, 256, 257, 65535};
+    for (size_t i = 0; i < sizeof others / sizeof *others; i++) {
+        hayro_cmap_facts facts = no_facts();
+        facts.writing_mode = others[i];
+        uint8_t room[512];
+        size_t needed = 0;
+        CHECK(hayro_cmap_make(&facts, hayro_cmap_declarations(NULL), 0, room, 512, &needed) == HAYRO_CMAP_OK);
+        hayro_cmap map = map_of_text(room, needed);
+        CHECK(hayro_cmap_writing_mode(&map) == HAYRO_CMAP_NO_MODE);
+        hayro_cmap_free(&map);
+    }
+}
+
 static void a_file_may_say_nothing(void) {
     const hayro_cmap_facts facts = no_facts();
     uint8_t room[512];
@@ -1090,6 +1104,7 @@ int main(void) {
     lower_layers_declare_too();
     a_cid_has_its_codes();
     a_file_is_made_of_declarations();
+    a_writing_mode_has_a_number();
     a_file_may_say_nothing();
     what_no_file_says_is_refused();
     a_map_is_written_as_one_file();
