@@ -1164,23 +1164,12 @@ inline std::optional<std::vector<std::string>> uses(Bytes data) {
     return uses(data, none);
 }
 
-namespace detail {
-
-// The names of the files that a text uses; of one outside the grammar those that it uses in spite of its faults.
-inline std::set<std::string> names_in(Bytes data) {
-    if (auto names = uses(data)) return {names->begin(), names->end()};
-    std::set<std::string> missing;
-    for (const auto &fault : Map::salvage(data).faults)
-        if (fault.cause() == Cause::no_file) missing.insert(fault.names().front());
-    return missing;
-}
-
-} // namespace detail
-
 inline std::optional<Result> Map::parse_with_base(Bytes data, Map &base, std::uint64_t budget) {
     const auto file = write(base);
     if (!file) return std::nullopt;
-    const auto names = detail::names_in(data);
+    // A text outside the grammar is refused before a file is asked for.
+    const auto used = uses(data).value_or(std::vector<std::string>());
+    const std::set<std::string> names(used.begin(), used.end());
     Files files;
     for (const auto &name : names) files.add(name, *file);
     Result map = parse(data, files, budget);

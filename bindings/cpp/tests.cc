@@ -47,8 +47,10 @@ template <class Text>
 constexpr bool is_refused = !compiles<Decoded, Text> && !compiles<Characters, Text> && !compiles<Texts, Text>;
 
 // What may end at a zero byte.
-static_assert(is_refused<char (&)[4]> && is_refused<const char (&)[2]> && is_refused<char *> && is_refused<const char *>);
-static_assert(is_string<std::string> && is_string<std::string &> && is_string<std::string_view> && is_string<hayro::Bytes>);
+static_assert(is_refused<char (&)[4]> && is_refused<const char (&)[2]>);
+static_assert(is_refused<char *> && is_refused<const char *>);
+static_assert(is_string<std::string> && is_string<std::string &> && is_string<std::string_view>);
+static_assert(is_string<hayro::Bytes> && is_string<hayro::CodeString>);
 static_assert(is_string<std::vector<char>> && is_string<std::array<char, 4> &> && is_string<std::vector<std::byte>>);
 static_assert(is_string<std::uint8_t (&)[4]> && is_string<const std::uint8_t (&)[2]>);
 
@@ -657,7 +659,9 @@ static void files_stand_on_a_base() {
     CHECK(cids_of(third, {0x40, 0x41, 0x42, 0x43}) == (Cids{100, 7, 8, 103}));
 
     // A refusal is that of the text.
-    for (auto [text, offset] : {std::pair("begincidchar <01> x", 19u), std::pair("/A usecmap begincidchar <01> x", 30u)}) {
+    const std::pair<const char *, std::size_t> refusals[] = {{"begincidchar <01> x", 19},
+                                                             {"/A usecmap begincidchar <01> x", 30}};
+    for (auto [text, offset] : refusals) {
         auto refused = hayro::Map::parse_with_base(text, base);
         CHECK(refused && !*refused && refused->refusal().offset() == offset && refused->refusal().names().empty());
     }
