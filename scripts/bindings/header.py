@@ -5,6 +5,7 @@ import ctypes
 import re
 import shutil
 
+import materials
 from links import dead_links_under
 
 from .checks import needs, run
@@ -249,6 +250,18 @@ def test_installed_pages_link_what_is_installed(checks, setting):
     folder = setting.library.prefix / "share" / "doc"
     checks.holds("a page is installed", any(folder.rglob("*.md")), f"there is none under {folder}")
     checks.same("dead links", dead_links_under(folder), [])
+
+
+def test_licences_are_those_of_what_is_contained(checks, setting):
+    """Each crate of the bill of materials is listed, and has its licences if a folder has some; no other one has."""
+    documents = setting.library.prefix / "share" / "doc" / "hayro_cmap"
+    contained = materials.names_of((documents / "hayro_cmap.spdx.json").read_text())
+    checks.holds("the crates of the bill of materials", contained, "there are none")
+    folder = documents / ("crates" if setting.library.is_plain else "kit")
+    listed = set(re.findall(r"[\w-]+", (folder / "README").read_text()))
+    checks.same("crates that aren't listed", [name for name in contained if name not in listed], [])
+    others = [path.name for path in folder.iterdir() if path.is_dir() and path.name not in contained]
+    checks.same("licences of what isn't contained", others, [])
 
 
 def test_what_is_installed_is_taken_away(checks, setting):
