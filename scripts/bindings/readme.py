@@ -1,0 +1,78 @@
+"""What README.md shows of its programs in C, Rust and Python is what they print; and the programs of docs/RECIPES.md."""
+
+import shlex
+
+from shown import shown_in
+
+from .checks import needs, run
+from .library import EXAMPLES, TOP
+from .suites import python_with_pikepdf
+
+OWN = TOP / "crates" / "cmap" / "data" / "japanese" / "Sample-RKSJ-H"
+# what a stream says itself; with a use of a file, and without one
+VERTICAL = "/WMode 1 def 1 begincidchar <8141> 7887 endcidchar\n"
+STREAMS = {"using": f"/Sample-RKSJ-H usecmap {VERTICAL}", "alone": VERTICAL}
+
+
+def shown_by(name):
+    """The command line of README.md that names a program, with what it prints."""
+    [found] = [shown for shown in shown_in(TOP / "README.md") if name in shown.line and shown.printed]
+    return found
+
+
+def file_of(shown):
+    """The file that a command line reads, which is its last word."""
+    return TOP / shlex.split(shown.line)[-1]
+
+
+@needs("gcc")
+def test_c_readme(checks, setting):
+    """The program reads the file from its standard input, plain and with the sanitizers."""
+    shown = shown_by("./cids")
+    for program in [setting.programs.path(EXAMPLES / "cids.c"), setting.programs.sanitized(EXAMPLES / "cids.c")]:
+        ran = run("sh", "-c", 'exec "$0" < "$1"', program, file_of(shown))
+        checks.ended("README.md: the program in C", ran, shown.printed)
+
+
+@needs("cargo")
+def test_rust_readme(checks, setting):
+    """The example of the crate."""
+    shown = shown_by("--example codes")
+    checks.ended("README.md: the program in Rust", run(setting.crate.example("codes"), file_of(shown)), shown.printed)
+
+
+def test_python_readme(checks, setting):
+    """The PDF file that one example writes has the text that the other one prints."""
+    python, path = python_with_pikepdf(), setting.work / "office.pdf"
+    if python is None:
+        print("skipped: python readme, for lack of pikepdf (Debian's python3-pikepdf)", flush=True)
+        return
+    environment = setting.package.in_project()
+    checks.ended("README.md: a PDF file", run(python, EXAMPLES / "to_unicode.py", path, "o", "ffi", "c", "e", **environment), "")
+    ran = run(python, EXAMPLES / "pdf_text.py", path, **environment)
+    checks.ended("README.md: the program in Python", ran, shown_by("examples/pdf_text.py").printed)
+
+
+def check_streams(checks, setting, program):
+    """A stream has its own CIDs, and those of its base."""
+    for name, text in STREAMS.items():
+        path = setting.work / f"{name}.cmap"
+        path.write_text(text)
+        for code, cid in [("8141", "7887\n"), ("93FA", "3284\n")]:
+            checks.ended(f"{program.name}: {code} of a stream {name}", run(program, path, OWN, code), cid)
+        ran = run(program, path, path, "0000")
+        checks.same(f"{program.name}: a code without a CID", (ran.status, ran.out), (1, ""))
+
+
+@needs("gcc")
+def test_c_recipe(checks, setting):
+    """A stream over the CMap of its entry UseCMap, plain and with the sanitizers."""
+    source = EXAMPLES / "use_cmap.c"
+    for program in [setting.programs.path(source), setting.programs.sanitized(source)]:
+        check_streams(checks, setting, program)
+
+
+@needs("cargo")
+def test_rust_recipe(checks, setting):
+    """The same."""
+    check_streams(checks, setting, setting.crate.example("use_cmap"))
