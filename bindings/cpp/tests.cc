@@ -436,6 +436,10 @@ static void warnings_are_found() {
     CHECK(found[2].warning == HAYRO_CMAP_WARNING_ODD_DIGITS && found[2].offset == text.find("<20BB7>"));
     CHECK(found[3].warning == HAYRO_CMAP_WARNING_ODD_TEXT && found[3].first_shown == 2);
     CHECK(map->lint().empty() && hayro::Map().lint().empty());
+    for (auto nothing : {"", "hello"}) {
+        auto warnings = map_of(nothing).lint();
+        CHECK(!warnings.empty() && hayro::warning_name(warnings[0].warning) == "nothing-declared");
+    }
     CHECK(hayro::warning_name(HAYRO_CMAP_WARNING_ODD_TEXT + 1).empty());
 }
 
