@@ -1,8 +1,8 @@
 use Rattle.std.proofs.Common.{rules, All, subst, sym}
 use Rattle.std.proofs.lemmas.List.Sorted.{All-permutation, IsNonDecreasingBy-from_sort_by_key}
-use Rattle.cmap_encode.specs.FirstsSeen.{AreFirsts, IsCodeRun, precedence_of}
-use Rattle.cmap_encode.proofs.FirstsFound.{are_firsts}
-use Rattle.cmap_encode.proofs.firsts.Firsts.build.Goals as goal
+use Rattle.cmap_encode.specs.KeyCodesSeen.{AreFirsts, IsCodeRun, precedence_of}
+use Rattle.cmap_encode.proofs.KeyCodesFound.{are_firsts}
+use Rattle.cmap_encode.proofs.key_codes.KeyCodes.first.Goals as goal
 
 pub invariant_of-result : goal.invariant_of-result
 invariant_of-result c = subst (All IsCodeRun) (sym c.in_ok-table.ensures) (All-permutation IsCodeRun _ _ c.sort_by_key.ensures.permutation c.requires)

@@ -2,9 +2,9 @@ use Rattle.std.proofs.Common.{◌≡◌, ◌≤◌, All, subst}
 use Rattle.std.specs.Option.{option_copied}
 use Rattle.cmap_runs.specs.Stretches.{IsStretch}
 use Rattle.cmap_encode.specs.CodeRuns.{run_span}
-use Rattle.cmap_encode.specs.FirstsSeen.{IsCodeRun}
-use Rattle.cmap_encode.proofs.FirstsFound.{key_stretch}
-use Rattle.cmap_encode.proofs.firsts.Firsts.stretch.Goals as goal
+use Rattle.cmap_encode.specs.KeyCodesSeen.{IsCodeRun}
+use Rattle.cmap_encode.proofs.KeyCodesFound.{key_stretch}
+use Rattle.cmap_encode.proofs.key_codes.KeyCodes.stretch.Goals as goal
 
 pub returns-in-Some : goal.returns-in-Some
 returns-in-Some c =

@@ -1,9 +1,9 @@
-//! The first code of each key, where codes in a row are given to keys in a row.
+//! The first or the last code of each key, where codes in a row are given to keys in a row.
 
 ghost use Rattle.std.specs.Prelude.{◌≡◌, ◌+◌, ◌^◌, ◌<◌, ◌≤◌, All, IfOk, IfSome, option_map};
 ghost use Rattle.std.specs.Option.{option_copied};
 ghost use Rattle.cmap_values.specs.CodeLengths.{length_of};
-ghost use Rattle.cmap_encode.specs.FirstsSeen.{AreFirsts, IsCodeRun, IsKeyStretch, code_at, first_at, precedence_of};
+ghost use Rattle.cmap_encode.specs.KeyCodesSeen.{AreFirsts, AreLasts, IsCodeRun, IsKeyStretch, code_at, code_for, lateness_of, precedence_of};
 
 use crate::code::Code;
 use crate::rank::{LAST_PLACE, Ranked};
@@ -76,26 +76,33 @@ impl CodeRun {
         better + shorter + (1 << 32) + u64::from(self.range.start)
             - u64::from(self.first.code.number)
     }
+
+    /// Of two runs, the later one gives the later code to each key that both have.
+    fn lateness(self) -> u64
+        ensures { result ≡ lateness_of self }
+    {
+        let longer = u64::from(self.first.code.len.count()) << 33;
+        longer + (1 << 32) + u64::from(self.first.code.number) - u64::from(self.range.start)
+    }
 }
 
-/// The first code of each key: the one of the best rank, of several the one of the fewest bytes, and of
-/// several of these the one of the least number.
+/// One code of each key: the first or the last.
 #[derive(Drop)]
-pub(crate) struct Firsts {
+pub(crate) struct KeyCodes {
     table: Table<CodeRun>,
 }
 
-// A clause sees the runs, of which the last one that contains a key gives it the first code.
-impl Model for Firsts {
+// A clause sees the runs, of which the last one that contains a key gives it its code.
+impl Model for KeyCodes {
     ghost use Rattle.std.specs.Prelude.{List, All};
-    ghost use Rattle.cmap_encode.specs.FirstsSeen.{IsCodeRun};
-    ghost use Rattle.cmap_encode.specs.declared.firsts.CodeRun.{CodeRun};
+    ghost use Rattle.cmap_encode.specs.KeyCodesSeen.{IsCodeRun};
+    ghost use Rattle.cmap_encode.specs.declared.key_codes.CodeRun.{CodeRun};
 
     ghost Value = { List CodeRun };
 
-    ghost view = { λ firsts. firsts.table };
+    ghost view = { λ codes. codes.table };
 
-    ghost invariant = { λ firsts. All IsCodeRun firsts.table };
+    ghost invariant = { λ codes. All IsCodeRun codes.table };
 }
 
 /// Keys in a row, whose codes count on from key to key, or that have none.
@@ -107,21 +114,33 @@ pub(crate) struct KeyStretch {
     pub(crate) last: u32,
 }
 
-impl Firsts {
-    /// The first of the codes that the runs give to each key.
-    pub(crate) fn build(alloc: Global, runs: Vec<CodeRun>) -> Result<Firsts, AllocError>
+impl KeyCodes {
+    /// The first of the codes that the runs give to each key: the one of the best rank, of several the one
+    /// of the fewest bytes, and of several of these the one of the least number.
+    pub(crate) fn first(alloc: Global, runs: Vec<CodeRun>) -> Result<KeyCodes, AllocError>
         requires { All IsCodeRun runs.items }
         ensures { IfOk result (AreFirsts runs.items) }
     {
         let mut runs = runs;
         runs.sort_by_key(|run| run.precedence())?;
         let table = Table::build(alloc, runs)?;
-        Ok(Firsts { table })
+        Ok(KeyCodes { table })
+    }
+
+    /// The last of these codes: the one of the most bytes, and of several the one of the greatest number.
+    pub(crate) fn last(alloc: Global, runs: Vec<CodeRun>) -> Result<KeyCodes, AllocError>
+        requires { All IsCodeRun runs.items }
+        ensures { IfOk result (AreLasts runs.items) }
+    {
+        let mut runs = runs;
+        runs.sort_by_key(|run| run.lateness())?;
+        let table = Table::build(alloc, runs)?;
+        Ok(KeyCodes { table })
     }
 
     /// The code of a key.
     pub(crate) fn find(&self, key: u32) -> Option<Ranked>
-        ensures { result ≡ first_at self.now key }
+        ensures { result ≡ code_for self.now key }
     {
         let run = self.table.find(key, &mut Looks::new())?;
         Some(run.code_at(key))
