@@ -71,7 +71,7 @@ typedef struct hayro_cmap_bundle {
     void *bundle;
 } hayro_cmap_bundle;
 
-/* An encoder of a font, or none: it finds the strings that show texts. */
+/* An encoder of a font, or none: it finds the strings that are read as texts. */
 typedef struct hayro_cmap_encoder {
     bool full;
     void *encoder;

@@ -117,6 +117,7 @@ impl<T: HasRange> Table<T> {
         ensures next { result.next ≡ first }
         ensures runs { looks.new.runs
             ≤ looks.old.runs + digits (length (runs_of (map T.span self.now))) }
+        ensures grows { looks.old.runs ≤ looks.new.runs }
         ensures none { looks.new.declarations ≡ looks.old.declarations }
     {
         Stretches::of(&self.held, first, looks)
