@@ -5,6 +5,7 @@ import shlex
 from shown import shown_in
 
 from .checks import needs, run
+from .known import has_debian_files
 from .library import EXAMPLES, TOP
 from .suites import python_with_pikepdf
 
@@ -51,6 +52,13 @@ def test_python_readme(checks, setting):
     checks.ended("README.md: a PDF file", run(python, EXAMPLES / "to_unicode.py", path, "o", "ffi", "c", "e", **environment), "")
     ran = run(python, EXAMPLES / "pdf_text.py", path, **environment)
     checks.ended("README.md: the program in Python", ran, shown_by("examples/pdf_text.py").printed)
+
+
+def test_python_page(checks, setting):
+    """The program of docs/PYTHON.md prints what the page shows."""
+    if has_debian_files():
+        ran = run(setting.package.python, EXAMPLES / "codes.py", **setting.package.in_project())
+        checks.ended("docs/PYTHON.md: the program", ran, "日本語\n93fa 3284\n967b 3722\n8cea 1952\n")
 
 
 def check_streams(checks, setting, program):
