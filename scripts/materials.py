@@ -42,6 +42,11 @@ def of_kit(crates, kit):
     return [package(name, kit, licence_of(name, files)) for name, files in crates.items()]
 
 
+def names_of(bill):
+    """The names of what is compiled in, by the text of a bill."""
+    return [it["name"] for it in json.loads(bill)["packages"][1:]]
+
+
 def bill(others, created):
     """The text of the bill: `others` are the entries of what is compiled in."""
     own = package("hayro_cmap", VERSION, OWN_LICENCE)

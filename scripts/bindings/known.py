@@ -48,6 +48,12 @@ text 44 44 00660069
 7 <26> <26>
 7 <41> <41>
 """
+# the same of a file over that one
+OVER_DECLARING = b"/declaring usecmap begincidrange <40> <42> 6 endcidrange"
+BASED = """cid <40> <42> 6
+7 <26> <26>
+7 <41> <41>
+"""
 # codes with texts, of which to_unicode.c makes a file, and what declared.c prints of that
 MADE_OF = ["1=R", "2=é", "3=ffi", "4=😀", "5=S"]
 MADE = """text 1 1 0052
@@ -92,6 +98,13 @@ def declaring_file(work):
     """A file that declares CIDs and texts."""
     path = work / "declaring"
     path.write_bytes(DECLARING)
+    return path
+
+
+def based_file(work):
+    """A file over that one."""
+    path = work / "based"
+    path.write_bytes(OVER_DECLARING)
     return path
 
 

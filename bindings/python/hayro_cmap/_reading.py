@@ -199,6 +199,8 @@ def uses(data: Buffer, bundle: Optional[Bundle] = None) -> List[bytes]:
 def gathered(files: Optional[Mapping]) -> Dict[bytes, bytes]:
     """All files of a mapping; none without one."""
     found: Dict[bytes, bytes] = {}
+    if files is not None and not hasattr(files, "items"):
+        raise TypeError(f"files are a mapping from names or a callable, and not {type(files).__name__}")
     for name, file in ({} if files is None else files).items():
         found.setdefault(name_of(name), bytes_of(file))
     return found

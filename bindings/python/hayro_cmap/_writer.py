@@ -132,8 +132,8 @@ def to_unicode(
 
     A code is a number, of `code_len` bytes, or a bytes object of one to four bytes. Without `codespaces`, pairs of the
     first and the last code of a range, one range has all codes of the length. ValueError where codes have several
-    lengths and there are no `codespaces`; where two codes write the same number, since a text belongs to that; and as
-    CMapWriter has it.
+    lengths and there are no `codespaces`; where a code lies in none of these; where two codes write the same number,
+    since a text belongs to that; and as CMapWriter has it.
     """
     writer, codes = CMapWriter(name, collection, code_len=code_len), {}
     for code, text in texts.items():
@@ -142,9 +142,26 @@ def to_unicode(
             raise ValueError(f"the code {value:#x} has two texts")
         codes[value] = length
         writer.text(code, code, text)
-    for first, last in whole(set(codes.values()) or {code_len}) if codespaces is None else codespaces:
+    ranges = whole(set(codes.values()) or {code_len}) if codespaces is None else list(codespaces)
+    for first, last in ranges:
         writer.codespace(first, last)
+    ends = [(digits_of(first, code_len), digits_of(last, code_len)) for first, last in ranges]
+    for value, length in codes.items() if codespaces is not None else ():
+        code = value.to_bytes(length, "big")
+        if not any(is_between(first, code, last) for first, last in ends):
+            raise ValueError(f"the code {code.hex()} lies in no codespace range")
     return writer.write()
+
+
+def digits_of(code: CodeOf, code_len: int) -> bytes:
+    """The bytes of a code."""
+    value, length = code_of(code, code_len)
+    return value.to_bytes(length, "big")
+
+
+def is_between(first: bytes, code: bytes, last: bytes) -> bool:
+    """Whether each byte of a code lies between those of two codes of its length."""
+    return len(code) == len(first) and all(low <= it <= high for low, it, high in zip(first, code, last))
 
 
 def whole(lengths):

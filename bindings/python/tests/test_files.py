@@ -146,6 +146,8 @@ class Callables(unittest.TestCase):
 
         self.assertRaises(KeyError, CMap.parse, uses(b"A"), files)
         self.assertRaises(TypeError, CMap.parse, uses(b"A"), lambda name: 5)
+        for call in [lambda: CMap.parse(b"", [b"A"]), lambda: CMap.open("A", "a text"), lambda: CMap.salvage(b"", 5)]:
+            self.assertRaisesRegex(TypeError, "^files are a mapping from names or a callable, and not (list|str|int)$", call)
 
     def test_calls_within(self):
         """A callable may use the bundle and other maps."""
