@@ -1,10 +1,12 @@
-"""What README.md shows of its programs in C, Rust and Python is what they print; and the programs of docs/RECIPES.md."""
+"""The programs of README.md, docs/PYTHON.md and docs/RECIPES.md print what these show; and the reference pages."""
 
 import shlex
+import sys
 
 from shown import shown_in
 
 from .checks import needs, run
+from .known import has_debian_files
 from .library import EXAMPLES, TOP
 from .suites import python_with_pikepdf
 
@@ -12,6 +14,15 @@ OWN = TOP / "crates" / "cmap" / "data" / "japanese" / "Sample-RKSJ-H"
 # what a stream says itself; with a use of a file, and without one
 VERTICAL = "/WMode 1 def 1 begincidchar <8141> 7887 endcidchar\n"
 STREAMS = {"using": f"/Sample-RKSJ-H usecmap {VERTICAL}", "alone": VERTICAL}
+
+# what a page of the reference has
+REFERENCE = {
+    "c/hayro__cmap_8h.html": "Cuts a string into codes, one after another",
+    "c/classhayro_1_1Map.html": "parse_with_base",
+    "rust/hayro_cmap/struct.CMap.html": "Reads a CMap file over a base",
+    "python/hayro_cmap.html": "class <strong>CMap</strong>",
+    "cmap.html": "prints the codes of strings with their CIDs and texts",
+}
 
 
 def shown_by(name):
@@ -53,6 +64,13 @@ def test_python_readme(checks, setting):
     checks.ended("README.md: the program in Python", ran, shown_by("examples/pdf_text.py").printed)
 
 
+def test_python_page(checks, setting):
+    """The program of docs/PYTHON.md prints what the page shows."""
+    if has_debian_files():
+        ran = run(setting.package.python, EXAMPLES / "codes.py", **setting.package.in_project())
+        checks.ended("docs/PYTHON.md: the program", ran, "日本語\n93fa 3284\n967b 3722\n8cea 1952\n")
+
+
 def check_streams(checks, setting, program):
     """A stream has its own CIDs, and those of its base."""
     for name, text in STREAMS.items():
@@ -76,3 +94,13 @@ def test_c_recipe(checks, setting):
 def test_rust_recipe(checks, setting):
     """The same."""
     check_streams(checks, setting, setting.crate.example("use_cmap"))
+
+
+@needs("doxygen", "cargo", "mandoc")
+def test_reference(checks, setting):
+    """The pages have what comments say of a call in each language, and no dead links."""
+    folder = setting.work / "reference"
+    script = [sys.executable, TOP / "scripts" / "reference", "--library", setting.library.shared, folder]
+    checks.ended("scripts/reference", run(*script, **setting.package.in_project()), "")
+    for page, text in REFERENCE.items():
+        checks.holds(f"the reference: {page}", text in (folder / page).read_text(), f"expected {text!r}")
