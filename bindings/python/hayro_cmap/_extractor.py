@@ -10,7 +10,7 @@ from ._encoder import Encoder, Piece
 from ._library import NO_ROOM, Handle
 from ._map import CODE, CMap, Code, code_of_fields
 from ._reading import Files
-from ._room import Room
+from ._room import Room, Row
 from ._values import Buffer, bytes_of
 
 #: The encoding of a simple font, whose codes are single bytes (ISO 32000-1, 9.6).
@@ -97,9 +97,14 @@ class Extractor:
             raise TypeError(f"missing is a text, and not {type(missing).__name__}")
         return "".join(self._parts(string, Room.text, missing))
 
+    def _rows(self, string: Buffer) -> List[Row]:
+        """What `characters` gives, with less of each code. Nothing is kept: it is for codes that are looked up once."""
+        parts = self._parts(string, Room.rows)
+        return parts[0] if len(parts) == 1 else list(itertools.chain.from_iterable(parts))
+
     def _parts(self, string: Buffer, taken_from: Callable[..., Any], *options: Any) -> List[Any]:
         """What is taken from a room of characters, each time that it is full, until all of the string has been there."""
-        string, parts, status = bytes_of(string), [], NO_ROOM
+        string = bytes_of(string)
         # a call has its room for itself, also where threads call at the same time; that of a long string isn't kept
         rooms = self._rooms if len(string) <= KEPT_ROOM else []
         try:
@@ -107,11 +112,12 @@ class Extractor:
         except IndexError:
             room = Room(self._maps[:3], max(len(string), KEPT_ROOM))
         try:
+            status = room.fill(string)
+            parts = [taken_from(room, *options)]
             while status == NO_ROOM:
+                string, room = string[room.taken :], room.larger()
                 status = room.fill(string)
                 parts.append(taken_from(room, *options))
-                if status == NO_ROOM:
-                    string, room = string[room.taken :], room.larger()
         finally:
             rooms.append(room)
         return parts
