@@ -10,6 +10,7 @@ import pikepdf
 
 from .. import CMap, Code, Extractor, Layer, NotWritable, Refused, predefined
 from .._faults import Lines
+from .._reading import NO_FILES
 from .._room import Row
 from ._budget import Budget
 from ._glyphs import Names, differences_of, glyph_names, guessed_texts, is_symbolic, texts_of_names
@@ -327,7 +328,7 @@ class Font:
         that.
         """
         to_unicode = self.to_unicode.lenient if lenient else self.to_unicode.strict
-        extractor = Extractor(self._cutting, to_unicode=to_unicode, collection=self.texts_of_cids)
+        extractor = Extractor(self._cutting, to_unicode=to_unicode, collection=self.texts_of_cids, files=NO_FILES)
         if self.encoding.lenient is not None:
             # few strings are encoded, and the map is large
             extractor._unicode_of = functools.partial(unicode_or_none, self.encoding.lenient, self.collection)
@@ -346,7 +347,7 @@ class Font:
         """The extractor of its CMaps alone, made once: most codes have a text without the map of the collection."""
         if lenient not in self._extractors:
             to_unicode = self.to_unicode.lenient if lenient else self.to_unicode.strict
-            self._extractors[lenient] = Extractor(self._cutting, to_unicode=to_unicode)
+            self._extractors[lenient] = Extractor(self._cutting, to_unicode=to_unicode, files=NO_FILES)
         return self._extractors[lenient]
 
     @property
