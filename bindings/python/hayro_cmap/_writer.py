@@ -145,23 +145,23 @@ def to_unicode(
     ranges = whole(set(codes.values()) or {code_len}) if codespaces is None else list(codespaces)
     for first, last in ranges:
         writer.codespace(first, last)
-    ends = [(digits_of(first, code_len), digits_of(last, code_len)) for first, last in ranges]
-    for value, length in codes.items() if codespaces is not None else ():
-        code = value.to_bytes(length, "big")
-        if not any(is_between(first, code, last) for first, last in ends):
-            raise ValueError(f"the code {code.hex()} lies in no codespace range")
+    if codespaces is not None:
+        check_codes(codes, [(code_of(first, code_len), code_of(last, code_len)) for first, last in ranges])
     return writer.write()
 
 
-def digits_of(code: CodeOf, code_len: int) -> bytes:
-    """The bytes of a code."""
-    value, length = code_of(code, code_len)
-    return value.to_bytes(length, "big")
+def check_codes(codes: Mapping[int, int], ranges: List[Tuple[Tuple[int, int], Tuple[int, int]]]) -> None:
+    """ValueError where a code, a number with its length, lies in none of the codespace ranges."""
+    bounds = [(low.to_bytes(length, "big"), high.to_bytes(length, "big")) for (low, length), (high, _) in ranges]
+    for code, length in codes.items():
+        data = code.to_bytes(length, "big")
+        if not any(lies_in(data, low, high) for low, high in bounds):
+            raise ValueError(f"the code {data.hex()} lies in no codespace range")
 
 
-def is_between(first: bytes, code: bytes, last: bytes) -> bool:
-    """Whether each byte of a code lies between those of two codes of its length."""
-    return len(code) == len(first) and all(low <= it <= high for low, it, high in zip(first, code, last))
+def lies_in(code: bytes, low: bytes, high: bytes) -> bool:
+    """Whether a code lies in a codespace range: each byte between the two there (ISO 32000-1, 9.7.6.2)."""
+    return len(code) == len(low) and all(least <= it <= most for least, it, most in zip(low, code, high))
 
 
 def whole(lengths):

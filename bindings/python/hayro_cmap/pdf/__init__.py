@@ -16,8 +16,9 @@ collection, and of a simple font that of the name of the glyph, if fontTools is 
 of the glyph in the embedded font program. `Source` has all sources.
 """
 
-from .._run import end_on_interrupt, missing
+from .._run import begin_to_import, end_on_interrupt, missing
 
+begin_to_import()
 end_on_interrupt()
 try:
     import pikepdf  # noqa: F401

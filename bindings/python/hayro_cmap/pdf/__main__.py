@@ -9,7 +9,6 @@ reader of the output goes away.
 import argparse
 import contextlib
 import errno
-import gc
 import logging
 import os
 import sys
@@ -17,7 +16,7 @@ from typing import Iterator, List
 
 from .. import __version__
 from .._escaped import escaped
-from .._run import raise_on_interrupt
+from .._run import end_to_import, raise_on_interrupt
 from . import HAS_GLYPH_LIST
 from ._check import OF_SHOWN_CODES, share
 from ._commands import Result, run
@@ -135,6 +134,7 @@ def options_of(asked: argparse.Namespace) -> dict:
         "deny": getattr(asked, "deny", []),
         "lenient": not getattr(asked, "strict", False),
         "guesses": not getattr(asked, "no_guesses", False),
+        "json": asked.json,
         "output": getattr(asked, "output", None),
         "password": asked.password,
         "seconds": asked.seconds,
@@ -153,8 +153,6 @@ def results(asked: argparse.Namespace, paths: List[str]) -> Iterator[Result]:
         logging.disable(logging.CRITICAL)
         done = by_dask(paths, asked.command, options, asked.dask)
     else:
-        # what is loaded stays: the collector needn't look at it, nor write to memory that the processes share
-        gc.freeze()
         # what ends a process, as a lack of memory may, costs the file that it reads
         task = Task(asked.command, options, MEMORY, of_pages if len(paths) == 1 else iter)
         done = by_processes(paths, task, asked.jobs)
@@ -237,6 +235,7 @@ def main(words=None) -> int:
         sys.stderr = open(os.devnull, "w")
     try:
         raise_on_interrupt()
+        end_to_import()
         asked = arguments(words)
         if sys.stdout is None:
             raise OSError(errno.EBADF, os.strerror(errno.EBADF), "the standard output")
