@@ -2,7 +2,7 @@
 files that are written, in C; those that make a ToUnicode CMap, which pdftotext reads in a PDF file; and the one that
 fills a form, in Python."""
 
-from composite_font import pdf
+from common.composite_font import pdf
 
 from . import forms
 from .checks import needs, run

@@ -5,8 +5,8 @@ import ctypes
 import re
 import shutil
 
-import materials
-from links import dead_links_under
+from common import materials
+from common.links import dead_links_under
 
 from .checks import needs, run
 from .library import C_TESTS, COMPILERS, TOP, WARNINGS

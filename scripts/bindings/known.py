@@ -3,7 +3,7 @@
 import functools
 from pathlib import Path
 
-from bundles import KNOWN_NAMES, binary_bundle
+from common.bundles import KNOWN_NAMES, binary_bundle
 
 from .checks import Failed
 from .library import EXAMPLES, TOP

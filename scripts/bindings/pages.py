@@ -3,7 +3,7 @@
 import shlex
 import sys
 
-from shown import shown_in
+from common.shown import shown_in
 
 from .checks import needs, run
 from .known import has_debian_files

@@ -6,8 +6,8 @@ import shutil
 import subprocess
 from pathlib import Path
 
-from materials import package
-from programs import TOP
+from common.materials import package
+from common.programs import TOP
 
 from .workspace import C_LIBRARY, write_workspace
 

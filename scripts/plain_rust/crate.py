@@ -3,7 +3,7 @@
 import re
 import shutil
 
-from programs import CRATES, TOP, and_below
+from common.programs import CRATES, TOP, and_below
 
 from .erasing import erased
 from .source import Unknown

@@ -12,10 +12,10 @@ import zipfile
 from pathlib import Path
 from string import Template
 
-import materials
-from released import CHANGELOG, released
+from . import materials
+from .released import CHANGELOG, released
 
-TOP = Path(__file__).resolve().parent.parent
+TOP = Path(__file__).resolve().parents[2]
 HERE = CHANGELOG.parent
 UPSTREAM = (TOP / "VERSION").read_text().strip()
 SONAME = f"libhayro_cmap.so.{UPSTREAM.split('.')[0]}"

@@ -4,7 +4,7 @@ import hashlib
 import json
 from pathlib import Path
 
-TOP = Path(__file__).resolve().parent.parent
+TOP = Path(__file__).resolve().parents[2]
 VERSION = (TOP / "VERSION").read_text().strip()
 OWN_LICENCE = "MIT OR Apache-2.0"
 UNSTATED = "NOASSERTION"

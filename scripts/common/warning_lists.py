@@ -2,7 +2,7 @@
 
 import re
 
-from programs import TOP
+from .programs import TOP
 
 # the order and the names of the warnings
 SOURCE = "crates/cmap_lint/src/warning.rt"

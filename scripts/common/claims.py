@@ -3,7 +3,7 @@
 import re
 from dataclasses import dataclass, field
 
-from programs import CRATES
+from .programs import CRATES
 
 EXPORTS = re.findall(r"pub extern \"C\" fn (\w+)", "\n".join(path.read_text() for path in sorted(CRATES.glob("cmap_c*/src/*.rt"))))
 
