@@ -695,8 +695,9 @@ void hayro_cmap_encoder_free(hayro_cmap_encoder *encoder);
  * and the marks after it, if that has a code and the rest can be encoded; else less of the letter, and at last
  * more than it. A piece has the code, in a codespace range and of no notdef, with the best hayro_cmap_grade; of
  * several with a grade up to HAYRO_CMAP_GRADE_COLLECTION the shortest, and of these the least, but of those with
- * HAYRO_CMAP_GRADE_CANONICAL first the character itself in the form of the map from Unicode. It takes time by the
- * characters of the text, times at most those of the longest text of a code.
+ * HAYRO_CMAP_GRADE_CANONICAL first the character itself in the form of the map from Unicode, and of a glyph that the
+ * collection's map reads as another character the last. It takes time by the characters of the text, times at most
+ * those of the longest text of a code.
  *
  * With HAYRO_CMAP_OK the string stands at the head of `room`, and `needed` is how many bytes it has. With
  * HAYRO_CMAP_NO_ROOM `needed` is how many it has, and the room is as it was. With HAYRO_CMAP_REFUSED the text
