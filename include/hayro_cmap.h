@@ -71,7 +71,7 @@ typedef struct hayro_cmap_bundle {
     void *bundle;
 } hayro_cmap_bundle;
 
-/* An encoder of a font, or none: it finds the strings that show texts. */
+/* An encoder of a font, or none: it finds the strings that are read as texts. */
 typedef struct hayro_cmap_encoder {
     bool full;
     void *encoder;
@@ -197,7 +197,7 @@ typedef struct hayro_cmap_facts {
     int32_t supplement;
     uint8_t has_name;       /* 0 where it gives no name */
     uint8_t has_collection; /* 0 where it gives no character collection */
-    uint16_t writing_mode;  /* a hayro_cmap_mode */
+    uint16_t writing_mode;  /* a hayro_cmap_mode; any other number is as HAYRO_CMAP_NO_MODE */
 } hayro_cmap_facts;
 
 /* How a call ends. It is an int of 32 bits. */
@@ -590,6 +590,17 @@ hayro_cmap_status hayro_cmap_layer_ordering(hayro_cmap *map, size_t layer, uint8
                                             size_t room_len, size_t *needed);
 bool hayro_cmap_layer_supplement(hayro_cmap *map, size_t layer, int32_t *supplement);
 hayro_cmap_mode hayro_cmap_layer_writing_mode(hayro_cmap *map, size_t layer);
+
+/* The writing mode of a font's strings: that of the first layer which gives one, else HAYRO_CMAP_HORIZONTAL;
+ * HAYRO_CMAP_NO_MODE where there is no map. */
+static inline hayro_cmap_mode hayro_cmap_effective_writing_mode(hayro_cmap *map) {
+    const size_t layers = hayro_cmap_layers(map);
+    for (size_t layer = 0; layer < layers; layer++) {
+        const hayro_cmap_mode mode = hayro_cmap_layer_writing_mode(map, layer);
+        if (mode != HAYRO_CMAP_NO_MODE) return mode;
+    }
+    return layers > 0 ? HAYRO_CMAP_HORIZONTAL : HAYRO_CMAP_NO_MODE;
+}
 
 /* The codespace ranges of a layer, in order. With HAYRO_CMAP_OK they stand at the head of `ranges`,
  * and `needed` is how many they are. With HAYRO_CMAP_NO_ROOM `needed` is how many there are, and

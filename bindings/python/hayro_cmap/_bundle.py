@@ -1,7 +1,7 @@
 """Bundles: predefined CMap files, and the tables of the binary form."""
 
 import contextlib
-from typing import Iterator, Optional
+from typing import ContextManager, Optional
 
 from ._faults import NotABundle
 from ._library import NOT_A_BUNDLE, Handle
@@ -38,13 +38,10 @@ class Bundle(Owned):
             return put(library.hayro_cmap_bundle_file, handle, name, len(name))
 
 
-@contextlib.contextmanager
-def held(bundle: Optional[Bundle]) -> Iterator[Handle]:
+def held(bundle: Optional[Bundle]) -> ContextManager[Handle]:
     """The handle of a bundle, or an empty one where there is no bundle."""
     if bundle is None:
-        yield Handle()
-    elif isinstance(bundle, Bundle):
-        with bundle._held() as handle:
-            yield handle
-    else:
-        raise TypeError(f"a bundle is a Bundle or None, and not of type {type(bundle).__name__}")
+        return contextlib.nullcontext(Handle())
+    if isinstance(bundle, Bundle):
+        return bundle._held()
+    raise TypeError(f"a bundle is a Bundle or None, and not of type {type(bundle).__name__}")

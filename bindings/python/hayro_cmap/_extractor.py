@@ -9,8 +9,8 @@ from ._candidates import candidates
 from ._encoder import Encoder, Piece
 from ._library import NO_ROOM, Handle
 from ._map import CODE, CMap, Code, code_of_fields
-from ._reading import Files
-from ._room import Room
+from ._reading import NO_FILES, Files
+from ._room import Room, Row
 from ._values import Buffer, bytes_of
 
 #: The encoding of a simple font, whose codes are single bytes (ISO 32000-1, 9.6).
@@ -40,10 +40,10 @@ class Extractor:
 
     `encoding` is the font's CMap, `to_unicode` its ToUnicode CMap, `collection` a map from the CIDs of its character
     collection to Unicode, as Adobe-Japan1-UCS2, and `unicode` one from Unicode to them, as UniJIS-UTF16-H, by which
-    `encode` has the glyphs that the collection means. Without the last two but with `files` or a `bundle`, they are
-    looked for there, as `CMap.collection` and `CMap.unicode` of the encoding do: `Extractor(cmap,
-    files=hayro_cmap.predefined)`. In place of a map `collection` may be the name of the collection, as "Adobe-Japan1":
-    Identity-H names none, and an embedded CMap may name another than the font does.
+    `encode` has the glyphs that the collection means. Without the last two they are looked for in `files` and the
+    `bundle`, as `CMap.collection` and `CMap.unicode` of the encoding do, and without these among the system's
+    predefined CMaps; in no file with `files={}`. In place of a map `collection` may be the name of the collection, as
+    "Adobe-Japan1": Identity-H names none, and an embedded CMap may name another than the font does.
 
     A simple font has no CMap, and codes of one byte: of it `encoding` is None.
 
@@ -67,15 +67,17 @@ class Extractor:
                 raise TypeError(f"an Extractor is made of CMaps, and not of {type(cmap).__name__}")
         if encoding is None:
             encoding = single_bytes()
-        if files is not None or bundle is not None:
-            cids = encoding.collection(files, bundle, name) if cids is None else cids
-            unicode = encoding.unicode(files, bundle, name) if unicode is None else unicode
-        elif name is not None:
-            raise TypeError("files or a bundle are needed for the name of a collection")
+        is_of_system = files is None and bundle is None
+        if cids is None and files is not NO_FILES:
+            cids = encoding.collection(files, bundle, name)
+        if unicode is None and not is_of_system and files is not NO_FILES:
+            unicode = encoding.unicode(files, bundle, name)
         maps = (encoding, to_unicode, cids, unicode)
         self._maps = [CMap(Handle()) if cmap is None else cmap.share() for cmap in maps]
-        #: What finds the map from Unicode once it is needed, where none is given.
+        #: What finds the map from Unicode once it is needed: few strings are encoded, and the map is large.
         self._unicode_of: Optional[Callable[[], Optional[CMap]]] = None
+        if unicode is None and is_of_system:
+            self._unicode_of = functools.partial(self._maps[0].unicode, name=name)
         self._encoders: Dict[bool, Encoder] = {}
         self._rooms: List[Room] = []
         self._known: Dict[bytes, Character] = {}
@@ -97,9 +99,14 @@ class Extractor:
             raise TypeError(f"missing is a text, and not {type(missing).__name__}")
         return "".join(self._parts(string, Room.text, missing))
 
+    def _rows(self, string: Buffer) -> List[Row]:
+        """What `characters` gives, with less of each code. Nothing is kept: it is for codes that are looked up once."""
+        parts = self._parts(string, Room.rows)
+        return parts[0] if len(parts) == 1 else list(itertools.chain.from_iterable(parts))
+
     def _parts(self, string: Buffer, taken_from: Callable[..., Any], *options: Any) -> List[Any]:
         """What is taken from a room of characters, each time that it is full, until all of the string has been there."""
-        string, parts, status = bytes_of(string), [], NO_ROOM
+        string = bytes_of(string)
         # a call has its room for itself, also where threads call at the same time; that of a long string isn't kept
         rooms = self._rooms if len(string) <= KEPT_ROOM else []
         try:
@@ -107,11 +114,12 @@ class Extractor:
         except IndexError:
             room = Room(self._maps[:3], max(len(string), KEPT_ROOM))
         try:
+            status = room.fill(string)
+            parts = [taken_from(room, *options)]
             while status == NO_ROOM:
+                string, room = string[room.taken :], room.larger()
                 status = room.fill(string)
                 parts.append(taken_from(room, *options))
-                if status == NO_ROOM:
-                    string, room = string[room.taken :], room.larger()
         finally:
             rooms.append(room)
         return parts

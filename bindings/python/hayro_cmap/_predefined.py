@@ -7,6 +7,9 @@ from typing import Any, Callable, Dict, Iterator, List, NamedTuple, Optional, Tu
 
 from ._values import Name, name_of
 
+#: The environment variables that name the folders; the first one that is set counts.
+VARIABLES = ("HAYRO_CMAP_PATH", "CMAP_PATH")
+
 #: Where poppler-data, Ghostscript and the packages cmap-adobe-* put the files, also in subfolders.
 SYSTEM_FOLDERS = ("/usr/share/poppler/cMap", "/var/lib/ghostscript/CMap", "/usr/share/fonts/cmap")
 
@@ -14,10 +17,10 @@ SYSTEM_FOLDERS = ("/usr/share/poppler/cMap", "/var/lib/ghostscript/CMap", "/usr/
 def predefined(name: Name) -> Optional[bytes]:
     """The predefined CMap file of a name, as 90ms-RKSJ-H; None where the system has none.
 
-    It is looked up in the folders of the environment variable CMAP_PATH, with colons between them, and without the
-    variable where packages of Linux put these files. A folder's own file counts before those of its subfolders. A name
-    stands for nothing outside of the folders, and for no hidden file and none of a hidden subfolder. OSError where a
-    file is there and can't be read.
+    It is looked up in the folders of the environment variable HAYRO_CMAP_PATH, with colons between them; without it in
+    those of CMAP_PATH, which other programs may use otherwise; and without both where packages of Linux put these
+    files. A folder's own file counts before those of its subfolders. A name stands for nothing outside of the folders,
+    and for no hidden file and none of a hidden subfolder. OSError where a file is there and can't be read.
     """
     path = path_of(name_of(name))
     if path is None:
@@ -115,6 +118,6 @@ def subfolders(folder: bytes) -> List[bytes]:
 
 def folders() -> List[bytes]:
     """The folders in which files are looked up."""
-    asked = os.environ.get("CMAP_PATH")
+    asked = next((os.environ[name] for name in VARIABLES if name in os.environ), None)
     given = SYSTEM_FOLDERS if asked is None else asked.split(os.pathsep)
     return [os.fsencode(folder) for folder in given if folder]

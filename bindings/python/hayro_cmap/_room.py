@@ -11,11 +11,18 @@ from ._owned import checked, library
 #: A hayro_cmap_character: its code, whether it has a text, where that begins and how many bytes it has.
 CHARACTER = struct.Struct("@12sINN")
 
+#: The same with the fields of its code, as `Code` has them but for `has_cid`, which stands before the last one.
+FIELDS = struct.Struct("@IIBBBBINN")
+
 #: The offsets of the lowest byte of its `has_text`, and of its `text_start` in words of 8 bytes.
 HAS_TEXT, TEXT_START = 12, 2
 
 #: Without types of its parameters: they would be checked at each call, and a room makes its arguments once.
 extract = library["hayro_cmap_extract"]
+
+#: A code of a string: the number that its bytes write, how many these are, its CID, and its text. Of many it takes much
+#: less time to make than a `Character`.
+Row = Tuple[int, int, Optional[int], Optional[str]]
 
 
 class Room:
@@ -53,6 +60,14 @@ class Room:
         """Of each character its code, as a hayro_cmap_code; whether it has a text; where that begins in `texts`, and
         how many bytes it has there."""
         return CHARACTER.iter_unpack(memoryview(self._characters)[: self._extracted.made * CHARACTER.size])
+
+    def rows(self) -> List[Row]:
+        """The characters, of which nothing is kept."""
+        texts, made = self.texts, memoryview(self._characters)[: self._extracted.made * FIELDS.size]
+        return [
+            (code, byte_len, cid if has_cid else None, texts[start : start + text_len].decode() if has_text else None)
+            for code, cid, byte_len, _, has_cid, _, has_text, start, text_len in FIELDS.iter_unpack(made)
+        ]
 
     def text(self, missing: str) -> str:
         """The texts, one after another, with `missing` for each character that has none."""

@@ -1,11 +1,15 @@
 """What differs where `python3 -m` runs the package, and no other module imports it."""
 
 import contextlib
+import gc
 import signal
 import sys
 
 #: The modules through which Python imports others.
 IMPORTERS = ("importlib", __name__.partition(".")[0])
+
+#: After how many more objects it is looked for circles of them.
+OBJECTS_OF_LOOK = 20_000
 
 
 def is_run() -> bool:
@@ -36,6 +40,20 @@ def end_on_interrupt() -> None:
     if is_run() and signal.getsignal(signal.SIGINT) is signal.default_int_handler:
         with contextlib.suppress(ValueError):
             signal.signal(signal.SIGINT, signal.SIG_DFL)
+
+
+def begin_to_import() -> None:
+    """While `python3 -m` imports modules, which stay, nothing is looked for that could be collected."""
+    if is_run():
+        gc.disable()
+
+
+def end_to_import() -> None:
+    """From here on it is looked for again, but not among what is imported, which the processes that are forked share;
+    and seldom, since few objects refer to each other in a circle."""
+    gc.freeze()
+    gc.set_threshold(OBJECTS_OF_LOOK)
+    gc.enable()
 
 
 def raise_on_interrupt() -> None:

@@ -132,8 +132,8 @@ def to_unicode(
 
     A code is a number, of `code_len` bytes, or a bytes object of one to four bytes. Without `codespaces`, pairs of the
     first and the last code of a range, one range has all codes of the length. ValueError where codes have several
-    lengths and there are no `codespaces`; where two codes write the same number, since a text belongs to that; and as
-    CMapWriter has it.
+    lengths and there are no `codespaces`; where a code lies in none of these; where two codes write the same number,
+    since a text belongs to that; and as CMapWriter has it.
     """
     writer, codes = CMapWriter(name, collection, code_len=code_len), {}
     for code, text in texts.items():
@@ -142,9 +142,26 @@ def to_unicode(
             raise ValueError(f"the code {value:#x} has two texts")
         codes[value] = length
         writer.text(code, code, text)
-    for first, last in whole(set(codes.values()) or {code_len}) if codespaces is None else codespaces:
+    ranges = whole(set(codes.values()) or {code_len}) if codespaces is None else list(codespaces)
+    for first, last in ranges:
         writer.codespace(first, last)
+    if codespaces is not None:
+        check_codes(codes, [(code_of(first, code_len), code_of(last, code_len)) for first, last in ranges])
     return writer.write()
+
+
+def check_codes(codes: Mapping[int, int], ranges: List[Tuple[Tuple[int, int], Tuple[int, int]]]) -> None:
+    """ValueError where a code, a number with its length, lies in none of the codespace ranges."""
+    bounds = [(low.to_bytes(length, "big"), high.to_bytes(length, "big")) for (low, length), (high, _) in ranges]
+    for code, length in codes.items():
+        data = code.to_bytes(length, "big")
+        if not any(lies_in(data, low, high) for low, high in bounds):
+            raise ValueError(f"the code {data.hex()} lies in no codespace range")
+
+
+def lies_in(code: bytes, low: bytes, high: bytes) -> bool:
+    """Whether a code lies in a codespace range: each byte between the two there (ISO 32000-1, 9.7.6.2)."""
+    return len(code) == len(low) and all(least <= it <= most for least, it, most in zip(low, code, high))
 
 
 def whole(lengths):

@@ -76,10 +76,18 @@ class Predefined(unittest.TestCase):
         with self.path(str(hidden)):
             self.assertEqual([predefined("Hidden-H"), predefined(".Hidden-H")], [SMALL, None])
 
+    def test_path_of_its_own(self):
+        """CMAP_PATH has another meaning for other programs."""
+        for own, found in [(self.folder, SMALL), ("", None), ("/nowhere", None)]:
+            with self.path("/nowhere" if own == self.folder else self.folder):
+                with unittest.mock.patch.dict(os.environ, {"HAYRO_CMAP_PATH": own}):
+                    self.assertEqual(predefined("Small-H"), found)
+
     @needs_resources
     def test_system(self):
         with unittest.mock.patch.dict(os.environ):
             os.environ.pop("CMAP_PATH", None)
+            os.environ.pop("HAYRO_CMAP_PATH", None)
             with CMap.open("90ms-RKSJ-V") as cmap:
                 self.assertEqual([code.cid for code in cmap.decode(b"\x93\xfa")], [3284])
 
@@ -89,6 +97,13 @@ class NoFiles(unittest.TestCase):
         with CMap.parse(SMALL, None) as cmap, CMap.salvage(SMALL, None).cmap as salvaged:
             self.assertEqual([cmap.cid(0x41, 1), salvaged.cid(0x41, 1)], [34, 34])
         self.assertRaises(Refused, CMap.parse, uses(b"A"), None)
+
+    def test_what_are_no_files(self):
+        for call in [CMap.parse, CMap.salvage]:
+            with self.assertRaisesRegex(TypeError, "not a list"):
+                call(SMALL, [SMALL])
+        with self.assertRaisesRegex(TypeError, "not a list"):
+            CMap.open("Small-H", [SMALL])
 
 
 class Callables(unittest.TestCase):
@@ -146,6 +161,8 @@ class Callables(unittest.TestCase):
 
         self.assertRaises(KeyError, CMap.parse, uses(b"A"), files)
         self.assertRaises(TypeError, CMap.parse, uses(b"A"), lambda name: 5)
+        for call in [lambda: CMap.parse(b"", [b"A"]), lambda: CMap.open("A", "a text"), lambda: CMap.salvage(b"", 5)]:
+            self.assertRaisesRegex(TypeError, "^files are a mapping from names or a callable, and not (list|str|int)$", call)
 
     def test_calls_within(self):
         """A callable may use the bundle and other maps."""

@@ -122,8 +122,14 @@ class Texts(unittest.TestCase):
 
     @needs_resources
     def test_collection_of_the_system(self):
-        with CMap.open("90ms-RKSJ-H") as cmap, Extractor(cmap, files=hayro_cmap.predefined) as font:
-            self.assertEqual(font.text("日本語".encode("cp932")), "日本語")
+        """It is looked for there where nothing is given."""
+        with CMap.open("90ms-RKSJ-H") as cmap, CMap.identity() as identity:
+            for files, text in [(hayro_cmap.predefined, "日本語"), (None, "日本語"), ({}, "\uFFFD" * 3)]:
+                with Extractor(cmap, files=files) as font:
+                    self.assertEqual(font.text("日本語".encode("cp932")), text)
+            with Extractor(cmap) as font, Extractor(identity, collection="Adobe-Japan1") as named:
+                cmap.close()
+                self.assertEqual((font.encode("日本"), named.text(b"\x0c\xd4")), ("日本".encode("cp932"), "日"))
 
 
 class Uses(unittest.TestCase):
@@ -378,7 +384,6 @@ class Encoding(unittest.TestCase):
             with Extractor(cmap, collection="Adobe-KR", files=COLLECTIONS) as other:
                 self.assertEqual((string_of(other, "가"), string_of(other, "あ")), (b"\x25", None))
         with CMap.identity() as cmap:
-            self.assertRaises(TypeError, Extractor, cmap, collection="Adobe-Japan1")
             self.assertRaises(TypeError, Extractor, cmap, collection=b"Adobe-Japan1", files=COLLECTIONS)
             self.assertRaises(TypeError, Extractor, cmap, unicode="UniJIS-UTF16-H")
             with self.assertRaises(Refused):
@@ -399,10 +404,9 @@ class Encoding(unittest.TestCase):
         with CMap.parse(own) as cmap:
             with Extractor(cmap, collection="Adobe-Japan1", files=files) as font:
                 self.assertEqual(font.encode("一⼀あ"), b"\x4E\0\x2F\0\x30\x42")
-            with Extractor(cmap, files={}) as font:
-                self.assertEqual(font.encode("あ"), b"\x30\x42")
-            with Extractor(cmap) as font:
-                self.assertIsNone(string_of(font, "あ"))
+            for given in ({}, None):
+                with Extractor(cmap, files=given) as font:
+                    self.assertEqual(font.encode("あ"), b"\x30\x42")
 
     @needs_resources
     def test_codes_of_codecs(self):

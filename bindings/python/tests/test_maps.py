@@ -92,7 +92,7 @@ class Lookups(unittest.TestCase):
         self.assertRaises(ValueError, font.characters, b"A")
 
     def test_text(self):
-        with CMap.parse(b"beginbfchar <41> <00660066> endbfchar") as codes, Extractor(self.cmap, codes) as font:
+        with CMap.parse(b"beginbfchar <41> <00660066> endbfchar") as codes, Extractor(self.cmap, codes, files={}) as font:
             self.assertEqual([font.text(b"AB"), font.text(b"AB", missing="?"), font.text(b"")], ["ff\uFFFD", "ff?", ""])
 
     def test_simple_font(self):
@@ -157,7 +157,7 @@ class Lookups(unittest.TestCase):
     def test_texts_of_many(self):
         long = b"0061" * 5000
         with CMap.parse(b"beginbfchar <41> <" + long + b"> <42> <0062> endbfchar") as codes:
-            with Extractor(self.cmap, codes) as font:
+            with Extractor(self.cmap, codes, files={}) as font:
                 texts = [character.text for character in font.characters(b"B" * 5000 + b"ABC")]
                 self.assertEqual(texts, ["b"] * 5000 + ["a" * 5000, "b", None])
             with Extractor(codes, codes, codes) as font:
@@ -167,7 +167,7 @@ class Lookups(unittest.TestCase):
         """Each string is cut by itself: the last byte of one and the first byte of the next are no code."""
         strings = [b"A\x81", b"\x40B", b"", b"\x81\x40", b"\x81"]
         with CMap.parse(b"beginbfchar <41> <0061> <8140> <3000> endbfchar") as codes, Extractor(
-            self.cmap, codes
+            self.cmap, codes, files={}
         ) as font:
             found = font.characters_of(strings)
             self.assertEqual(
@@ -197,6 +197,18 @@ class Lookups(unittest.TestCase):
             self.assertEqual(vertical.cid(0x3042, 2), 0x3042)
             self.assertEqual(horizontal.metadata.writing_mode, WritingMode.HORIZONTAL)
             self.assertEqual(vertical.metadata.writing_mode, WritingMode.VERTICAL)
+
+    def test_effective_writing_mode(self):
+        files = {"Vertical": b"/WMode 1 def", "Middle": b"/Vertical usecmap"}
+        rows = [
+            (b"", WritingMode.HORIZONTAL),
+            (b"/WMode 1 def", WritingMode.VERTICAL),
+            (b"/Middle usecmap", WritingMode.VERTICAL),
+            (b"/Middle usecmap /WMode 0 def", WritingMode.HORIZONTAL),
+        ]
+        for data, mode in rows:
+            with self.subTest(data), CMap.parse(data, files) as cmap:
+                self.assertEqual(cmap.effective_writing_mode, mode)
 
 
 class EffectiveTexts(unittest.TestCase):

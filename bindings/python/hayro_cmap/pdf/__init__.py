@@ -16,13 +16,14 @@ collection, and of a simple font that of the name of the glyph, if fontTools is 
 of the glyph in the embedded font program. `Source` has all sources.
 """
 
-from .._run import end_on_interrupt, missing
+from .._run import begin_to_import, end_on_interrupt, missing
 
+begin_to_import()
 end_on_interrupt()
 try:
     import pikepdf  # noqa: F401
 except ImportError as fault:
-    raise missing('pikepdf is missing: pip install "hayro-cmap[pdf]", or Debian\'s python3-pikepdf') from fault
+    raise missing("pikepdf is missing: pip install pikepdf, or Debian's python3-pikepdf") from fault
 
 from ._check import CMapWarning, FontReport, Report, ShownCode, check
 from ._content import Content, Document, Shown, characters

@@ -9,7 +9,6 @@ reader of the output goes away.
 import argparse
 import contextlib
 import errno
-import gc
 import logging
 import os
 import sys
@@ -17,13 +16,13 @@ from typing import Iterator, List
 
 from .. import __version__
 from .._escaped import escaped
-from .._run import raise_on_interrupt
+from .._run import end_to_import, raise_on_interrupt
 from . import HAS_GLYPH_LIST
 from ._check import OF_SHOWN_CODES, share
 from ._commands import Result, run
 from ._limits import MEMORY, SECONDS
 from ._many import Task, by_dask, by_processes, json_lines, limited_memory
-from ._paths import STANDARD_INPUT, listed, readable, reason_of
+from ._paths import STANDARD_INPUT, expanded, listed, readable, reason_of
 from ._warning_names import FEW_TEXTS, WARNINGS
 
 #: What --deny takes.
@@ -102,7 +101,7 @@ def shared_options() -> argparse.ArgumentParser:
 def file_options() -> argparse.ArgumentParser:
     """The arguments of commands that read many files."""
     options = argparse.ArgumentParser(add_help=False)
-    options.add_argument("files", metavar="FILE", nargs="*", help="a PDF file")
+    options.add_argument("files", metavar="FILE", nargs="*", help="a PDF file, or a folder with some")
     options.add_argument("--files-from", metavar="LIST", help="a file of further paths, one per line; - is stdin")
     options.add_argument("-0", "--null", action="store_true", help="a zero byte ends each path in LIST")
     options.add_argument("--jobs", metavar="N", type=at_least_one, default=1, help="how many processes read files")
@@ -121,11 +120,11 @@ def reading_options() -> argparse.ArgumentParser:
 
 
 def paths_of(asked: argparse.Namespace) -> List[str]:
-    """The files, then those of the list."""
+    """The files, then those of the list, and those below folders of either."""
     if asked.command == "repair":
         return [asked.input]
     found = [] if asked.files_from is None else listed(asked.files_from, b"\0" if asked.null else b"\n")
-    return asked.files + found
+    return expanded(asked.files + found)
 
 
 def options_of(asked: argparse.Namespace) -> dict:
@@ -135,6 +134,7 @@ def options_of(asked: argparse.Namespace) -> dict:
         "deny": getattr(asked, "deny", []),
         "lenient": not getattr(asked, "strict", False),
         "guesses": not getattr(asked, "no_guesses", False),
+        "json": asked.json,
         "output": getattr(asked, "output", None),
         "password": asked.password,
         "seconds": asked.seconds,
@@ -153,8 +153,6 @@ def results(asked: argparse.Namespace, paths: List[str]) -> Iterator[Result]:
         logging.disable(logging.CRITICAL)
         done = by_dask(paths, asked.command, options, asked.dask)
     else:
-        # what is loaded stays: the collector needn't look at it, nor write to memory that the processes share
-        gc.freeze()
         # what ends a process, as a lack of memory may, costs the file that it reads
         task = Task(asked.command, options, MEMORY, of_pages if len(paths) == 1 else iter)
         done = by_processes(paths, task, asked.jobs)
@@ -237,6 +235,7 @@ def main(words=None) -> int:
         sys.stderr = open(os.devnull, "w")
     try:
         raise_on_interrupt()
+        end_to_import()
         asked = arguments(words)
         if sys.stdout is None:
             raise OSError(errno.EBADF, os.strerror(errno.EBADF), "the standard output")

@@ -10,6 +10,8 @@ import pikepdf
 
 from .. import CMap, Code, Extractor, Layer, NotWritable, Refused, predefined
 from .._faults import Lines
+from .._reading import NO_FILES
+from .._room import Row
 from ._budget import Budget
 from ._glyphs import Names, differences_of, glyph_names, guessed_texts, is_symbolic, texts_of_names
 from ._objects import (
@@ -147,7 +149,7 @@ class Font:
         self._characters: Dict[Tuple[bool, bool], Dict[Tuple[int, int], Character]] = {}
         self._extractors: Dict[bool, Extractor] = {}
         #: The numbers of its object, or None where it is written where it is used.
-        self.objgen: Optional[Tuple[int, int]] = dictionary.objgen if dictionary.is_indirect else None
+        self.objgen: Optional[Tuple[int, int]] = written_as(dictionary)
         #: "Type0", "Type1", "TrueType" and so on.
         self.subtype = name_at(dictionary, "/Subtype")
         self.is_composite = self.subtype == "Type0"
@@ -168,9 +170,14 @@ class Font:
         return self.objgen[0] if self.objgen else 0
 
     @functools.cached_property
+    def _encoding_entry(self) -> Any:
+        """What the font has for its encoding, or None."""
+        return self.dictionary.get("/Encoding")
+
+    @functools.cached_property
     def encoding_name(self) -> Optional[str]:
         """The name of the encoding: of a stream the CMapName, of a dictionary the BaseEncoding."""
-        encoding, kind = self.dictionary.get("/Encoding"), self.encoding_kind
+        encoding, kind = self._encoding_entry, self.encoding_kind
         if kind == "name":
             return text_of(encoding)
         keys = {"stream": "/CMapName", "dictionary": "/BaseEncoding"}
@@ -179,22 +186,23 @@ class Font:
     @functools.cached_property
     def encoding_kind(self) -> str:
         """What the encoding is: "name", "stream", "dictionary" or "none"."""
-        encoding = self.dictionary.get("/Encoding")
         kinds = [(pikepdf.Name, "name"), (pikepdf.Dictionary, "dictionary"), (pikepdf.Stream, "stream")]
-        return next((name for kind, name in kinds if isinstance(encoding, kind)), "none")
+        return next((name for kind, name in kinds if isinstance(self._encoding_entry, kind)), "none")
 
     @functools.cached_property
     def encoding(self) -> Read:
         """The CMap of a composite font, over those of `UseCMap`; nothing of a simple one."""
         if not self.is_composite:
             return NOTHING
-        encoding = self.dictionary.get("/Encoding")
+        encoding = self._encoding_entry
         if self.encoding_kind == "stream":
             return read_stream(encoding, "Encoding", self._streams)
         if self.encoding_kind != "name":
             return Read(None, None, [Fault("Encoding", 0, None, None, (), "it is neither a name nor a stream")])
         try:
-            cmap = CMap.open(bytes_of(encoding))
+            # the files of these two have nothing that isn't known
+            is_identity = self.encoding_name in IDENTITIES
+            cmap = CMap.identity(self.encoding_name == "Identity-V") if is_identity else CMap.open(bytes_of(encoding))
         except Refused as fault:
             return Read(None, None, [fault_of(fault, "Encoding", 0, b"")])
         return Read(cmap, cmap, [])
@@ -320,22 +328,26 @@ class Font:
         that.
         """
         to_unicode = self.to_unicode.lenient if lenient else self.to_unicode.strict
-        if not self.is_composite:
-            return Extractor(None, to_unicode=to_unicode)
-        encoding = self.encoding.lenient
-        if encoding is None:
-            left = self.to_unicode.lenient
-            has_ranges = left is not None and any(layer.codespaces for layer in left.layers)
-            return Extractor(left if has_ranges else CMap.identity(), to_unicode=to_unicode)
-        extractor = Extractor(encoding, to_unicode=to_unicode, collection=self.texts_of_cids)
-        # few strings are encoded, and the map is large
-        extractor._unicode_of = functools.partial(unicode_or_none, encoding, self.collection)
+        extractor = Extractor(self._cutting, to_unicode=to_unicode, collection=self.texts_of_cids, files=NO_FILES)
+        if self.encoding.lenient is not None:
+            # few strings are encoded, and the map is large
+            extractor._unicode_of = functools.partial(unicode_or_none, self.encoding.lenient, self.collection)
         return extractor
 
+    @functools.cached_property
+    def _cutting(self) -> Optional[CMap]:
+        """The map that cuts strings into codes and gives these CIDs; None of a simple font."""
+        if not self.is_composite or self.encoding.lenient is not None:
+            return self.encoding.lenient
+        left = self.to_unicode.lenient
+        has_ranges = left is not None and any(layer.codespaces for layer in left.layers)
+        return left if has_ranges else CMap.identity()
+
     def _kept_extractor(self, lenient: bool) -> Extractor:
-        """The same, made once."""
+        """The extractor of its CMaps alone, made once: most codes have a text without the map of the collection."""
         if lenient not in self._extractors:
-            self._extractors[lenient] = self.extractor(lenient)
+            to_unicode = self.to_unicode.lenient if lenient else self.to_unicode.strict
+            self._extractors[lenient] = Extractor(self._cutting, to_unicode=to_unicode, files=NO_FILES)
         return self._extractors[lenient]
 
     @property
@@ -351,12 +363,12 @@ class Font:
         """
         return self._found(self._kept_extractor(lenient).characters(string), lenient, guesses)
 
-    def texts(self, string: bytes, lenient: bool, guesses: bool) -> List[Tuple[Code, Optional[str]]]:
-        """The codes of such a string, each with its text: what `characters` has of them, of which nothing is kept."""
-        found = self._kept_extractor(lenient).characters(string)
-        if not self.is_composite and all(text is not None for _, text in found):
-            return found
-        return [(code, self._text_and_source(code, text, lenient, guesses)[0]) for code, text in found]
+    def rows(self, string: bytes, lenient: bool, guesses: bool) -> List[Row]:
+        """What `characters` gives, with less of each code. Nothing is kept: it is for codes that are looked up once."""
+        rows = self._kept_extractor(lenient)._rows(string)
+        return [
+            row if row[3] is not None else (*row[:3], self._text_and_source(row, lenient, guesses)[0]) for row in rows
+        ]
 
     def characters_of(
         self, strings: Iterable[bytes], lenient: bool = True, guesses: bool = True
@@ -373,43 +385,40 @@ class Font:
             key = code[:2] if not code.cut_short else (code.code, -code.byte_len)
             character = known.get(key)
             if character is None:
-                text, source = self._text_and_source(code, text, lenient, guesses)
+                text, source = self._text_and_source((*code[:3], text), lenient, guesses)
                 character = known[key] = Character(self, code, text, source)
             found.append(character)
         return found
 
-    def _text_and_source(
-        self, code: Code, text: Optional[str], lenient: bool, guesses: bool
-    ) -> Tuple[Optional[str], Source]:
-        """The text of a code, of which an extractor gives this one, and where it comes from."""
-        if self.is_composite:
-            found = self._text_of_composite(code, text, lenient)
-        else:
-            found = self._text_of_simple(code.code, text, lenient)
-        return found if guesses or not found[1].is_guess else (None, Source.NONE)
-
-    def _text_of_composite(self, code: Code, text: Optional[str], lenient: bool) -> Tuple[Optional[str], Source]:
-        """The text of a code of a composite font, of which an extractor gives this text."""
-        to_unicode = self.to_unicode.lenient if lenient else self.to_unicode.strict
-        is_own = self.texts_of_cids is None or to_unicode is not None and to_unicode.text(code.code) is not None
-        if text is not None and is_own:
-            return text, Source.TO_UNICODE
-        if lenient and self._has_empty_text(code.code):
-            return "", Source.TO_UNICODE
-        if lenient and code.byte_len == UNICODE_BYTES and self.has_unicode_codes and is_character(code.code):
-            return chr(code.code), Source.UNICODE_CODES
-        if text is not None:
-            return text, Source.COLLECTION
-        if code.cid is not None and self.glyphs_of_cids is not None:
-            text = self.glyphs_of_cids.text(code.cid)
-        return text, Source.NONE if text is None else Source.FONT_PROGRAM
-
-    def _text_of_simple(self, code: int, text: Optional[str], lenient: bool) -> Tuple[Optional[str], Source]:
-        """The text of a code of a simple font, of which the ToUnicode CMap gives this text."""
+    def _text_and_source(self, row: Row, lenient: bool, guesses: bool) -> Tuple[Optional[str], Source]:
+        """The text of a code, to which the ToUnicode CMap gives the one of this row, and where it comes from."""
+        code, byte_len, cid, text = row
         if text is not None:
             return text, Source.TO_UNICODE
         if lenient and self._has_empty_text(code):
             return "", Source.TO_UNICODE
+        if self.is_composite:
+            found = self._text_of_composite(code, byte_len, cid, lenient)
+        else:
+            found = self._text_of_simple(code)
+        return found if guesses or not found[1].is_guess else (None, Source.NONE)
+
+    def _text_of_composite(
+        self, code: int, byte_len: int, cid: Optional[int], lenient: bool
+    ) -> Tuple[Optional[str], Source]:
+        """The text of a code of a composite font without one in the ToUnicode CMap."""
+        if lenient and byte_len == UNICODE_BYTES and self.has_unicode_codes and is_character(code):
+            return chr(code), Source.UNICODE_CODES
+        if cid is None:
+            return None, Source.NONE
+        text = None if self.texts_of_cids is None else self.texts_of_cids.text(cid)
+        if text is not None:
+            return text, Source.COLLECTION
+        text = None if self.glyphs_of_cids is None else self.glyphs_of_cids.text(cid)
+        return text, Source.NONE if text is None else Source.FONT_PROGRAM
+
+    def _text_of_simple(self, code: int) -> Tuple[Optional[str], Source]:
+        """The text of a code of a simple font without one in the ToUnicode CMap."""
         found = ((text_of(self, code), source) for source, text_of in self._ways)
         return next(((text, source) for text, source in found if text is not None), (None, Source.NONE))
 
@@ -458,7 +467,7 @@ class Font:
 
     def as_json(self) -> Dict[str, Any]:
         """What is known of the font, as values of JSON."""
-        encoding, to_unicode = self.dictionary.get("/Encoding"), self.dictionary.get("/ToUnicode")
+        encoding, to_unicode = self._encoding_entry, self.dictionary.get("/ToUnicode")
         base = encoding.get("/UseCMap") if isinstance(encoding, pikepdf.Stream) else None
         return {
             "base_font": self.base_font,
@@ -483,6 +492,12 @@ class Font:
         stream = stream_at(self.dictionary, "/ToUnicode")
         words.append("no ToUnicode" if stream is None else f"ToUnicode {object_number(stream)}")
         return f"font {self.number} {self.base_font or '-'} ({', '.join(words)})"
+
+
+def written_as(value: pikepdf.Object) -> Optional[Tuple[int, int]]:
+    """The numbers of an indirect object; None of one that is written where it is used."""
+    numbers = value.objgen
+    return numbers if numbers[0] else None
 
 
 def is_character(code: int) -> bool:
@@ -519,7 +534,7 @@ def read_stream(stream: pikepdf.Stream, of: str, streams: Streams, over: Tuple =
 
 def limit_texts(cmap: CMap, data: bytes) -> None:
     """TooLarge where a code has a text that is too long: a range of few bytes gives it to many codes."""
-    if LONG_TEXT.search(data) and any(len(row.start) >= MOST_OF_TEXT for row in cmap._text_rows()):
+    if len(data) > MOST_OF_TEXT and LONG_TEXT.search(data) and any(len(row.start) >= MOST_OF_TEXT for row in cmap._text_rows()):
         raise TooLarge(f"a code has a text of more than {MOST_OF_TEXT:,} characters")
 
 
@@ -593,7 +608,7 @@ class Fonts:
         """The font of a dictionary; None where it is none."""
         if not isinstance(value, pikepdf.Dictionary):
             return None
-        key = value.objgen if value.is_indirect else value.unparse()
+        key = written_as(value) or value.unparse()
         if key not in self.found:
             if len(self.found) >= MOST_FONTS:
                 raise TooLarge(f"the file has more than {MOST_FONTS:,} fonts")

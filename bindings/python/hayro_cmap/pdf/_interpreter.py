@@ -97,14 +97,17 @@ class Level:
         self.form = None if form is None else form.objgen
         self.state, self.saved, self.unsaved = run.state, len(run.saved), run.unsaved
         self.text, self.span, self.marks = run.text, run.span, run.marks
+        self._kinds: Dict[str, pikepdf.Dictionary] = {}
         self._found: Dict[Tuple[str, bytes], Any] = {}
 
     def named(self, kind: str, name: bytes, taken: Callable[[Any], Any] = lambda it: it) -> Any:
         """What is taken of the resource of a name: always the same of a kind, so that it is kept."""
         if (kind, name) not in self._found:
+            if kind not in self._kinds:
+                self._kinds[kind] = dictionary_at(self.resources, kind)
             if len(self._found) == MOST_NAMES:
                 self._found.clear()
-            self._found[kind, name] = taken(named(dictionary_at(self.resources, kind), name))
+            self._found[kind, name] = taken(named(self._kinds[kind], name))
         return self._found[kind, name]
 
 
@@ -435,11 +438,13 @@ def number_of(value: Any) -> float:
 
 def pair_in(numbers: bytes) -> Tuple[float, float]:
     """The last two numbers; 0 for missing ones."""
-    *_, x, y = 0.0, 0.0, *numbers_in(numbers)
-    return x, y
+    found = numbers_in(numbers)
+    if len(found) != 2:
+        found = [0.0, 0.0, *found][-2:]
+    return found[0], found[1]
 
 
 def last_in(numbers: bytes) -> float:
     """The last number; 0 where there is none."""
-    *_, last = 0.0, *numbers_in(numbers)
-    return last
+    found = numbers_in(numbers)
+    return found[-1] if found else 0.0

@@ -78,24 +78,30 @@ class Gap(NamedTuple):
     flow: Flow = Flow.AFTER
 
 
+#: What most gaps are.
+NO_GAP, BLANK_GAP, END = Gap(NOTHING), Gap(BLANK), Gap(LINE_END)
+
+
 def gap(before: Piece, piece: Piece, flow: Flow = Flow.AFTER) -> Gap:
     """What is between a string and the one that is shown after it; `flow` is how the first one went on."""
     first, second = before.place, piece.place
-    if first is None or second is None or is_below(before, piece):
-        return Gap(NOTHING)
+    if first is None or second is None:
+        return NO_GAP
     size = max(first.size, second.size)
     along, across = distance(first, first.end_x, first.end_y, second.x, second.y)
-    if first.along_x * second.along_x + first.along_y * second.along_y < SAME_DIRECTION:
-        return Gap(NOTHING if max(abs(along), abs(across)) < BACK * size else LINE_END)
-    if abs(across) > RAISED * min(first.size, second.size):
-        return Gap(LINE_END)
+    is_turned = first.along_x * second.along_x + first.along_y * second.along_y < SAME_DIRECTION
+    if is_turned or abs(across) > RAISED * min(first.size, second.size):
+        is_near = is_turned and max(abs(along), abs(across)) < BACK * size
+        return NO_GAP if is_near or is_below(before, piece) else END
     if flow is Flow.LEFT or before.is_right_to_left or piece.is_right_to_left:
         left, _ = distance(first, second.end_x, second.end_y, first.x, first.y)
         if left < FAR * size and (abs(left) < abs(along) or flow is Flow.LEFT and left == along):
             return Gap(BLANK if left > WIDE * size else NOTHING, Flow.LEFT)
     if along < -BACK * size:
-        return Gap(LINE_END)
-    return Gap(BLANK if along > WIDE * size else NOTHING, Flow.AFTER if along < FAR * size else Flow.ELSEWHERE)
+        return END
+    if along < FAR * size:
+        return BLANK_GAP if along > WIDE * size else NO_GAP
+    return Gap(BLANK if along > WIDE * size else NOTHING, Flow.ELSEWHERE)
 
 
 def distance(line: Place, x: float, y: float, other_x: float, other_y: float) -> Tuple[float, float]:
@@ -107,7 +113,8 @@ def distance(line: Place, x: float, y: float, other_x: float, other_y: float) ->
 def is_mark_on(before: Piece, piece: Piece) -> bool:
     """Whether a string has nothing but marks that are combined with a letter, shown near the string before."""
     first, second, text = before.place, piece.place, text_of(piece)
-    if first is None or second is None or not text or not all(map(unicodedata.combining, text)):
+    # no ASCII character is one
+    if text.isascii() or first is None or second is None or not all(map(unicodedata.combining, text)):
         return False
     along, across = distance(first, first.end_x, first.end_y, second.x, second.y)
     return max(abs(along), abs(across)) < max(first.size, second.size)
@@ -170,7 +177,7 @@ class Lines:
             # a string without codes is nowhere
             return None
         if before is None:
-            self._put(Gap(NOTHING), piece)
+            self._put(NO_GAP, piece)
         elif piece.span is not None and piece.span is before.span:
             # its text stands there already
             self._before = piece
@@ -198,7 +205,9 @@ class Lines:
         """Puts a string to the end of the line that begins above an accent, or is one above a letter, with the letter
         that has the accent. False where that isn't so."""
         last = self._parts[-1]
-        if piece.span is not None or not last.texts or COMBINING.keys().isdisjoint((last.texts[-1], piece.texts[0])):
+        if piece.span is not None or not last.texts:
+            return False
+        if last.texts[-1] not in COMBINING and piece.texts[0] not in COMBINING:
             return False
         for accent, letter in [(last.texts[-1], piece.texts[0]), (piece.texts[0], last.texts[-1])]:
             if accent in COMBINING and letter.isalpha() and overlaps(before, piece):

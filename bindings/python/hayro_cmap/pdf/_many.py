@@ -154,9 +154,10 @@ def serve(end: connection.Connection, other: connection.Connection, task: Task, 
 
 
 def give(end: connection.Connection, task: Task, path: str) -> None:
-    """Sends what is said of a file through a pipe."""
+    """Sends what is said of a file through a pipe, in the form in which it is printed."""
+    other = "lines" if task.options.get("json") else "objects"
     try:
-        end.send(task.result(path))
+        end.send(task.result(path)._replace(**{other: []}))
     except MemoryError:
         end.send(unread(path, f"it can't be read: {NO_MEMORY}"))
 

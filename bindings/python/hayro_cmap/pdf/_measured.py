@@ -1,9 +1,8 @@
 """The texts of shown strings, and how far they reach."""
 
 import unicodedata
-from typing import Dict, List, NamedTuple, Optional
+from typing import Dict, List, NamedTuple, Optional, Tuple
 
-from .. import Code
 from ._fonts import Font
 
 #: What stands for a code without a text.
@@ -19,13 +18,8 @@ RIGHT_TO_LEFT = ("R", "AL")
 #: How many characters of texts are kept for a font.
 MOST_KEPT = 1 << 20
 
-
-class Glyph(NamedTuple):
-    """A code that is shown: its text, how far it reaches, and whether it is a space of one byte."""
-
-    text: str
-    width: float
-    is_space: bool
+#: A code that is shown: its text, how far it reaches, and whether it is a space of one byte.
+Glyph = Tuple[str, float, bool]
 
 
 class Measured(NamedTuple):
@@ -81,27 +75,27 @@ class Measure:
     def _glyphs_of(self, string: bytes) -> List[Glyph]:
         """What the codes of a string are."""
         length, known = self._length, self._glyphs
-        if self._font is not None and (length is None or len(string) % length):
+        if length is None or len(string) % length:
             # the font keeps what it finds, since these codes may come again
             characters = self._font.characters(string, *self._options)
-            return [self._glyph(code, text) for _, code, text, _ in characters]
+            return [self._glyph(code.code, code.byte_len, code.cid, text) for _, code, text, _ in characters]
         codes = [string[at : at + length] for at in range(0, len(string), length)]
-        unknown = [code for code in dict.fromkeys(codes) if code not in known]
+        unknown = [code for code in codes if code not in known]
         if unknown:
+            unknown = list(dict.fromkeys(unknown))
             known.update(zip(unknown, self._looked_up(b"".join(unknown))))
-        return list(map(known.__getitem__, codes))
+        return [known[code] for code in codes]
 
     def _looked_up(self, string: bytes) -> List[Glyph]:
         """What the codes of a string are, as the font says; each byte is one where there is no font."""
         if self._font is None:
-            return [Glyph(REPLACEMENT, 0.0, False)] * len(string)
-        return [self._glyph(code, text) for code, text in self._font.texts(string, *self._options)]
+            return [(REPLACEMENT, 0.0, False)] * len(string)
+        return [self._glyph(*row) for row in self._font.rows(string, *self._options)]
 
-    def _glyph(self, code: Code, text: Optional[str]) -> Glyph:
+    def _glyph(self, code: int, byte_len: int, cid: Optional[int], text: Optional[str]) -> Glyph:
         """What a code with this text is."""
-        number, byte_len, cid, _, _ = code
-        width = self._widths.vertical(cid).advance if self.is_vertical else self._widths.advance(number, cid)
-        return Glyph(REPLACEMENT if text is None else text, width, number == SPACE and byte_len == 1)
+        width = self._widths.vertical(cid).advance if self.is_vertical else self._widths.advance(code, cid)
+        return REPLACEMENT if text is None else text, width, code == SPACE and byte_len == 1
 
 
 def measured(glyphs: List[Glyph]) -> Measured:

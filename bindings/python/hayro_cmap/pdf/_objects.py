@@ -16,8 +16,9 @@ MOST_OF_FILE = 1 << 31
 #: How many times longer a decoded stream is taken to be, where its filters are decoded by pikepdf alone.
 MOST_TIMES = 16
 
-#: Filters that are decoded piece by piece.
-FLATE = ("FlateDecode", "Fl")
+#: The filter that is decoded piece by piece, and its two names.
+DEFLATED = pikepdf.Name.FlateDecode
+FLATE = (["FlateDecode"], ["Fl"])
 
 #: What pikepdf raises over malformed objects.
 MALFORMED = (pikepdf.PdfError, PdfParsingError, RuntimeError, ValueError, TypeError, KeyError)
@@ -70,7 +71,7 @@ def decoded(stream: pikepdf.Stream, most: int) -> bytes:
     filters = filters_of(stream)
     if not filters:
         return raw
-    if filters[0] in FLATE and len(filters) == 1 and "/DecodeParms" not in stream:
+    if filters in FLATE and "/DecodeParms" not in stream:
         try:
             return zlib.decompressobj().decompress(raw, most + 1)
         except zlib.error:
@@ -83,6 +84,8 @@ def decoded(stream: pikepdf.Stream, most: int) -> bytes:
 def filters_of(stream: pikepdf.Stream) -> List[str]:
     """The names of the filters of a stream."""
     it = stream.get("/Filter")
+    if it == DEFLATED:
+        return FLATE[0]
     if isinstance(it, pikepdf.Name):
         return [text_of(it)]
     listed = list(it) if isinstance(it, pikepdf.Array) else []

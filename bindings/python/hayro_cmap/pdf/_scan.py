@@ -4,6 +4,7 @@ One regular expression goes through a content. Nothing is made of paths, colours
 """
 
 import re
+from binascii import unhexlify
 from typing import Iterator, List, Optional, Tuple, Union
 
 #: White space, and the bytes of numbers with the white space between them (ISO 32000-1, 7.2.2 and 7.3.3).
@@ -139,7 +140,7 @@ def end_of_string(data: bytes, start: int) -> int:
 def numbers_in(data: bytes) -> List[float]:
     """The numbers that are written here; 0 for what is none."""
     try:
-        return [float(it) for it in data.split()]
+        return list(map(float, data.split()))
     except ValueError:
         return [number_of(it) for it in data.replace(b"\0", b" ").split()]
 
@@ -168,7 +169,7 @@ def unescaped(escape: "re.Match[bytes]") -> bytes:
 def hexadecimal(digits: bytes) -> bytes:
     """The bytes of a hexadecimal string; after an odd digit stands 0 (ISO 32000-1, 7.3.4.3)."""
     try:
-        return bytes.fromhex(digits.decode("ascii"))
+        return unhexlify(digits)
     except ValueError:
         bare = b"".join(digits.replace(b"\0", b"").split()).decode("ascii")
         return bytes.fromhex(bare + "0" * (len(bare) % 2))
@@ -207,9 +208,12 @@ def elements_of(operands: List[Operand]) -> List[Union[bytes, float]]:
 
 def element(simple: bytes, digits: bytes, number: bytes) -> Union[bytes, float]:
     """An element of an array: a string, or else a number."""
-    if number:
+    if not number:
+        return hexadecimal(digits) if digits else literal(simple)
+    try:
+        return float(number)
+    except ValueError:
         return number_of(number)
-    return hexadecimal(digits) if digits else literal(simple)
 
 
 def last_name(operands: List[Operand]) -> bytes:

@@ -119,13 +119,16 @@ class Widths:
     def of(cls, font: "Font") -> "Widths":
         """The widths of a font."""
         if not font.is_composite:
+            scale = scale_of(font)
             # without the font, which has these widths: no reference goes round
-            missing = functools.partial(missing_width, font.dictionary, scale_of(font))
-            return cls(simple_widths(font), {}, DEFAULT_OF_CODE, missing=missing)
+            missing = functools.partial(missing_width, font.dictionary, scale)
+            return cls(simple_widths(font, scale), {}, DEFAULT_OF_CODE, missing=missing)
         descendant = pikepdf.Dictionary() if font.descendant is None else font.descendant
         default = number_at(descendant, "/DW", DEFAULT_OF_CID)
         by_cid = widths_of_cids(descendant, font.budget)
-        verticals = verticals_of_cids(descendant, font.budget) if is_vertical(font) else None
+        if not is_vertical(font):
+            return cls([], by_cid, default)
+        verticals = verticals_of_cids(descendant, font.budget)
         return cls([], by_cid, default, verticals, pair_of(descendant.get("/DW2"), DEFAULT_VERTICAL))
 
     @functools.cached_property
@@ -155,19 +158,19 @@ class Widths:
         return Vertical(advance, self.by_cid.get(cid or 0, self.default) / 2, y)
 
 
-def simple_widths(font: "Font") -> Sequence[Optional[float]]:
+def simple_widths(font: "Font", scale: float) -> Sequence[Optional[float]]:
     """The widths of the codes 0 to 255 of a simple font: those that it gives, or else of its program, or of a standard
     font of its name. None stands for the width of missing ones."""
-    return given_widths(font) or program_widths(font) or standard_widths(font)
+    return given_widths(font, scale) or program_widths(font) or standard_widths(font)
 
 
-def given_widths(font: "Font") -> List[Optional[float]]:
+def given_widths(font: "Font", scale: float) -> List[Optional[float]]:
     """The widths of the codes 0 to 255 by the array Widths of a simple font, with None for what it doesn't have; none
     where it has no number."""
     given = numbers(font.dictionary.get("/Widths"))
-    if not any(it is not None for it in given):
+    if given.count(None) == len(given):
         return []
-    scale, first = scale_of(font), integer_at(font.dictionary, "/FirstChar")
+    first = integer_at(font.dictionary, "/FirstChar")
     row = given[max(-first, 0) : max(256 - first, 0)]
     if scale != 1:
         row = [None if it is None else scale * it for it in row]

@@ -7,13 +7,15 @@ import re
 import shutil
 import subprocess
 import sys
+import textwrap
 import zipfile
 from pathlib import Path
 from string import Template
 
-from released import CHANGELOG, released
+from . import materials
+from .released import CHANGELOG, released
 
-TOP = Path(__file__).resolve().parent.parent
+TOP = Path(__file__).resolve().parents[2]
 HERE = CHANGELOG.parent
 UPSTREAM = (TOP / "VERSION").read_text().strip()
 SONAME = f"libhayro_cmap.so.{UPSTREAM.split('.')[0]}"
@@ -102,7 +104,7 @@ def spread_python(wheel, tree):
     """Puts what is in a wheel into the package of Python, but for what pip alone needs."""
     with zipfile.ZipFile(wheel) as archive:
         for name in archive.namelist():
-            if not re.search(r"dist-info/(RECORD$|licenses/)", name):
+            if not re.search(r"dist-info/(RECORD$|licenses/|sboms/)", name):
                 tree.write(f"{PYTHON}/{name}", archive.read(name))
     for script, call in [("postinst", "py3compile"), ("prerm", "py3clean")]:
         text = f'#!/bin/sh\nset -e\nif [ -z "$DPKG_ROOT" ] && command -v {call} >/dev/null; then\n    {call} -p {PYTHON3}\nfi\n'
@@ -122,20 +124,33 @@ def finish_library(tree):
 
 
 def add_documents(tree, installed):
-    """Adds the licences, the changelog and, of what has code of the kit in it, the bill of materials."""
+    """Adds the licences, the bill of materials and the changelog; `installed` has what the package has compiled in."""
     folder = f"usr/share/doc/{tree.name}"
-    tree.write(f"{folder}/copyright", (HERE / "copyright").read_bytes())
+    bill, contained = materials.bill([], f"{released():%Y-%m-%dT%H:%M:%SZ}"), []
+    if installed:
+        bill = (installed / DOCS / "hayro_cmap.spdx.json").read_text()
+        contained = materials.names_of(bill)
+        tree.write(f"{folder}/kit.txt.gz", gzip.compress(kit_licences(installed / DOCS / "kit"), mtime=0))
+    tree.write(f"{folder}/hayro_cmap.spdx.json", bill.encode())
+    tree.write(f"{folder}/copyright", copyright_of(contained).encode())
     tree.write(f"{folder}/changelog.Debian.gz", gzip.compress(CHANGELOG.read_bytes(), mtime=0))
     overrides = re.findall(rf"^(?:#|{tree.name}:).*\n", (HERE / "lintian-overrides").read_text(), re.M)
     tree.write(f"usr/share/lintian/overrides/{tree.name}", "".join(overrides).encode())
-    if tree.name != PYTHON3:
-        tree.put(installed / DOCS / "hayro_cmap.spdx.json", f"{folder}/hayro_cmap.spdx.json")
-        tree.write(f"{folder}/kit.txt.gz", gzip.compress(kit_licences(installed / DOCS / "kit"), mtime=0))
+
+
+def copyright_of(contained):
+    """The licences of a package with these crates of the kit in it."""
+    comment = "hayro_cmap.spdx.json beside this file is the bill of materials."
+    if contained:
+        comment += (" These crates of the kit of Rattle are compiled in, whose licences, where the kit states them, are"
+                    f" in kit.txt.gz beside this file: {', '.join(contained)}.")
+    lines = textwrap.wrap(comment, 70, subsequent_indent=" ", break_on_hyphens=False)
+    return Template((HERE / "copyright").read_text()).substitute(contained="\n".join(lines))
 
 
 def kit_licences(folder):
     """The licences of what is compiled in from the kit, in one text."""
-    text = (folder / "README").read_text()
+    text = (folder / "README").read_text().replace("in its folder here", "below")
     for path in sorted(folder.glob("*/*")):
         text += f"\n{path.parent.name}: {path.name}\n\n{path.read_text()}"
     return text.encode()
@@ -190,15 +205,16 @@ def write_wheel(folder):
     return folder / ran.stdout.strip()
 
 
-def write_packages(folder, installed, work):
-    """Makes the packages of what scripts/install put below `installed`: their paths."""
+def write_packages(folder, installed, library, work):
+    """Makes the packages of what scripts/install put below `installed`, and alone of the library below `library`: their
+    paths."""
     trees = {name: Tree(name, work / name) for name in stanzas()}
     spread(installed, trees)
     spread_python(write_wheel(work), trees[PYTHON3])
     finish_library(trees[LIBRARY])
-    packages = []
+    packages, contained = [], {BIN: installed, LIBRARY: library, DEV: library, PYTHON3: None}
     for name, stanza in stanzas().items():
-        add_documents(trees[name], installed)
+        add_documents(trees[name], contained[name])
         strip(trees[name])
         write_control(trees[name], stanza)
         packages.append(build(trees[name], folder, re.search(r"^Architecture: (.*)", stanza, re.M)[1]))

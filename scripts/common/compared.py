@@ -6,7 +6,7 @@ import subprocess
 from collections import namedtuple
 from concurrent.futures import ThreadPoolExecutor
 
-from bundles import CID, CODESPACE, KNOWN_NAMES, NOTDEF, TEXT, File
+from .bundles import CID, CODESPACE, KNOWN_NAMES, NOTDEF, TEXT, File
 
 ACCEPTED = 0
 

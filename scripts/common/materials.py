@@ -4,7 +4,7 @@ import hashlib
 import json
 from pathlib import Path
 
-TOP = Path(__file__).resolve().parent.parent
+TOP = Path(__file__).resolve().parents[2]
 VERSION = (TOP / "VERSION").read_text().strip()
 OWN_LICENCE = "MIT OR Apache-2.0"
 UNSTATED = "NOASSERTION"
@@ -40,6 +40,11 @@ def package(name, version, licence):
 def of_kit(crates, kit):
     """The entries of crates of the kit, with the files of their licences; `kit` is its version."""
     return [package(name, kit, licence_of(name, files)) for name, files in crates.items()]
+
+
+def names_of(bill):
+    """The names of what is compiled in, by the text of a bill."""
+    return [it["name"] for it in json.loads(bill)["packages"][1:]]
 
 
 def bill(others, created):

@@ -21,9 +21,9 @@ import tempfile
 from functools import partial
 from pathlib import Path
 
-from poppler import resources
+from .poppler import resources
 
-TOP = Path(__file__).resolve().parent.parent
+TOP = Path(__file__).resolve().parents[2]
 ROWS = TOP / "examples" / "strings.rows"
 TO_UNICODE_ROWS = TOP / "examples" / "to_unicode.rows"
 TO_UNICODE = TOP / "examples" / "to_unicode"

@@ -4,7 +4,7 @@ import email.utils
 import re
 from pathlib import Path
 
-CHANGELOG = Path(__file__).resolve().parent.parent / "packaging" / "debian" / "changelog"
+CHANGELOG = Path(__file__).resolve().parents[2] / "packaging" / "debian" / "changelog"
 
 
 def released():

@@ -4,7 +4,7 @@ import subprocess
 import sys
 from pathlib import Path
 
-from programs import TOP
+from .programs import TOP
 
 # the crates whose exports the C library has
 EXPORTS = ["cmap_c", "cmap_c_encoder", "cmap_c_maps", "cmap_c_writer"]

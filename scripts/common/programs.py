@@ -3,7 +3,7 @@
 import subprocess
 from pathlib import Path
 
-TOP = Path(__file__).resolve().parent.parent
+TOP = Path(__file__).resolve().parents[2]
 CRATES = TOP / "crates"
 
 
