@@ -481,7 +481,7 @@ void hayro_cmap_bundle_free(hayro_cmap_bundle *bundle);
 
 /* The bytes of the file of this name in a bundle, written like the text of hayro_cmap_text.
  * HAYRO_CMAP_ABSENT if the bundle has none, or only the ten bytes that stand for a missing file, `bcmap`,
- * four zeros and their number; and if the handle is empty. */
+ * four bytes 0 and the byte 10; and if the handle is empty. */
 hayro_cmap_status hayro_cmap_bundle_file(hayro_cmap_bundle *bundle, const uint8_t *name,
                                          size_t name_len, uint8_t *room, size_t room_len,
                                          size_t *needed);
