@@ -481,7 +481,7 @@ void hayro_cmap_bundle_free(hayro_cmap_bundle *bundle);
 
 /* The bytes of the file of this name in a bundle, written like the text of hayro_cmap_text.
  * HAYRO_CMAP_ABSENT if the bundle has none, or only the ten bytes that stand for a missing file, `bcmap`,
- * four zeros and their number; and if the handle is empty. */
+ * four bytes 0 and the byte 10; and if the handle is empty. */
 hayro_cmap_status hayro_cmap_bundle_file(hayro_cmap_bundle *bundle, const uint8_t *name,
                                          size_t name_len, uint8_t *room, size_t room_len,
                                          size_t *needed);
@@ -700,7 +700,8 @@ void hayro_cmap_encoder_free(hayro_cmap_encoder *encoder);
  * last resort more than it. The code of a piece lies in a codespace range, is no notdef, and has the best
  * hayro_cmap_grade; of several with a grade up to HAYRO_CMAP_GRADE_COLLECTION it is the shortest, and of these the
  * least, but of those with HAYRO_CMAP_GRADE_CANONICAL first the character itself in the form of the map from
- * Unicode. The time grows with the characters of the text, times at most those of the longest text of a code.
+ * Unicode, and of a glyph that the collection's map reads as another character the last. The time grows with the
+ * characters of the text, times at most those of the longest text of a code.
  *
  * With HAYRO_CMAP_OK the string is at the head of the buffer `room`, and `needed` is its number of bytes. With
  * HAYRO_CMAP_NO_ROOM `needed` is this number, and the buffer is unchanged. With HAYRO_CMAP_REFUSED the text can't be
