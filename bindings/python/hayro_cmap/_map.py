@@ -245,9 +245,9 @@ class CMap(Owned):
         """Reads a CMap file, and those that it uses, past their faults: the map of what they say, and each fault.
 
         The faults of a file come once, however often it is used. Of a file that `parse` reads it gives the same map,
-        and no fault; of another one the first fault is one for which it is refused. The parameters are those of
-        `parse`; a callable isn't asked for a name that only a file at fault uses, where the bundle has it
-        or it needs no file. The faults of a `base` come last. With `most_faults` only the first ones are given, up to
+        and no fault; of another one the first fault is one for which it is refused, or in a text in rows one
+        before it. The parameters are those of `parse`; a callable isn't asked for a name that only a file at fault
+        uses, where the bundle has it or it needs no file. The faults of a `base` come last. With `most_faults` only the first ones are given, up to
         this number of the file and those that it uses, and of a `base`: a file of a megabyte may have a million.
         """
         if most_faults is not None:
