@@ -245,10 +245,10 @@ class CMap(Owned):
         """Reads a CMap file and the files that it uses past their faults: the map of what they say, and each fault.
 
         The faults of a file are listed once, however often it is used. For a file that `parse` accepts it gives the
-        same map and no fault; for any other the first fault is one for which it is refused. The parameters are those of
-        `parse`; a callable isn't called for a name that only a file at fault uses, if the bundle has it or it needs no
-        file. The faults of a `base` come last. `most_faults` limits the list, for the file with the files that it uses,
-        and for a `base`: a file of a megabyte may have a million faults.
+        same map and no fault; for any other the first fault is one for which it is refused, or in a text in rows one
+        before it. The parameters are those of `parse`; a callable isn't called for a name that only a file at fault
+        uses, if the bundle has it or it needs no file. The faults of a `base` come last. `most_faults` limits the list,
+        for the file with the files that it uses, and for a `base`: a file of a megabyte may have a million faults.
         """
         if most_faults is not None:
             most_faults = number(most_faults, 0, 2**32, "most_faults")
