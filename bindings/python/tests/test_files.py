@@ -102,7 +102,7 @@ class NoFiles(unittest.TestCase):
         for call in [CMap.parse, CMap.salvage]:
             with self.assertRaisesRegex(TypeError, "not list"):
                 call(SMALL, [SMALL])
-        with self.assertRaisesRegex(TypeError, "not a list"):
+        with self.assertRaisesRegex(TypeError, "not list"):
             CMap.open("Small-H", [SMALL])
 
 
