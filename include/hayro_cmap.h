@@ -407,7 +407,8 @@ hayro_cmap_status hayro_cmap_explain(hayro_cmap *map, const uint8_t *data, size_
 
 /* Reads the CMap file `data`, and those that it uses, past their faults: the map of what they say, and each
  * fault, those of a file once. Of a file that hayro_cmap_explain accepts it gives the same map and no
- * fault; of another one the first fault is one for which that is refused. docs/FORMATS.md says how reading goes on.
+ * fault; of another one the first fault is one for which that is refused, or in a text in rows one before
+ * it. docs/FORMATS.md says how reading goes on.
  *
  * With HAYRO_CMAP_OK the handle has a map. `found` is the number of faults, and `faults` begins with as
  * many of them as fit. The names that lead to the files at fault are written to `room`, those of the
