@@ -1,14 +1,19 @@
 /* Prints what a CMap file declares, and the codes of CIDs.
  *
- *     declared FILE [CID..]
+ *     declared FILE [-b BASE].. [CID..]
  *
  * A line is a declaration of CIDs, as `cid <8140> <817E> 633`, or of texts, as `text 41 42 0061`, with the
  * first and the last code and what it gives to the first; texts are in UTF-16, and their codes have no
- * length. Then come the codes of each CID, as `633 <8140> <8140>`. FILE uses no other file. */
+ * length. Then come the codes of each CID, as `633 <8140> <8140>`. Each BASE is a file that FILE may use by
+ * the last part of its path. */
 #include <hayro_cmap.h>
 #include <inttypes.h>
 #include <stdio.h>
 #include <stdlib.h>
+#include <string.h>
+
+/* The most files that are handed in with FILE. */
+enum { MOST_BASES = 15 };
 
 static _Noreturn void fail(const char *what, const char *why) {
     fprintf(stderr, "%s: %s\n", what, why);
@@ -32,15 +37,23 @@ static uint8_t *read_file(const char *path, size_t *len) {
     return bytes;
 }
 
-/* The map of a file. */
-static hayro_cmap map_of(const char *path) {
+/* A file with its name, the last part of its path. */
+static hayro_cmap_file base_of(const char *path) {
+    const char *slash = strrchr(path, '/'), *name = slash ? slash + 1 : path;
+    hayro_cmap_file file = {(const uint8_t *)name, strlen(name), NULL, 0};
+    file.bytes = read_file(path, &file.bytes_len);
+    return file;
+}
+
+/* The map of a file over its bases, which are freed. */
+static hayro_cmap map_of(const char *path, const hayro_cmap_file *bases, size_t bases_len) {
     size_t len;
     uint8_t *data = read_file(path, &len);
     hayro_cmap map = HAYRO_CMAP_EMPTY;
     hayro_cmap_status status =
-        hayro_cmap_parse(&map, data, len, hayro_cmap_bytes(NULL), 0, hayro_cmap_files(NULL), 0,
-                         HAYRO_CMAP_NO_BUDGET);
+        hayro_cmap_parse(&map, data, len, hayro_cmap_bytes(NULL), 0, bases, bases_len, HAYRO_CMAP_NO_BUDGET);
     free(data);
+    for (size_t i = 0; i < bases_len; i++) free((void *)bases[i].bytes);
     if (status != HAYRO_CMAP_OK) fail(path, status == HAYRO_CMAP_NO_MEMORY ? "out of memory" : "refused");
     return map;
 }
@@ -102,11 +115,18 @@ static void print_codes_of(hayro_cmap *map, uint32_t cid, uint8_t byte_len) {
 }
 
 int main(int argc, char **argv) {
-    if (argc < 2) fail("usage", "declared FILE [CID..]");
-    hayro_cmap map = map_of(argv[1]);
+    if (argc < 2) fail("usage", "declared FILE [-b BASE].. [CID..]");
+    hayro_cmap_file bases[MOST_BASES];
+    size_t bases_len = 0;
+    int next = 2;
+    for (; next + 1 < argc && strcmp(argv[next], "-b") == 0; next += 2) {
+        if (bases_len == MOST_BASES) fail("declared", "too many bases");
+        bases[bases_len++] = base_of(argv[next + 1]);
+    }
+    hayro_cmap map = map_of(argv[1], bases, bases_len);
     for (uint8_t byte_len = 1; byte_len <= 4; byte_len++) print_cids(&map, byte_len);
     print_texts(&map);
-    for (int i = 2; i < argc; i++)
+    for (int i = next; i < argc; i++)
         for (uint8_t byte_len = 1; byte_len <= 4; byte_len++)
             print_codes_of(&map, (uint32_t)strtoul(argv[i], NULL, 10), byte_len);
     hayro_cmap_free(&map);

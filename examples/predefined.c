@@ -9,6 +9,24 @@
 #include <stdio.h>
 #include <stdlib.h>
 #include <string.h>
+#include <sys/stat.h>
+
+static bool is_file(const char *path) {
+    struct stat found;
+    return stat(path, &found) == 0 && S_ISREG(found.st_mode);
+}
+
+/* Takes the first file of a pattern: whether there is one, and it fits. */
+static bool take_file(const char *pattern, char *path, size_t path_len) {
+    glob_t found;
+    if (glob(pattern, 0, NULL, &found) != 0) return false;
+    size_t at = 0;
+    while (at < found.gl_pathc && !is_file(found.gl_pathv[at])) at++;
+    bool fits = at < found.gl_pathc && strlen(found.gl_pathv[at]) < path_len;
+    if (fits) strcpy(path, found.gl_pathv[at]);
+    globfree(&found);
+    return fits;
+}
 
 /* Finds the predefined CMap file of a name, in the folders of the environment variable CMAP_PATH or, without
  * it, in those of the system, and in their subfolders: whether there is one. A name may come from a file,
@@ -20,15 +38,11 @@ static bool find_predefined(const char *name, char *path, size_t path_len) {
     for (size_t len; *folders; folders += len + (folders[len] == ':')) {
         len = strcspn(folders, ":");
         for (int below = 0; len > 0 && below < 2; below++) {
+            char pattern[4096];
             const char *subfolders = below ? "*/" : "";
-            glob_t found;
-            int made = snprintf(path, path_len, "%.*s/%s%s", (int)len, folders, subfolders, name);
-            if (made < 0 || (size_t)made >= path_len) return false;
-            if (glob(path, 0, NULL, &found) != 0) continue;
-            bool fits = strlen(found.gl_pathv[0]) < path_len;
-            if (fits) strcpy(path, found.gl_pathv[0]);
-            globfree(&found);
-            return fits;
+            int made = snprintf(pattern, sizeof pattern, "%.*s/%s%s", (int)len, folders, subfolders, name);
+            if (made < 0 || (size_t)made >= sizeof pattern) return false;
+            if (take_file(pattern, path, path_len)) return true;
         }
     }
     return false;

@@ -1,14 +1,17 @@
 /* Looks up every code of two bytes in four threads at once, each by its own handle of one map.
  *
- *     threads FILE
+ *     threads FILE [BASE..]
  *
- * It prints how many codes have a CID in each. */
+ * It prints how many codes have a CID in each. Each BASE is a file that FILE may use by the last part of its
+ * path. */
 #include "hayro_cmap.h"
 #include <pthread.h>
 #include <stdio.h>
 #include <stdlib.h>
+#include <string.h>
 
-enum { THREADS = 4, MOST = 1 << 20 };
+/* How many threads there are, the most bytes of all files, and the most of these. */
+enum { THREADS = 4, MOST = 1 << 20, MOST_FILES = 16 };
 
 struct task {
     pthread_t thread;
@@ -21,16 +24,29 @@ static _Noreturn void fail(const char *why) {
     exit(1);
 }
 
-/* Reads the map of a file. */
-static void read_map(hayro_cmap *map, const char *path) {
-    static uint8_t data[MOST];
+/* Reads a file to the bytes that are left: the file with its name, the last part of its path. */
+static hayro_cmap_file read_file(const char *path, uint8_t *left, size_t left_len) {
+    const char *slash = strrchr(path, '/'), *name = slash ? slash + 1 : path;
     FILE *in = fopen(path, "rb");
-    if (!in) fail("the file can't be opened");
-    size_t data_len = fread(data, 1, sizeof data, in);
+    if (!in) fail("a file can't be opened");
+    hayro_cmap_file file = {(const uint8_t *)name, strlen(name), left, fread(left, 1, left_len, in)};
+    if (!feof(in)) fail("the files are too long, or can't be read");
     fclose(in);
+    return file;
+}
+
+/* Reads the map of the first file over the others. */
+static void read_map(hayro_cmap *map, char **paths, int len) {
+    static uint8_t room[MOST];
+    hayro_cmap_file files[MOST_FILES];
+    uint8_t *left = room;
+    for (int i = 0; i < len; i++) {
+        files[i] = read_file(paths[i], left, (size_t)(room + MOST - left));
+        left += files[i].bytes_len;
+    }
     hayro_cmap_status status =
-        hayro_cmap_parse(map, data, data_len, hayro_cmap_bytes(NULL), 0, hayro_cmap_files(NULL), 0,
-                         HAYRO_CMAP_NO_BUDGET);
+        hayro_cmap_parse(map, files[0].bytes, files[0].bytes_len, hayro_cmap_bytes(NULL), 0, files + 1,
+                         (size_t)len - 1, HAYRO_CMAP_NO_BUDGET);
     if (status != HAYRO_CMAP_OK) fail(status == HAYRO_CMAP_NO_MEMORY ? "out of memory" : "refused");
 }
 
@@ -44,9 +60,9 @@ static void *count_codes(void *argument) {
 }
 
 int main(int argc, char **argv) {
-    if (argc != 2) fail("usage: threads FILE");
+    if (argc < 2 || argc > 1 + MOST_FILES) fail("usage: threads FILE [BASE..]");
     hayro_cmap map = HAYRO_CMAP_EMPTY;
-    read_map(&map, argv[1]);
+    read_map(&map, argv + 1, argc - 1);
     static struct task tasks[THREADS];
     for (int i = 0; i < THREADS; i++) {
         tasks[i].map = (hayro_cmap)HAYRO_CMAP_EMPTY;

@@ -5,8 +5,8 @@
 //     else if (auto cid = map->cid(0x3042, 2)) std::cout << *cid << '\n';
 //
 // It is hayro_cmap.h with classes that free what they own. A refused file is a value; std::bad_alloc is
-// thrown where memory ran out, and predefined_file and encode_lossy say what they throw. What is noexcept
-// takes no memory.
+// thrown where memory ran out, and predefined_file and encode_lossy say what they throw. Without exceptions,
+// as with -fno-exceptions, the program is aborted there. What is noexcept takes no memory.
 //
 // - A Map, a Bundle or an Encoder is moved and not copied. One that was moved from is empty, and answers
 //   nothing.
@@ -32,6 +32,7 @@
 #include <map>
 #include <new>
 #include <optional>
+#include <set>
 #include <sstream>
 #include <stdexcept>
 #include <string>
@@ -180,6 +181,29 @@ private:
     std::size_t size_ = 0;
 };
 
+// The bytes of a string of codes, among which zeros are common: a std::string, a std::string_view, a container
+// of bytes, or a pointer with a length. An array or a pointer of char is refused, since its length is uncertain:
+// the string of a literal is "\0A"sv.
+class CodeString {
+public:
+    CodeString() noexcept = default;
+    CodeString(const void *data, std::size_t size) noexcept : bytes_(data, size) {}
+    template <class Text, class = std::enable_if_t<std::is_convertible_v<const Text &, Bytes>>>
+    CodeString(const Text &bytes) noexcept : bytes_(bytes) {}
+    template <std::size_t Count> CodeString(const char (&text)[Count]) = delete;
+    template <class Text, std::enable_if_t<std::is_same_v<Text, const char *> ||
+                                               std::is_same_v<Text, char *>, int> = 0>
+    CodeString(const Text &text) = delete;
+
+    // It is never null.
+    const std::uint8_t *data() const noexcept { return bytes_.data(); }
+    std::size_t size() const noexcept { return bytes_.size(); }
+    CodeString after(std::size_t count) const noexcept { return {data() + count, size() - count}; }
+
+private:
+    Bytes bytes_;
+};
+
 // Files by their names, for those that use them. The first of several with a name counts.
 class Files {
 public:
@@ -232,8 +256,18 @@ private:
     Handle handle_ = HAYRO_CMAP_EMPTY;
 };
 
+// Throws a fault, or aborts the program where it is built without exceptions.
+template <class Fault> [[noreturn]] void raise(const Fault &fault) {
+#ifdef __cpp_exceptions
+    throw fault;
+#else
+    static_cast<void>(fault);
+    std::abort();
+#endif
+}
+
 inline Status with_memory(Status status) {
-    if (status == HAYRO_CMAP_NO_MEMORY) throw std::bad_alloc();
+    if (status == HAYRO_CMAP_NO_MEMORY) raise(std::bad_alloc());
     return status;
 }
 
@@ -451,6 +485,11 @@ public:
     static std::optional<Result> open(Bytes name, Bundle &bundle, const Files &files = {},
                                       std::uint64_t budget = no_budget);
 
+    // Reads a CMap text over a base, as the entry UseCMap of a stream in a PDF file gives it (ISO 32000-1, 9.7.5.3).
+    // Whatever names the text uses, each stands for the base; a text that uses none is over it, too. The base counts
+    // by the one file that write makes of it. There is no answer where write makes none.
+    static std::optional<Result> parse_with_base(Bytes data, Map &base, std::uint64_t budget = no_budget);
+
     // Reads the predefined CMap file of a name, and those that it uses, each as predefined_file finds it.
     static std::optional<Result> open_predefined(const std::string &name);
 
@@ -513,7 +552,7 @@ public:
 
     // Cuts a string into codes, as many as there is room for, each with its CID. To go on, the rest of
     // the string is handed in.
-    Decoded decode(Bytes string, Span<Code> codes) noexcept {
+    Decoded decode(CodeString string, Span<Code> codes) noexcept {
         Decoded decoded{};
         Status status =
             hayro_cmap_decode(handle(), string.data(), string.size(), detail::room_of(codes),
@@ -523,14 +562,14 @@ public:
     }
 
     // All codes of a string.
-    std::vector<Code> decode(Bytes string) {
+    std::vector<Code> decode(CodeString string) {
         std::vector<Code> codes;
         Code room[64];
         for (bool more = true; more;) {
             Decoded decoded = decode(string, room);
             codes.insert(codes.end(), room, room + decoded.made);
             more = !decoded.whole && decoded.taken > 0;
-            string = Bytes(string.data() + decoded.taken, string.size() - decoded.taken);
+            string = string.after(decoded.taken);
         }
         return codes;
     }
@@ -553,10 +592,16 @@ public:
     std::optional<WritingMode> writing_mode() noexcept {
         return detail::mode_of(hayro_cmap_writing_mode(handle()));
     }
+    // That of the first layer which gives one, else horizontal.
+    WritingMode effective_writing_mode() noexcept {
+        auto mode = detail::mode_of(hayro_cmap_effective_writing_mode(handle()));
+        return mode.value_or(WritingMode::horizontal);
+    }
 
     // The layers: the file's own is layer 0, then that of the file that it is based on, and so on. It is a
     // view, and also a number: how many there are.
-    Layers layers() noexcept;
+    Layers layers() & noexcept;
+    Layers layers() && = delete;
 
     // What the file of a layer says of itself.
     Metadata metadata(std::size_t layer = 0) {
@@ -703,7 +748,7 @@ private:
     std::size_t size_;
 };
 
-inline Layers Map::layers() noexcept { return Layers(*this); }
+inline Layers Map::layers() & noexcept { return Layers(*this); }
 
 // The text of a CMap file of these declarations, in the fewest that give each code the same, and of what it
 // says of itself; a registry without an ordering is left out, as is an ordering without a registry. Nothing where
@@ -761,6 +806,13 @@ inline std::optional<std::string> unicode_name(Bytes collection,
     });
 }
 
+// Which maps of a character collection were found.
+struct FoundCollection {
+    bool to_unicode = false;        // the one to Unicode
+    bool from_unicode = false;      // the one from Unicode
+    std::optional<Refusal> refusal; // of the first file that is refused
+};
+
 // The maps of a font, by which the texts of its strings are found (ISO 32000-1, 9.10.2): that of its CMap,
 // that of its ToUnicode CMap, and one from the CIDs of its character collection to Unicode. Of the fourth, one
 // from Unicode to CIDs, an Encoder takes the glyphs of characters. An empty map stands for one that there
@@ -778,17 +830,22 @@ public:
     // Takes the two maps of a character collection, as Adobe-Japan1, by default the one that the encoding
     // names: the map to Unicode, as Adobe-Japan1-UCS2, and the one from Unicode that unicode_name names, but an
     // encoding itself whose name begins with Uni. Each is that of its file, as Map::open finds it. Without such
-    // a file the map stays; the first refusal is given back.
-    std::optional<Refusal> find_collection(const Files &files, const std::string &collection = {});
-    std::optional<Refusal> find_collection(Bundle &bundle, const Files &files = {},
-                                           const std::string &collection = {});
+    // a file the map stays. The answer says which maps were taken, and has the first refusal.
+    FoundCollection find_collection(const Files &files, const std::string &collection = {});
+    FoundCollection find_collection(Bundle &bundle, const Files &files = {},
+                                    const std::string &collection = {});
 
     // The same of the predefined CMap files, as Map::open_predefined reads them.
-    std::optional<Refusal> find_predefined_collection(const std::string &collection = {});
+    FoundCollection find_predefined_collection(const std::string &collection = {});
+
+    // Another one of the same maps, for another thread.
+    Extractor share() {
+        return Extractor(encoding_.share(), to_unicode_.share(), collection_.share(), unicode_.share());
+    }
 
     // All codes of a string. The text of one is that of the ToUnicode CMap, where it has one for the code;
     // else that of its CID in the map of the collection.
-    std::vector<Character> characters(Bytes string) {
+    std::vector<Character> characters(CodeString string) {
         std::vector<Character> characters;
         hayro_cmap_character room[64];
         std::string text(256, '\0');
@@ -801,13 +858,13 @@ public:
                 characters.push_back({it.code, text_of(it, text)});
             if (detail::with_memory(status) != HAYRO_CMAP_NO_ROOM) return characters;
             if (extracted.made == 0) text.resize(2 * text.size());
-            string = Bytes(string.data() + extracted.taken, string.size() - extracted.taken);
+            string = string.after(extracted.taken);
         }
     }
 
     // The text of a string in UTF-8: the texts of its codes, one after another, and for each that has none
     // `missing`, by default U+FFFD.
-    std::string text(Bytes string, std::string_view missing = "\xEF\xBF\xBD") {
+    std::string text(CodeString string, std::string_view missing = "\xEF\xBF\xBD") {
         std::string text;
         for (const auto &it : characters(string)) text += it.text ? std::string_view(*it.text) : missing;
         return text;
@@ -828,8 +885,7 @@ private:
     bool is_from_unicode() { return encoding_.name().value_or("").substr(0, 3) == "Uni"; }
 
     // Finds the maps of a collection by their names (ISO 32000-1, 9.10.2).
-    template <class Open> std::optional<Refusal> find(const std::string &collection, Open open);
-    static std::optional<Refusal> take(Map &place, std::optional<Result> opened);
+    template <class Open> FoundCollection find(const std::string &collection, Open open);
 
     static std::optional<std::string> text_of(const hayro_cmap_character &it,
                                               const std::string &text) {
@@ -925,14 +981,14 @@ public:
     // The same as far as the text can be encoded: its longest prefix that can be, `missing` for the
     // character after it, then what is left likewise. Nothing where the text isn't UTF-8.
     // std::invalid_argument where `missing` isn't whole codes of the font, or no bytes.
-    std::optional<std::string> encode_lossy(Bytes text, Bytes missing) {
+    std::optional<std::string> encode_lossy(Bytes text, CodeString missing) {
         auto string = detail::written_to(room_for(text), [&](auto room, auto len, auto needed) {
             return lossy(text, missing, room, len, needed);
         });
         std::uint8_t none{};
         std::size_t needed = 0;
         if (!string && lossy("", missing, &none, 0, &needed) == HAYRO_CMAP_REFUSED)
-            throw std::invalid_argument("missing isn't whole codes of the font");
+            detail::raise(std::invalid_argument("missing isn't whole codes of the font"));
         return string;
     }
 
@@ -942,7 +998,7 @@ public:
     hayro_cmap_encoder *handle() noexcept { return handle_.get(); }
 
 private:
-    Status lossy(Bytes text, Bytes missing, std::uint8_t *room, std::size_t len, std::size_t *needed) {
+    Status lossy(Bytes text, CodeString missing, std::uint8_t *room, std::size_t len, std::size_t *needed) {
         return hayro_cmap_encode_lossy(handle(), text.data(), text.size(), missing.data(),
                                        missing.size(), room, len, needed);
     }
@@ -981,41 +1037,41 @@ inline Extractor Extractor::simple(Map to_unicode) {
     return Extractor(*std::move(bytes), std::move(to_unicode));
 }
 
-inline std::optional<Refusal> Extractor::take(Map &place, std::optional<Result> opened) {
-    if (!opened) return std::nullopt;
-    if (!*opened) return opened->refusal();
-    place = **std::move(opened);
-    return std::nullopt;
-}
-
 template <class Open>
-std::optional<Refusal> Extractor::find(const std::string &collection, Open open) {
-    std::optional<Refusal> refused;
+FoundCollection Extractor::find(const std::string &collection, Open open) {
+    FoundCollection found;
+    // Whether the file of a name has a map, which goes to its place.
+    auto take = [&](Map &place, const std::string &name) {
+        std::optional<Result> opened = open(name);
+        if (opened && !*opened && !found.refusal) found.refusal = opened->refusal();
+        if (!opened || !*opened) return false;
+        place = **std::move(opened);
+        return true;
+    };
     auto name = collection_of(collection);
-    if (name) refused = take(collection_, open(*name + "-UCS2"));
+    if (name) found.to_unicode = take(collection_, *name + "-UCS2");
     if (is_from_unicode()) {
         unicode_ = encoding_.share();
-        return refused;
+        found.from_unicode = true;
+        return found;
     }
-    auto from = name ? unicode_name(*name, encoding_.writing_mode().value_or(WritingMode::horizontal))
-                     : std::nullopt;
-    if (!from) return refused;
-    auto other = take(unicode_, open(*from));
-    return refused ? refused : other;
+    auto mode = encoding_.writing_mode().value_or(WritingMode::horizontal);
+    auto from = name ? unicode_name(*name, mode) : std::nullopt;
+    if (from) found.from_unicode = take(unicode_, *from);
+    return found;
 }
 
-inline std::optional<Refusal> Extractor::find_collection(Bundle &bundle, const Files &files,
-                                                         const std::string &collection) {
+inline FoundCollection Extractor::find_collection(Bundle &bundle, const Files &files,
+                                                  const std::string &collection) {
     return find(collection, [&](const auto &name) { return Map::open(name, bundle, files); });
 }
 
-inline std::optional<Refusal> Extractor::find_collection(const Files &files,
-                                                         const std::string &collection) {
+inline FoundCollection Extractor::find_collection(const Files &files, const std::string &collection) {
     Bundle none;
     return find_collection(none, files, collection);
 }
 
-inline std::optional<Refusal> Extractor::find_predefined_collection(const std::string &collection) {
+inline FoundCollection Extractor::find_predefined_collection(const std::string &collection) {
     return find(collection, [](const auto &name) { return Map::open_predefined(name); });
 }
 
@@ -1108,6 +1164,22 @@ inline std::optional<std::vector<std::string>> uses(Bytes data) {
     return uses(data, none);
 }
 
+inline std::optional<Result> Map::parse_with_base(Bytes data, Map &base, std::uint64_t budget) {
+    const auto file = write(base);
+    if (!file) return std::nullopt;
+    // A text outside the grammar is refused before a file is asked for.
+    const auto used = uses(data).value_or(std::vector<std::string>());
+    const std::set<std::string> names(used.begin(), used.end());
+    Files files;
+    for (const auto &name : names) files.add(name, *file);
+    Result map = parse(data, files, budget);
+    if (!map || !names.empty()) return map;
+    const std::string use = "/UseCMap usecmap\n";
+    files.add("UseCMap", *file);
+    const std::uint64_t left = no_budget - budget;
+    return parse(use + std::string(data.text()), files, budget + std::min<std::uint64_t>(use.size(), left));
+}
+
 // The files that a file uses, and those that they use, each asked for once: `get` answers a name, a
 // std::string, by std::optional<std::string>, the bytes of its file. What a file of the bundle uses is
 // asked for too.
@@ -1152,8 +1224,8 @@ inline std::optional<std::string> bytes_of(const std::filesystem::path &path) {
     } while (in);
     // A file that was read to its end sets eofbit, one that can't be opened or read doesn't.
     if (!in.eof())
-        throw std::filesystem::filesystem_error(
-            "a CMap file can't be read", path, std::error_code(errno, std::generic_category()));
+        raise(std::filesystem::filesystem_error("a CMap file can't be read", path,
+                                                std::error_code(errno, std::generic_category())));
     return bytes;
 }
 

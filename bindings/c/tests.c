@@ -725,6 +725,21 @@ static void layers_speak_of_themselves(void) {
     hayro_cmap_free(&map);
 }
 
+static void the_first_writing_mode_counts(void) {
+    hayro_cmap map = map_over_base();
+    CHECK(hayro_cmap_effective_writing_mode(&map) == HAYRO_CMAP_VERTICAL);
+    hayro_cmap_file base = {TEXT("Base"), TEXT(FILE_TEXT)};
+    CHECK(hayro_cmap_parse(&map, TEXT("/Base usecmap /WMode 0 def"), TEXT(""), &base, 1, HAYRO_CMAP_NO_BUDGET)
+          == HAYRO_CMAP_OK);
+    CHECK(hayro_cmap_effective_writing_mode(&map) == HAYRO_CMAP_HORIZONTAL);
+    CHECK(hayro_cmap_parse(&map, TEXT(""), TEXT(""), hayro_cmap_files(NULL), 0, HAYRO_CMAP_NO_BUDGET)
+          == HAYRO_CMAP_OK);
+    CHECK(hayro_cmap_writing_mode(&map) == HAYRO_CMAP_NO_MODE);
+    CHECK(hayro_cmap_effective_writing_mode(&map) == HAYRO_CMAP_HORIZONTAL);
+    hayro_cmap_free(&map);
+    CHECK(hayro_cmap_effective_writing_mode(&map) == HAYRO_CMAP_NO_MODE);
+}
+
 static void layers_have_codespace_ranges(void) {
     hayro_cmap map = map_over_base();
     hayro_cmap_codespace ranges[2] = {{0, 0, 0}, {0, 0, 0}};
@@ -916,6 +931,20 @@ static void a_file_is_made_of_declarations(void) {
     hayro_cmap_free(&map);
 }
 
+static void a_writing_mode_has_a_number(void) {
+    static const uint16_t others[] = {2, 3, 77, 255, 256, 257, 65535};
+    for (size_t i = 0; i < sizeof others / sizeof *others; i++) {
+        hayro_cmap_facts facts = no_facts();
+        facts.writing_mode = others[i];
+        uint8_t room[512];
+        size_t needed = 0;
+        CHECK(hayro_cmap_make(&facts, hayro_cmap_declarations(NULL), 0, room, 512, &needed) == HAYRO_CMAP_OK);
+        hayro_cmap map = map_of_text(room, needed);
+        CHECK(hayro_cmap_writing_mode(&map) == HAYRO_CMAP_NO_MODE);
+        hayro_cmap_free(&map);
+    }
+}
+
 static void a_file_may_say_nothing(void) {
     const hayro_cmap_facts facts = no_facts();
     uint8_t room[512];
@@ -1067,6 +1096,7 @@ int main(void) {
     uses_are_named();
     uses_with_room_for_fewer_lengths_are_not_written();
     layers_speak_of_themselves();
+    the_first_writing_mode_counts();
     layers_have_codespace_ranges();
     layers_declare_cids();
     declarations_without_room_are_not_written();
@@ -1074,6 +1104,7 @@ int main(void) {
     lower_layers_declare_too();
     a_cid_has_its_codes();
     a_file_is_made_of_declarations();
+    a_writing_mode_has_a_number();
     a_file_may_say_nothing();
     what_no_file_says_is_refused();
     a_map_is_written_as_one_file();

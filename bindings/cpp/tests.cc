@@ -31,7 +31,28 @@ static_assert(std::is_nothrow_move_constructible_v<hayro::Bundle>);
 static_assert(sizeof(hayro::Map) == sizeof(hayro_cmap));
 
 using namespace std::string_literals;
+using namespace std::string_view_literals;
 using Names = std::vector<std::string>;
+
+// Whether a call of a type compiles.
+template <template <class> class Call, class Type, class = void> constexpr bool compiles = false;
+template <template <class> class Call, class Type> constexpr bool compiles<Call, Type, std::void_t<Call<Type>>> = true;
+
+template <class Text> using Decoded = decltype(std::declval<hayro::Map &>().decode(std::declval<Text>()));
+template <class Text> using Characters = decltype(std::declval<hayro::Extractor &>().characters(std::declval<Text>()));
+template <class Text> using Texts = decltype(std::declval<hayro::Extractor &>().text(std::declval<Text>()));
+template <class Text>
+constexpr bool is_string = compiles<Decoded, Text> && compiles<Characters, Text> && compiles<Texts, Text>;
+template <class Text>
+constexpr bool is_refused = !compiles<Decoded, Text> && !compiles<Characters, Text> && !compiles<Texts, Text>;
+
+// What may end at a zero byte.
+static_assert(is_refused<char (&)[4]> && is_refused<const char (&)[2]>);
+static_assert(is_refused<char *> && is_refused<const char *>);
+static_assert(is_string<std::string> && is_string<std::string &> && is_string<std::string_view>);
+static_assert(is_string<hayro::Bytes> && is_string<hayro::CodeString>);
+static_assert(is_string<std::vector<char>> && is_string<std::array<char, 4> &> && is_string<std::vector<std::byte>>);
+static_assert(is_string<std::uint8_t (&)[4]> && is_string<const std::uint8_t (&)[2]>);
 
 static bool same(const hayro::Code &code, std::uint32_t number, int byte_len, std::optional<hayro::Cid> cid,
                  bool in_codespace, bool cut_short) {
@@ -42,7 +63,7 @@ static bool same(const hayro::Code &code, std::uint32_t number, int byte_len, st
 static void maps_are_moved() {
     hayro::Map empty;
     CHECK(empty.empty() && !empty.cid(0x41, 1) && !empty.text(0x41) && !empty.name());
-    CHECK(empty.layers() == 0 && empty.decode("A").empty() && empty.codespaces().empty());
+    CHECK(empty.layers() == 0 && empty.decode("A"s).empty() && empty.codespaces().empty());
     auto made = hayro::Map::identity(hayro::WritingMode::vertical);
     hayro::Map map = std::move(made);
     CHECK(made.empty() && map.cid(0x1234, 2) == 0x1234u && !map.cid(0x12, 1));
@@ -155,11 +176,11 @@ static void strings_are_cut() {
     CHECK(map->cid(0x82FF, 2) == 647u && !map->cid_strict(0x82FF, 2) && map->cid_strict(0x8140, 2) == 200u);
 
     std::array<hayro::Code, 2> room;
-    auto part = map->decode("AAA", room);
+    auto part = map->decode("AAA"s, room);
     CHECK(part.made == 2 && part.taken == 2 && !part.whole);
-    part = map->decode("A", room);
+    part = map->decode("A"s, room);
     CHECK(part.made == 1 && part.taken == 1 && part.whole);
-    part = map->decode("A", hayro::Span<hayro::Code>());
+    part = map->decode("A"s, hayro::Span<hayro::Code>());
     CHECK(part.made == 0 && part.taken == 0 && !part.whole);
     CHECK(map->decode(std::string_view()).empty() && map->decode(std::vector<std::uint8_t>()).empty());
     CHECK(map->decode(std::string(1000, 'A')).size() == 1000);
@@ -181,17 +202,28 @@ static hayro::Map map_of(const std::string &file) {
     return map ? *std::move(map) : hayro::Map();
 }
 
-static void bytes_have_their_lengths() {
+static void strings_have_zeros() {
     auto map = hayro::Map::identity(hayro::WritingMode::horizontal);
-    CHECK(map.decode("\x00\x41").size() == 1 && same(map.decode("\x00\x41")[0], 0x41, 2, 0x41u, true, false));
-    CHECK(map.decode("").empty() && map.decode({}).empty());
-    static const char bare[] = {0x30, 0x42, 0, 0x41};
-    CHECK(map.decode(bare).size() == 2 && same(map.decode(bare)[1], 0x41, 2, 0x41u, true, false));
-    char room[8] = "0B";
+    CHECK(same(map.decode("\x00\x41"sv).at(0), 0x41, 2, 0x41u, true, false) && map.decode({}).empty());
+    char room[] = {0, 0x41, 0, 0x42};
+    auto codes = map.decode({room, sizeof room});
+    CHECK(codes.size() == 2 && same(codes[1], 0x42, 2, 0x42u, true, false));
+    const std::uint8_t bytes[] = {0x30, 0};
+    CHECK(map.decode(bytes).size() == 1 && same(map.decode(bytes)[0], 0x3000, 2, 0x3000u, true, false));
+}
+
+static void bytes_have_their_lengths() {
+    CHECK(hayro::Bytes("a\0b").text() == "a\0b"sv && hayro::Bytes("").size() == 0);
+    static const char bare[] = {'a', 0, 'b'};
+    CHECK(hayro::Bytes(bare).size() == 3);
+    char room[8] = "ab";
     const char *text = room;
     char *changing = room;
-    CHECK(map.decode(room).size() == 1 && map.decode(text).size() == 1 && map.decode(changing).size() == 1);
+    CHECK(hayro::Bytes(room).size() == 2 && hayro::Bytes(text).size() == 2 && hayro::Bytes(changing).size() == 2);
 }
+
+template <class Map> using LayersOf = decltype(std::declval<Map>().layers());
+static_assert(compiles<LayersOf, hayro::Map &> && !compiles<LayersOf, hayro::Map>);
 
 static void layers_are_a_view() {
     auto base = "/CMapName /Base begincodespacerange <00> <80> endcodespacerange begincidchar <01> 1 endcidchar"s;
@@ -216,16 +248,16 @@ static void strings_have_texts() {
     CHECK(found.size() == 4 && found[0].text == "ff" && found[1].text == "\u65E5");
     CHECK(same(found[1].code, 0x42, 1, 8, true, false) && !found[2].text && !found[3].text);
     CHECK(same(found[2].code, 0x43, 1, 9, true, false) && same(found[3].code, 0x81, 1, std::nullopt, false, false));
-    CHECK(!hayro::Extractor(map_of(encoding)).characters("A").at(0).text);
-    CHECK(hayro::Extractor(hayro::Map()).characters("A").empty() && font.characters("").empty());
-    CHECK(font.text("ABC\x81"s) == "ff\u65E5\uFFFD\uFFFD" && font.text("AC", "?") == "ff?" && font.text("").empty());
+    CHECK(!hayro::Extractor(map_of(encoding)).characters("A"s).at(0).text);
+    CHECK(hayro::Extractor(hayro::Map()).characters("A"s).empty() && font.characters(""s).empty());
+    CHECK(font.text("ABC\x81"s) == "ff\u65E5\uFFFD\uFFFD" && font.text("AC"s, "?") == "ff?" && font.text(""s).empty());
 
     // The codes of a simple font are bytes, whatever the codespace ranges of its ToUnicode CMap are.
     auto simple = hayro::Extractor::simple(map_of("begincodespacerange <0000> <FFFF> endcodespacerange "
                                                   "beginbfchar <41> <0061> <00FF> <00660066> endbfchar"s));
     CHECK(simple.text("A\xFF\x00"s) == "aff\uFFFD");
-    CHECK(same(simple.characters("\xFF").at(0).code, 0xFF, 1, std::nullopt, true, false));
-    CHECK(hayro::Extractor::simple().text("A") == "\uFFFD");
+    CHECK(same(simple.characters("\xFF"s).at(0).code, 0xFF, 1, std::nullopt, true, false));
+    CHECK(hayro::Extractor::simple().text("A"s) == "\uFFFD");
 
     // Texts that pass the first room, and a text that passes it alone.
     std::string many, text;
@@ -233,6 +265,11 @@ static void strings_have_texts() {
     hayro::Extractor longer(map_of(encoding), map_of("beginbfchar <41> <" + many + "> <42> <0062> endbfchar"));
     found = longer.characters(std::string(100, 'B') + "AB");
     CHECK(found.size() == 102 && found[99].text == "b" && found[100].text == text && found[101].text == "b");
+}
+
+// Whether these maps of a collection were found, and no file was refused.
+static bool is_found(const hayro::FoundCollection &found, bool to_unicode, bool from_unicode) {
+    return found.to_unicode == to_unicode && found.from_unicode == from_unicode && !found.refusal;
 }
 
 static void collections_are_found() {
@@ -245,11 +282,12 @@ static void collections_are_found() {
     std::map<std::string, std::string> files = {{"Some-One-UCS2", "beginbfchar <0007> <0062> endbfchar"},
                                                 {"Broken-One-UCS2", "beginbfchar <0007> x endbfchar"}};
     auto some = font_of("Some"), broken = font_of("Broken"), other = font_of("Other");
-    CHECK(!some.find_collection(files) && some.text("A") == "b");
-    CHECK(!other.find_collection(files) && other.text("A") == "a");
+    CHECK(is_found(some.find_collection(files), true, false) && some.text("A"s) == "b");
+    CHECK(is_found(other.find_collection(files), false, false) && other.text("A"s) == "a");
     auto refused = broken.find_collection(files);
-    CHECK(refused && refused->reason() == hayro::Reason::text_expected && broken.text("A") == "a");
-    CHECK(!hayro::Extractor::simple().find_collection(files) && !other.find_predefined_collection());
+    CHECK(!refused.to_unicode && refused.refusal->reason() == hayro::Reason::text_expected && broken.text("A"s) == "a");
+    CHECK(is_found(hayro::Extractor::simple().find_collection(files), false, false));
+    CHECK(is_found(other.find_predefined_collection(), false, false));
 }
 
 template <class Fault, class Call> static bool throws(Call call) {
@@ -277,23 +315,24 @@ static void glyphs_are_chosen_by_maps_from_unicode() {
     auto string = [](hayro::Extractor &font) { return hayro::Encoder(font).encode("\u3042"); };
 
     hayro::Extractor font(hayro::Map::identity(hayro::WritingMode::horizontal));
-    CHECK(!font.find_collection(files) && !string(font));
-    CHECK(!font.find_collection(files, "Adobe-Japan1") && *string(font) == "\0\2"s);
+    CHECK(is_found(font.find_collection(files), false, false) && !string(font));
+    CHECK(is_found(font.find_collection(files, "Adobe-Japan1"), true, true) && *string(font) == "\0\2"s);
     CHECK(font.text("\0\1\0\2"s) == "\u3042\u3042");
     hayro::Extractor vertical(hayro::Map::identity(hayro::WritingMode::vertical));
-    CHECK(!vertical.find_collection(files, "Adobe-Japan1") && *string(vertical) == "\0\3"s);
+    CHECK(is_found(vertical.find_collection(files, "Adobe-Japan1"), true, true) && *string(vertical) == "\0\3"s);
     hayro::Extractor given(hayro::Map::identity(hayro::WritingMode::horizontal), {}, map_of(files["Adobe-Japan1-UCS2"]));
     CHECK(*string(given) == "\0\1"s);
     // One of the two maps is enough.
-    CHECK(!given.find_collection(files, "Adobe-CNS1") && *string(given) == "\0\2"s);
-    auto refused = given.find_collection(files, "Adobe-GB1");
+    CHECK(is_found(given.find_collection(files, "Adobe-CNS1"), false, true) && *string(given) == "\0\2"s);
+    auto refused = given.find_collection(files, "Adobe-GB1").refusal;
     CHECK(refused && refused->reason() == hayro::Reason::cid_expected && *string(given) == "\0\2"s);
     hayro::Bundle none;
-    CHECK(given.find_collection(none, files, "Broken-One").has_value() && !given.find_predefined_collection("Some-One"));
+    CHECK(given.find_collection(none, files, "Broken-One").refusal.has_value());
+    CHECK(is_found(given.find_predefined_collection("Some-One"), false, false));
 
     // An encoding from Unicode is the map itself.
     hayro::Extractor from(map_of("/CMapName /UniX-H def " + any_two_bytes + "begincidrange <3042> <3043> 7 endcidrange"));
-    CHECK(!string(from) && !from.find_collection(files) && *string(from) == "\x30\x42");
+    CHECK(!string(from) && is_found(from.find_collection(files), false, true) && *string(from) == "\x30\x42");
 }
 
 static void pieces_have_grades() {
@@ -317,7 +356,7 @@ static void pieces_have_grades() {
     CHECK(*exact.encode("fi\u00E9\u2F47") == "ABC" && !exact.encode("\u65E5") && !exact.encode("\\"));
     CHECK(*encoder.encode("\u65E5\\") == "C\\");
 
-    CHECK(encoder.encode_lossy("xfi", "??") == "??A" && encoder.encode_lossy("xfi", "") == "A");
+    CHECK(encoder.encode_lossy("xfi", "??"s) == "??A" && encoder.encode_lossy("xfi", ""s) == "A");
     CHECK(throws<std::invalid_argument>([&] { encoder.encode_lossy("fi", "?\x80"s); }));
     CHECK(throws<std::invalid_argument>([&] { encoder.encode_lossy("\xFF", "\x80"s); }));
     CHECK(!hayro::Encoder().encode_lossy("fi", "\x80"s));
@@ -334,7 +373,7 @@ static void texts_have_strings() {
     auto refused = encoder.encode("\u65E5x");
     CHECK(!refused && refused.offset() == 3);
     CHECK(encoder.encode("f\xFF"s).offset() == 1);
-    CHECK(encoder.encode_lossy("xffi", "\0??"s) == "\0??AB"s && !encoder.encode_lossy("\xFF", "?"));
+    CHECK(encoder.encode_lossy("xffi", "\0??"s) == "\0??AB"s && !encoder.encode_lossy("\xFF", "?"s));
 
     auto simple = hayro::Extractor::simple(map_of("beginbfchar <00FF> <0061> endbfchar"s));
     CHECK(*hayro::Encoder(simple).encode("aa") == "\xFF\xFF");
@@ -397,6 +436,10 @@ static void warnings_are_found() {
     CHECK(found[2].warning == HAYRO_CMAP_WARNING_ODD_DIGITS && found[2].offset == text.find("<20BB7>"));
     CHECK(found[3].warning == HAYRO_CMAP_WARNING_ODD_TEXT && found[3].first_shown == 2);
     CHECK(map->lint().empty() && hayro::Map().lint().empty());
+    for (auto nothing : {"", "hello"}) {
+        auto warnings = map_of(nothing).lint();
+        CHECK(!warnings.empty() && hayro::warning_name(warnings[0].warning) == "nothing-declared");
+    }
     CHECK(hayro::warning_name(HAYRO_CMAP_WARNING_ODD_TEXT + 1).empty());
 }
 
@@ -512,7 +555,7 @@ static void predefined_files_are_found() {
     std::ofstream(folder / "below" / "Some-One-UCS2") << "beginbfchar <0007> <0062> endbfchar";
     hayro::Extractor font(map_of("/CIDSystemInfo << /Registry (Some) /Ordering (One) /Supplement 0 >> def "
                                  "begincidchar <41> 7 endcidchar"));
-    CHECK(!font.find_predefined_collection() && font.text("A") == "b");
+    CHECK(is_found(font.find_predefined_collection(), true, false) && font.text("A"s) == "b");
     setenv("CMAP_PATH", "", 1);
     CHECK(!hayro::predefined_file("Top"));
     setenv("CMAP_PATH", "/proc/self", 1);
@@ -601,6 +644,54 @@ static void maps_are_written() {
     CHECK(torn && torn->cid(0x41, 1) == 0x62u && !hayro::write(*torn));
 }
 
+// The CIDs of codes of two bytes.
+static std::vector<std::optional<hayro::Cid>> cids_of(hayro::Map &map, std::initializer_list<std::uint32_t> codes) {
+    std::vector<std::optional<hayro::Cid>> cids;
+    for (auto code : codes) cids.push_back(map.cid_strict(code, 2));
+    return cids;
+}
+
+static void files_stand_on_a_base() {
+    using Cids = std::vector<std::optional<hayro::Cid>>;
+    auto base = map_of(any_two_bytes + "begincidrange <0040> <004F> 100 endcidrange");
+    for (auto uses : {"/Identity-H usecmap ", "/A usecmap /B usecmap /A usecmap ", ""}) {
+        auto map = hayro::Map::parse_with_base(uses + "begincidchar <0041> 7 endcidchar"s, base);
+        CHECK(map && *map && cids_of(**map, {0x41, 0x42, 0x50}) == (Cids{7, 102, std::nullopt}));
+    }
+    auto second = *hayro::Map::parse_with_base("/Base usecmap begincidchar <0041> 7 endcidchar", base).value();
+    auto third = *hayro::Map::parse_with_base("/Base usecmap begincidchar <0042> 8 endcidchar", second).value();
+    CHECK(cids_of(third, {0x40, 0x41, 0x42, 0x43}) == (Cids{100, 7, 8, 103}));
+
+    // A refusal is that of the text.
+    const std::pair<const char *, std::size_t> refusals[] = {{"begincidchar <01> x", 19},
+                                                             {"/A usecmap begincidchar <01> x", 30}};
+    for (auto [text, offset] : refusals) {
+        auto refused = hayro::Map::parse_with_base(text, base);
+        CHECK(refused && !*refused && refused->refusal().offset() == offset && refused->refusal().names().empty());
+    }
+    auto torn = hayro::Map::parse("/Base usecmap beginbfchar <41> <0062> endbfchar",
+                                  {{"Base", "begincidchar <41> 5 endcidchar"}});
+    CHECK(!hayro::Map::parse_with_base("", *torn));
+
+    const std::size_t of_base = hayro::write(base).value_or("").size();
+    for (auto text : {"/A usecmap"s, "% nothing"s}) {
+        auto within = [&](std::size_t bytes) { return hayro::Map::parse_with_base(text, base, bytes).value(); };
+        CHECK(within(text.size() + of_base));
+        auto over = within(text.size() + of_base - 1);
+        CHECK(!over && over.refusal().cause() == hayro::Cause::past_budget);
+    }
+}
+
+static void the_first_writing_mode_counts() {
+    auto vertical = hayro::Map::identity(hayro::WritingMode::vertical);
+    auto over = *hayro::Map::parse_with_base("", vertical).value();
+    CHECK(!over.writing_mode() && over.effective_writing_mode() == hayro::WritingMode::vertical);
+    auto other = *hayro::Map::parse_with_base("/WMode 0 def", vertical).value();
+    CHECK(other.effective_writing_mode() == hayro::WritingMode::horizontal);
+    CHECK(map_of("").effective_writing_mode() == hayro::WritingMode::horizontal);
+    CHECK(hayro::Map().effective_writing_mode() == hayro::WritingMode::horizontal);
+}
+
 static void threads_share_a_map() {
     auto map = hayro::Map::parse("begincidrange <0000> <FFFF> 5 endcidrange");
     std::vector<std::thread> threads;
@@ -613,6 +704,25 @@ static void threads_share_a_map() {
         });
     for (auto &thread : threads) thread.join();
     for (bool it : right) CHECK(it);
+}
+
+static void threads_share_an_extractor() {
+    auto any_byte = "begincodespacerange <00> <7F> endcodespacerange "s;
+    hayro::Extractor font(map_of(any_byte + "begincidrange <41> <44> 1 endcidrange"),
+                          map_of("beginbfchar <41> <0061> endbfchar"), map_of("beginbfchar <0002> <0062> endbfchar"),
+                          map_of(any_two_bytes + "begincidchar <0063> 4 endcidchar"));
+    std::vector<std::thread> threads;
+    std::array<bool, 4> right{};
+    for (std::size_t at = 0; at < right.size(); at++)
+        threads.emplace_back([&place = right[at], own = font.share()]() mutable {
+            bool all = true;
+            for (int count = 0; count < 1000; count++) all = all && own.text("AB\x81"s) == "ab\uFFFD";
+            // The map from Unicode is shared too: it alone has c.
+            place = all && *hayro::Encoder(own).encode("abc") == "ABD";
+        });
+    for (auto &thread : threads) thread.join();
+    for (bool it : right) CHECK(it);
+    CHECK(font.share().text("A"s) == "a" && font.text("B"s) == "b");
 }
 
 static void threads_share_an_encoder() {
@@ -644,6 +754,7 @@ int main() {
     glyphs_are_chosen_by_maps_from_unicode();
     pieces_have_grades();
     texts_have_strings();
+    strings_have_zeros();
     bytes_have_their_lengths();
     layers_are_a_view();
     layers_declare_cids_and_texts();
@@ -656,7 +767,10 @@ int main() {
     folders_are_listed_as_far_as_they_can_be_read();
     files_are_made();
     maps_are_written();
+    files_stand_on_a_base();
+    the_first_writing_mode_counts();
     threads_share_a_map();
+    threads_share_an_extractor();
     threads_share_an_encoder();
     CHECK(!hayro::version().empty());
     std::puts(failed ? "failed" : "ok");

@@ -1,7 +1,8 @@
 """Builds the wheel and the source archive of the package (PEP 517), by the standard library alone.
 
 The C library goes into the wheel where the environment variable HAYRO_CMAP_LIBRARY names it, or where it lies in the
-package's folder as libhayro_cmap.so. A source archive has the crate of plain Rust, too: where there is no library and
+package's folder as libhayro_cmap.so; and with it the licences and the bill of materials that are installed beside it, in
+share/doc/hayro_cmap of its prefix. A source archive has the crate of plain Rust, too: where there is no library and
 there is cargo, cargo builds it, for the system of this Python. A wheel with a library is for that system; one without it
 is for any, and finds the library when it is imported. The version is that of the file VERSION, here in a source archive
 and else at the top of the project.
@@ -27,6 +28,7 @@ HERE = Path(__file__).resolve().parent
 TOP = HERE if (HERE / "VERSION").exists() else HERE.parent.parent
 VERSION = (TOP / "VERSION").read_text().strip()
 LICENCES = ["LICENSE-APACHE", "LICENSE-MIT"]
+BILL = "hayro_cmap.spdx.json"
 PACKAGE = "hayro_cmap"
 # the name of the library, as cargo gives it and as the package looks for it
 LIBRARY = {"win32": "hayro_cmap.dll", "darwin": "libhayro_cmap.dylib"}.get(sys.platform, "libhayro_cmap.so")
@@ -84,6 +86,17 @@ def built_library(work):
     return next(path for path in [work / "release" / LIBRARY, *work.glob(f"*/release/{LIBRARY}")] if path.exists())
 
 
+def materials_of(shared):
+    """The names and the paths of the licences and of the bill of materials that are installed with a library."""
+    folders = [folder / "share" / "doc" / PACKAGE for folder in shared.resolve().parents]
+    folder = next((folder for folder in folders if (folder / BILL).exists()), None)
+    if not folder:
+        return {}
+    licences = [path for kind in ["kit", "crates"] for path in sorted((folder / kind).rglob("*")) if path.is_file()]
+    found = {f"licenses/{path.relative_to(folder).as_posix()}": path for path in licences}
+    return {**found, f"sboms/{BILL}": folder / BILL}
+
+
 def system_tag():
     """The tag of a wheel for the system of this Python."""
     system = os.environ.get("_PYTHON_HOST_PLATFORM") or sysconfig.get_platform()
@@ -118,6 +131,8 @@ def wheel_files(tag, shared):
     files[f"{about}/WHEEL"] = wheel.encode()
     for name in LICENCES:
         files[f"{about}/licenses/{name}"] = (TOP / name).read_bytes()
+    for name, path in (materials_of(shared) if shared else {}).items():
+        files[f"{about}/{name}"] = path.read_bytes()
     return files, f"{about}/RECORD"
 
 

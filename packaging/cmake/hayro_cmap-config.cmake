@@ -1,5 +1,17 @@
 # The C library hayro_cmap, as find_package(hayro_cmap) finds it: hayro_cmap::shared and hayro_cmap::static.
 
+# The targets are the components. Without another one that is required the package isn't found.
+set(hayro_cmap_shared_FOUND TRUE)
+set(hayro_cmap_static_FOUND TRUE)
+foreach(_hayro_cmap_component IN LISTS hayro_cmap_FIND_COMPONENTS)
+  if(hayro_cmap_FIND_REQUIRED_${_hayro_cmap_component} AND NOT hayro_cmap_${_hayro_cmap_component}_FOUND)
+    set(hayro_cmap_FOUND FALSE)
+    set(hayro_cmap_NOT_FOUND_MESSAGE "hayro_cmap has no component ${_hayro_cmap_component}")
+    return()
+  endif()
+endforeach()
+unset(_hayro_cmap_component)
+
 # `proved`, or `plain` for the library of plain Rust
 set(hayro_cmap_BUILD "@BUILD@")
 

@@ -2,11 +2,12 @@
 files that are written, in C; those that make a ToUnicode CMap, which pdftotext reads in a PDF file; and the one that
 fills a form, in Python."""
 
-from composite_font import pdf
+from common.composite_font import pdf
 
 from . import forms
 from .checks import needs, run
 from .known import (
+    BASED,
     DECLARED,
     ENCODED,
     MADE,
@@ -16,6 +17,7 @@ from .known import (
     WORDS,
     WRITTEN,
     WRITTEN_FOR,
+    based_file,
     declaring_file,
     has_debian_files,
     refused_files,
@@ -165,6 +167,10 @@ def check_threads(checks, setting, command):
     for files in setting.files:
         ran = run(*command, files.folder / "UniJIS-UTF16-H")
         checks.ended(f"{command_line(command)}: {files.folder}", ran, f"{files.count}\n" * 4)
+        ran = run(*command, files.folder / "UniJIS-UTF16-V", files.folder / "UniJIS-UTF16-H")
+        checks.ended(f"{command_line(command)}: {files.folder}, over a base", ran, f"{files.count}\n" * 4)
+    ran = run(*command, setting.once(based_file))
+    checks.ended(f"{command_line(command)}: a file without its base", ran, "", status=1)
 
 
 def command_line(command):
@@ -204,6 +210,10 @@ def check_declarations(checks, setting, command):
     """A command gives the declarations of a file, and the codes of two CIDs, of which one has none."""
     ran = run(*command, setting.once(declaring_file), "7", "34")
     checks.ended(f"{command_line(command)}: what a file declares", ran, DECLARED)
+    ran = run(*command, setting.once(based_file), "-b", setting.once(declaring_file), "7", "34")
+    checks.ended(f"{command_line(command)}: what a file over a base declares", ran, BASED)
+    ran = run(*command, setting.once(based_file), "7")
+    checks.ended(f"{command_line(command)}: a file without its base", ran, "", status=1)
 
 
 @needs("gcc")
@@ -335,6 +345,8 @@ def predefined_files(work):
     folder = work / "predefined"
     (folder / "below" / "Adobe-Japan1").mkdir(parents=True)
     (folder / "below" / "Adobe-Japan1" / "Small-H").write_text("")
+    (folder / "below" / "Adobe-Japan1" / "Adobe-Japan1").write_text("")
+    (folder / "below" / "Adobe-GB1" / "Small-H").mkdir(parents=True)
     (folder / "Outside").write_text("")
     return folder
 
@@ -346,6 +358,8 @@ def test_c_finds_predefined_files(checks, setting):
     path = f"/nowhere::{folder}/below"
     ran = run(*command, "Small-H", CMAP_PATH=path)
     checks.ended("predefined.c finds a file", ran, f"{folder}/below/Adobe-Japan1/Small-H\n")
-    for name in ["../Outside", "..", "", "Small-*", "Else"]:
+    file = f"{folder}/below/Adobe-Japan1/Adobe-Japan1"
+    checks.ended("predefined.c finds a file, no folder", run(*command, "Adobe-Japan1", CMAP_PATH=path), f"{file}\n")
+    for name in ["../Outside", "..", "", "Small-*", "Else", "Adobe-GB1"]:
         checks.ended(f"predefined.c: {name}", run(*command, name, CMAP_PATH=path), "", status=1)
     checks.ended("predefined.c without folders", run(*command, "Small-H", CMAP_PATH=""), "", status=1)

@@ -1,6 +1,6 @@
 """A form in a PDF file, whose fields have fonts of East Asian character collections, and what fills it."""
 
-from composite_font import with_table
+from common.composite_font import with_table
 
 # of each field: the CMap of its font and the ordering of its collection, a text, and the string that shows it. By
 # Identity-H that has the CIDs of the collection's map from Unicode, by another CMap the codes of Python's codecs. For

@@ -3,8 +3,10 @@ installed."""
 
 import ctypes
 import re
+import shutil
 
-from links import dead_links_under
+from common import materials
+from common.links import dead_links_under
 
 from .checks import needs, run
 from .library import C_TESTS, COMPILERS, TOP, WARNINGS
@@ -250,6 +252,36 @@ def test_installed_pages_link_what_is_installed(checks, setting):
     checks.same("dead links", dead_links_under(folder), [])
 
 
+def test_licences_are_those_of_what_is_contained(checks, setting):
+    """Each crate of the bill of materials is listed, and has its licences if a folder has some; no other one has."""
+    documents = setting.library.prefix / "share" / "doc" / "hayro_cmap"
+    contained = materials.names_of((documents / "hayro_cmap.spdx.json").read_text())
+    checks.holds("the crates of the bill of materials", contained, "there are none")
+    folder = documents / ("crates" if setting.library.is_plain else "kit")
+    listed = set(re.findall(r"[\w-]+", (folder / "README").read_text()))
+    checks.same("crates that aren't listed", [name for name in contained if name not in listed], [])
+    others = [path.name for path in folder.iterdir() if path.is_dir() and path.name not in contained]
+    checks.same("licences of what isn't contained", others, [])
+
+
+def test_what_is_installed_is_taken_away(checks, setting):
+    """All that the manifest lists, in a copy, and no other file."""
+    prefix, copy = setting.library.prefix, setting.work / "uninstalled"
+    lines = (prefix / "share" / "hayro_cmap" / "manifest").read_text().splitlines()
+    checks.same("what is listed and missing", [line for line in lines if not (prefix / line).exists()], [])
+    for line in lines:
+        (copy / line).parent.mkdir(parents=True, exist_ok=True)
+        if not line.endswith("/"):
+            shutil.copy2(prefix / line, copy / line, follow_symlinks=False)
+    (copy / "include" / "other.h").write_text("")
+    ran = run(TOP / "scripts" / "install", "--uninstall", copy)
+    checks.ended("scripts/install --uninstall", ran, f"hayro_cmap isn't in {copy} any more\n")
+    stay = [str(path.relative_to(copy)) for path in copy.rglob("*") if not path.is_dir()]
+    checks.same("the files that stay", stay, ["include/other.h"])
+    ran = run(TOP / "scripts" / "install", "--uninstall", copy)
+    checks.holds("without a manifest", ran.status == 1 and "there is no manifest" in ran.err, ran)
+
+
 @needs("gcc", "g++")
 def test_headers_compile_alone(checks, setting):
     """As C and as C++, with nothing before them."""
@@ -267,6 +299,28 @@ def test_headers_compile_with_clang(checks, setting):
     path.write_text("#include <hayro_cmap.h>\n#include <hayro_cmap.hpp>\nint main() { return 0; }\n")
     flags = ["-std=c++17", "-Wconversion", "-Wold-style-cast", f"-I{setting.library.include}", "-fsyntax-only"]
     checks.ended("the headers as C++ with clang++", run("clang++", *WARNINGS, *flags, path), "")
+
+
+WITHOUT_EXCEPTIONS = """\
+#include <hayro_cmap.hpp>
+#include <cstdio>
+
+int main() {
+    auto map = hayro::Map::parse("begincidchar <41> 7 endcidchar");
+    std::printf("%d\\n", map ? static_cast<int>(map->decode(std::string_view("A"))[0].cid) : -1);
+}
+"""
+
+
+@needs("g++")
+def test_the_header_for_cpp_needs_no_exceptions(checks, setting):
+    """Nor type information at run time."""
+    path, program = setting.work / "without_exceptions.cc", setting.work / "without_exceptions"
+    path.write_text(WITHOUT_EXCEPTIONS)
+    flags = ["-fno-exceptions", "-fno-rtti", f"-I{setting.library.include}"]
+    built = run(*COMPILERS[".cc"], *WARNINGS, *flags, "-o", program, path, setting.library.archive)
+    checks.ended("a program without exceptions is built", built, "")
+    checks.ended("a program without exceptions", run(program), "7\n")
 
 
 LAYERS_AS_A_RANGE = """\

@@ -3,7 +3,7 @@
 import functools
 from pathlib import Path
 
-from bundles import KNOWN_NAMES, binary_bundle
+from common.bundles import KNOWN_NAMES, binary_bundle
 
 from .checks import Failed
 from .library import EXAMPLES, TOP
@@ -45,6 +45,12 @@ cid <8140> <817E> 633
 text 41 42 0061
 text 43 43 D83D
 text 44 44 00660069
+7 <26> <26>
+7 <41> <41>
+"""
+# the same of a file over that one
+OVER_DECLARING = b"/declaring usecmap begincidrange <40> <42> 6 endcidrange"
+BASED = """cid <40> <42> 6
 7 <26> <26>
 7 <41> <41>
 """
@@ -92,6 +98,13 @@ def declaring_file(work):
     """A file that declares CIDs and texts."""
     path = work / "declaring"
     path.write_bytes(DECLARING)
+    return path
+
+
+def based_file(work):
+    """A file over that one."""
+    path = work / "based"
+    path.write_bytes(OVER_DECLARING)
     return path
 
 

@@ -154,6 +154,19 @@ def test_rust_finds_the_library(checks, setting):
     checks.holds("cargo build without a library", ran.status != 0 and "scripts/c-library PREFIX" in ran.err, ran)
 
 
+@needs("cargo")
+def test_rust_crates_share_a_target_folder(checks, setting):
+    """cargo checks the plain crate and the bindings in turn, each as its own."""
+    plain, target = setting.work / "plain-rust", str(setting.work / "shared-target")
+    ran = run(TOP / "scripts" / "plain-rust", "--library", plain)
+    checks.holds("scripts/plain-rust", ran.status == 0, ran)
+    for what in ["first", "again"]:
+        ran = run("cargo", "check", "--offline", folder=plain, CARGO_TARGET_DIR=target)
+        checks.holds(f"the plain crate, {what}", ran.status == 0, ran)
+        ran = setting.crate.cargo("check", **setting.crate.over_library(), CARGO_TARGET_DIR=target)
+        checks.holds(f"the bindings, {what}", ran.status == 0, ran)
+
+
 def check_unittest(checks, where, folder, environment):
     """Runs the tests of the package in a folder."""
     ran = run(Package.python, "-m", "unittest", "discover", "-s", "tests", "-t", ".", folder=folder, **environment)

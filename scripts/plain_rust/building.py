@@ -6,8 +6,8 @@ import shutil
 import subprocess
 from pathlib import Path
 
-from materials import package
-from programs import TOP
+from common.materials import package
+from common.programs import TOP
 
 from .workspace import C_LIBRARY, write_workspace
 
@@ -26,16 +26,17 @@ class Workspace:
 
     def build(self):
         """Builds the members; the folder of what is built. A library alone needs nothing from a network."""
-        words = ["--release", "--manifest-path", self.folder / "Cargo.toml", "--target-dir", "made"]
+        words = ["--release", "--target-dir", self.work / "made"]
         words += [word for name in self.members for word in ("--package", name)]
         words += ["--target", self.target] if self.target else []
         words += ["--offline"] if self.members == [C_LIBRARY] else []
-        self.run("cargo", "build", *words)
+        # cargo takes its configuration from the folder where it runs
+        self.run("cargo", "build", *words, folder=self.folder)
         return self.work / "made" / (self.target or "") / "release"
 
-    def run(self, *words):
-        """Runs a program in the folder."""
-        subprocess.run(words, cwd=self.work, check=True)
+    def run(self, *words, folder=None):
+        """Runs a program in a folder, or in the one above the workspace."""
+        subprocess.run(words, cwd=folder or self.work, check=True)
 
     def tool(self, name):
         """A program of binutils, for the target where there is one of its own."""

@@ -3,7 +3,7 @@
 import re
 import shutil
 
-from programs import CRATES, TOP, and_below
+from common.programs import CRATES, TOP, and_below
 
 from .crate import copy_fallible, copy_licenses, write_reader
 from .exports import exports_of

@@ -2,7 +2,7 @@
 
 import shutil
 
-from programs import CRATES, TOP, and_below
+from common.programs import CRATES, TOP, and_below
 
 from .crate import BY_HAND as LIBRARY
 from .crate import after_docs, copy_fallible, copy_licenses, erase_crate

@@ -3,7 +3,7 @@
 import re
 import shutil
 
-from programs import CRATES, TOP, and_below
+from common.programs import CRATES, TOP, and_below
 
 from .erasing import erased
 from .source import Unknown
@@ -12,7 +12,7 @@ BY_HAND = TOP / "bindings" / "plain-rust"
 # the bindings over the C library have the same interface: types, and calls of others; tests and an example of them
 SHARED = TOP / "bindings" / "rust"
 SHARED_SOURCES = [
-    *("builder", "collection", "encode_error", "extractor", "finding", "metadata"),
+    *("based", "builder", "collection", "encode_error", "extractor", "finding", "metadata"),
     *("opening", "options", "piece", "predefined", "reason"),
 ]
 LICENSES = ["LICENSE-APACHE", "LICENSE-MIT"]

@@ -2,7 +2,7 @@
 
 import re
 
-from programs import CRATES
+from common.programs import CRATES
 
 from .erasing import EXPORTED, LAYOUT
 from .source import Source, Unknown

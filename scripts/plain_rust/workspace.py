@@ -23,6 +23,11 @@ codegen-units = 1
 lto = "fat"
 panic = "abort"
 """
+# proofs give `usize` 64 bits: where it has 32, a sum that overflows ends the program
+CONFIGURATION = """\
+[target.'cfg(target_pointer_width = "32")']
+rustflags = ["-Coverflow-checks=on"]
+"""
 
 
 def write_workspace(out, members=tuple(MEMBERS)):
@@ -49,3 +54,5 @@ def write_all(out, writers, members):
         raise
     with (out / "Cargo.toml").open("a") as manifest:
         manifest.write(f"\n[workspace]\n{members}{PROFILES}")
+    (out / ".cargo").mkdir()
+    (out / ".cargo" / "config.toml").write_text(CONFIGURATION)

@@ -95,6 +95,7 @@ class Font:
     def __init__(self, encoding, to_unicode=None, collection=None, unicode=None, exact=False):
         self.exact = exact
         self.stated, self.texts = texts(to_unicode), texts(collection)
+        self.said = {number for number, text in self.stated.items() if text is not None}
         self.seen = given(encoding)
         lower = encoding if exact else split(encoding)
         cids = self.cids = glyphs(lower, encoding)
@@ -103,7 +104,9 @@ class Font:
         self.best = {}
         lengths = {length for layer in encoding for length, _, _ in layer.spaces}
         stated = [number.to_bytes(length, "big") for length in lengths for number in self.stated if number < 256**length]
-        for code in whole_codes(encoding, set(self.seen) | set(cids) | set(stated)):
+        codes = sorted(whole_codes(encoding, set(self.seen) | set(cids) | set(stated)), key=lambda code: (len(code), code))
+        self.last = {cids[code]: code for code in codes if code in cids and int.from_bytes(code, "big") not in self.said}
+        for code in codes:
             self.offer_code(code, cids.get(code), characters)
         self.standing = dict(self.best) if exact else {**self.others(), **self.best}
         for nothing in NO_CHARACTER:
@@ -131,8 +134,12 @@ class Font:
         else:
             said = self.texts.get(cid)
             for character in characters.get(cid, ()):
-                if not self.exact or said == character:
-                    self.offer(character, OWN_FORM if character.encode(self.form) == code else CANONICAL, code)
+                if self.exact and said != character:
+                    continue
+                if character.encode(self.form) == code:
+                    self.offer(character, OWN_FORM, code)
+                elif said is None or len(said) > 1 or said == character or self.last[cid] == code:
+                    self.offer(character, CANONICAL, code)
             if said is not None:
                 self.offer(said, COLLECTION, code)
         if said is not None and not self.exact and bare(said) not in ("", said):

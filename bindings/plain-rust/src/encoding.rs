@@ -62,7 +62,7 @@ impl Encoder {
     /// it, if that has a code and the rest can be encoded; else less of the letter, and at last more than
     /// it. The code of a piece lies in a codespace range, has no notdef, and is the first one by its
     /// [`Grade`]; of several that of the character itself in the form of the map from Unicode, then the
-    /// shortest, then the least.
+    /// shortest, then the least; of a glyph that the collection's map reads as another character the last.
     pub fn encode(&self, text: &str) -> Result<Vec<u8>, EncodeError> {
         Ok(encoded(self.held.encode(Global, text))?.to_vec())
     }

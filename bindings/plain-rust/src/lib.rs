@@ -10,6 +10,7 @@ extern crate std;
 #[cfg(target_pointer_width = "16")]
 compile_error!("hayro-cmap needs addresses of at least 32 bits");
 
+mod based;
 mod builder;
 mod bundle;
 mod collection;
@@ -38,6 +39,7 @@ mod said;
 mod text;
 mod writing;
 
+pub use based::BaseError;
 pub use builder::{CMapBuilder, Codes, WriteError};
 pub use bundle::{Bundle, load_embedded};
 pub use collection::{CharacterCollection, CidFamily};

@@ -138,9 +138,9 @@ class Extractor:
         """The string of a text: the codes of its pieces. A piece is a letter, a character and the marks after it, if
         that has a code and the rest can be encoded; else less of the letter, and at last more than it. The code of a
         piece lies in a codespace range, has no notdef, and is the first one by its `Grade`; of several that of the
-        character itself in the form of the map from Unicode, then the shortest, then the least. With `exact` only those
-        codes stand for a piece whose text is the piece, so that the string is read back as the text, and nothing stands
-        for a variation selector.
+        character itself in the form of the map from Unicode, then the shortest, then the least; of a glyph that the
+        collection's map reads as another character the last. With `exact` only those codes stand for a piece whose text
+        is the piece, so that the string is read back as the text, and nothing stands for a variation selector.
 
         A text that has no such pieces is Unencodable. But where `missing` is given, as b"\\x00\\x3f" for a question
         mark, the string is that of the longest prefix that has them, then these bytes for the character after it, then

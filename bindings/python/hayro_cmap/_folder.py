@@ -30,13 +30,15 @@ def folder(*paths: Path) -> Callable[[Name], Optional[bytes]]:
     return file_of
 
 
-def files_below(path):
-    """The paths of all files in a folder and its subfolders, but for hidden ones. A link to a folder isn't followed."""
+def raised(fault):
+    """Raises the fault of a folder that can't be read."""
+    raise fault
 
-    def stop(fault):
-        raise fault
 
-    for below, subfolders, names in os.walk(path, onerror=stop):
+def files_below(path, failed=raised):
+    """The paths of all files in a folder and its subfolders, but for hidden ones. A link to a folder isn't followed. Of
+    a folder that can't be read `failed` is called with the OSError."""
+    for below, subfolders, names in os.walk(path, onerror=failed):
         # the walk goes on to those that are left
         subfolders[:] = seen(subfolders)
         for name in seen(names):

@@ -420,6 +420,11 @@ class CMap(Owned):
         """What the file says of itself: that of layer 0."""
         return self._metadata(0)
 
+    @property
+    def effective_writing_mode(self) -> WritingMode:
+        """The writing mode of a font's strings: that of the first layer which gives one, else horizontal."""
+        return self._first_writing_mode() or WritingMode.HORIZONTAL
+
     def __repr__(self) -> str:
         if self._handle is None:
             return "<CMap, closed>"

@@ -246,7 +246,7 @@ class Command(Folder):
         none = Path(self.folder, "pikepdf.py")
         none.write_text("raise ImportError")
         places = os.pathsep.join([str(self.folder), os.environ.get("PYTHONPATH", "")])
-        without_pikepdf, words = {**os.environ, "PYTHONPATH": places}, 'pip install "hayro-cmap[pdf]"'
+        without_pikepdf, words = {**os.environ, "PYTHONPATH": places}, "pip install pikepdf"
         without_library = {**os.environ, "HAYRO_CMAP_LIBRARY": str(self.folder / "none.so")}
         for environment, said in [(without_pikepdf, words), (without_library, "the C library of hayro_cmap isn't")]:
             ran = self.program("check", "good.pdf", env=environment, text=True)

@@ -1,5 +1,6 @@
 """Paths of files: lists of them, those that aren't UTF-8, and what is no file."""
 
+import errno
 import json
 import os
 import subprocess
@@ -68,6 +69,49 @@ class Lists(Folder):
         self.assertIn("a FILE, or --files-from, is needed", fault)
 
 
+class Folders(Folder):
+    def setUp(self):
+        super().setUp()
+        for name in ["below/deep/B.PDF", "below/a.pdf", "below/.hidden.pdf", "below/.git/c.pdf", "below/notes.txt"]:
+            self.path(name).parent.mkdir(parents=True, exist_ok=True)
+            self.path(name).write_bytes(self.path("good.pdf").read_bytes())
+        os.mkfifo(self.path("below/pipe.pdf"))
+        self.path("below/link.pdf").symlink_to("../good.pdf")
+        self.path("below/other").symlink_to("../below")
+
+    def files(self, *words, **options):
+        """The status, and the files that are read."""
+        ran = self.program("fonts", "--json", *words, **options)
+        return ran.returncode, [json.loads(line)["file"] for line in ran.stdout.splitlines()]
+
+    def test_a_folder(self):
+        """It stands for the PDF files below it; links to folders aren't followed."""
+        found = ["below/a.pdf", "below/deep/B.PDF", "below/link.pdf"]
+        self.assertEqual(self.files("below"), (0, found))
+        self.assertEqual(self.files("good.pdf", "below", "bad.pdf"), (0, ["good.pdf", *found, "bad.pdf"]))
+        self.assertEqual(self.files("--jobs", "2", "--files-from", "-", input=b"below\n"), (0, found))
+        self.assertEqual(self.files("below/.git"), (0, ["below/.git/c.pdf"]))
+
+    def test_a_folder_without_pdf_files(self):
+        self.path("empty").mkdir()
+        ran = self.program("check", "empty", text=True)
+        self.assertEqual((ran.returncode, ran.stdout), (0, ""))
+        self.assertIn("0 files checked, 0 refused", ran.stderr)
+
+    def test_a_folder_that_cannot_be_read(self):
+        """It stands for itself, so that it is reported, and the run goes on."""
+        folder, scandir = os.fsencode(self.path("below")), os.scandir
+
+        def failing(path):
+            if path == os.path.join(folder, b"deep"):
+                raise PermissionError(errno.EACCES, "Permission denied", path)
+            return scandir(path)
+
+        with mock.patch("os.scandir", failing):
+            found = _paths.expanded([os.fsdecode(folder)])
+        self.assertEqual(found, [str(self.path(name)) for name in ["below/a.pdf", "below/deep", "below/link.pdf"]])
+
+
 class Odd(Folder):
     def test_a_path_that_is_not_utf_8(self):
         """It is opened by its bytes, and printed with them as hexadecimal digits, in JSON too."""
@@ -92,11 +136,9 @@ class Odd(Folder):
     def test_what_is_no_file(self):
         """It has a line, nothing waits for it, and the run goes on."""
         os.mkfifo(self.path("pipe"))
-        self.path("folder").mkdir()
         self.path("loop").symlink_to(self.path("loop"))
         why = {
             "pipe": "not a regular file",
-            "folder": "Is a directory",
             "/dev/zero": "not a regular file",
             "loop": "Too many levels of symbolic links",
             "x" * 300: "File name too long",
@@ -107,7 +149,8 @@ class Odd(Folder):
             self.assertEqual(ran.returncode, 2)
             for name, reason in why.items():
                 self.assertIn(f"hayro_cmap: {name}: it can't be read: {reason}\n", ran.stderr)
-        for name, reason in why.items():
+        self.path("folder").mkdir()
+        for name, reason in {**why, "folder": "Is a directory"}.items():
             ran = self.program("repair", name, "out.pdf", text=True)
             self.assertEqual((ran.returncode, ran.stdout), (2, ""))
             self.assertEqual(ran.stderr, f"hayro_cmap: {name}: it can't be read: {reason}\n")

@@ -98,13 +98,6 @@ class NoFiles(unittest.TestCase):
             self.assertEqual([cmap.cid(0x41, 1), salvaged.cid(0x41, 1)], [34, 34])
         self.assertRaises(Refused, CMap.parse, uses(b"A"), None)
 
-    def test_what_are_no_files(self):
-        for call in [CMap.parse, CMap.salvage]:
-            with self.assertRaisesRegex(TypeError, "not a list"):
-                call(SMALL, [SMALL])
-        with self.assertRaisesRegex(TypeError, "not a list"):
-            CMap.open("Small-H", [SMALL])
-
 
 class Callables(unittest.TestCase):
     def test_each_name_once(self):
@@ -161,6 +154,8 @@ class Callables(unittest.TestCase):
 
         self.assertRaises(KeyError, CMap.parse, uses(b"A"), files)
         self.assertRaises(TypeError, CMap.parse, uses(b"A"), lambda name: 5)
+        for call in [lambda: CMap.parse(b"", [b"A"]), lambda: CMap.open("A", "a text"), lambda: CMap.salvage(b"", 5)]:
+            self.assertRaisesRegex(TypeError, "^files are a mapping from names or a callable, and not (list|str|int)$", call)
 
     def test_calls_within(self):
         """A callable may use the bundle and other maps."""

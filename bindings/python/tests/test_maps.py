@@ -198,6 +198,18 @@ class Lookups(unittest.TestCase):
             self.assertEqual(horizontal.metadata.writing_mode, WritingMode.HORIZONTAL)
             self.assertEqual(vertical.metadata.writing_mode, WritingMode.VERTICAL)
 
+    def test_effective_writing_mode(self):
+        files = {"Vertical": b"/WMode 1 def", "Middle": b"/Vertical usecmap"}
+        rows = [
+            (b"", WritingMode.HORIZONTAL),
+            (b"/WMode 1 def", WritingMode.VERTICAL),
+            (b"/Middle usecmap", WritingMode.VERTICAL),
+            (b"/Middle usecmap /WMode 0 def", WritingMode.HORIZONTAL),
+        ]
+        for data, mode in rows:
+            with self.subTest(data), CMap.parse(data, files) as cmap:
+                self.assertEqual(cmap.effective_writing_mode, mode)
+
 
 class EffectiveTexts(unittest.TestCase):
     """The runs of `texts` are what `text` gives for each code."""

@@ -140,9 +140,15 @@ class ToUnicode(unittest.TestCase):
         with CMap.parse(data) as cmap:
             self.assertEqual([cmap.text(code.code) for code in cmap.decode(b"A\x81\x40A")], ["a", "b", "a"])
         self.assertIn(b"<41> <0061>", data)
-        for outside in [b"\x81", b"\x81\x3f", b"\xa0\x40", b"\0\x40"]:
-            with self.assertRaisesRegex(ValueError, f"the code {outside.hex()} lies in no codespace range"):
-                to_unicode({**texts, outside: "c"}, codespaces=[(b"\x00", b"\x80"), (b"\x81\x40", b"\x9f\xfc")])
+
+    def test_codes_outside_the_codespaces(self):
+        ranges = [(b"\x00", b"\x7f"), (b"\x81\x40", b"\x9f\xfc")]
+        for code in [b"\x80", b"\x00\x41", b"\x81\x3f", b"\xa0\x40", b"\x81\x40\x00", 0x41]:
+            with self.subTest(code=code), self.assertRaisesRegex(ValueError, "lies in no codespace range"):
+                to_unicode({b"\x42": "B", code: "x"}, codespaces=ranges)
+        with CMap.parse(to_unicode({b"\x7f": "A", b"\x9f\xfc": "x"}, codespaces=iter(ranges))) as cmap:
+            self.assertEqual((cmap.text(0x7F), cmap.text(0x9FFC)), ("A", "x"))
+        self.assertRaises(ValueError, to_unicode, {1: "A"}, codespaces=[])
 
     def test_no_range_crosses_a_row(self):
         data = to_unicode({code: chr(code) for code in range(0x20, 0x220)})

@@ -4,6 +4,7 @@
 
 extern crate alloc;
 
+mod based;
 mod builder;
 mod bundle;
 mod collection;
@@ -29,6 +30,7 @@ mod refusal;
 mod text;
 mod writing;
 
+pub use based::BaseError;
 pub use builder::{CMapBuilder, Codes, WriteError};
 pub use bundle::{Bundle, load_embedded};
 pub use collection::{CharacterCollection, CidFamily};

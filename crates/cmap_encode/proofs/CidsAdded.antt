@@ -12,12 +12,12 @@ use Rattle.cmap_unicode.specs.CountedTexts.{text_after}
 use Rattle.cmap_unicode.specs.TextRows.{AreTexts}
 use Rattle.cmap_unicode.specs.TextsOfCodes.{text_in}
 use Rattle.cmap_unicode.specs.declared.rows.TextRow.{TextRow}
-use Rattle.cmap_encode.specs.FirstsSeen.{IsKeyStretch, first_at}
+use Rattle.cmap_encode.specs.KeyCodesSeen.{IsKeyStretch, code_for}
 use Rattle.cmap_encode.specs.GatheredSeen.{AddsCids, GivesFirst}
 use Rattle.cmap_encode.specs.Ranks.{Candidate, as_ranked, candidate_of, ranked_after}
 use Rattle.cmap_encode.specs.RunsSeen.{AddsTexts, IsFurther}
-use Rattle.cmap_encode.specs.declared.firsts.CodeRun.{CodeRun}
-use Rattle.cmap_encode.specs.declared.firsts.KeyStretch.{KeyStretch}
+use Rattle.cmap_encode.specs.declared.key_codes.CodeRun.{CodeRun}
+use Rattle.cmap_encode.specs.declared.key_codes.KeyStretch.{KeyStretch}
 use Rattle.cmap_encode.specs.declared.rank.Rank.TheVariants.{Collection}
 use Rattle.cmap_encode.specs.declared.rank.Ranked.{Ranked}
 use Rattle.cmap_encode.specs.declared.runs_by_prefix.RunsByPrefix.{RunsByPrefix}
@@ -44,7 +44,7 @@ module _ (collection : Option (List Layer)) (firsts : List CodeRun) where
   no_code all first stretch is none = silent_cids all first (stretch.last + 1) (λ text candidate given.
       let from = given.from in let below = given.below in
       let at : first + (given.cid - first) ≡ given.cid = omega arith in
-      none-some candidate (ap (option_map (as_ranked Collection)) (ap (option_map (ranked_after (given.cid - first))) (sym none) ∙ sym (is.codes (given.cid - first) (omega arith)) ∙ ap (first_at firsts) at) ∙ given.given))
+      none-some candidate (ap (option_map (as_ranked Collection)) (ap (option_map (ranked_after (given.cid - first))) (sym none) ∙ sym (is.codes (given.cid - first) (omega arith)) ∙ ap (code_for firsts) at) ∙ given.given))
 
   pub no_text : (all : RunsByPrefix) (first last : ℕ) (row : TextRow) → AreTexts (text_in collection) first row → row.text ≡ None → last ≤ row.last → AddsCids collection firsts first (last + 1) all all
   no_text all first last row are none within = silent_cids all first (last + 1) (λ text candidate given.
@@ -76,7 +76,7 @@ module _ (collection : Option (List Layer)) (firsts : List CodeRun) where
     abbrev begin : Ranked
     begin = record { code = own.code; rank = Collection }
 
-    code_there : (count : ℕ) → count ≤ further → option_map (as_ranked Collection) (first_at firsts (first + count)) ≡ Some (candidate_of (ranked_after count begin))
+    code_there : (count : ℕ) → count ≤ further → option_map (as_ranked Collection) (code_for firsts (first + count)) ≡ Some (candidate_of (ranked_after count begin))
     code_there count within = ap (option_map (as_ranked Collection)) (is.codes count (omega arith) ∙ ap (option_map (ranked_after count)) has_code)
 
     text_there : (count : ℕ) → count ≤ further → text_in collection (first + count) ≡ Some (text_after (text_seen text) count)
@@ -101,7 +101,7 @@ module _ (collection : Option (List Layer)) (firsts : List CodeRun) where
           count = count;
           within = within;
           is_text = sym given.has.characters ∙ ap characters_of (same_Some given.has.its (text_after (text_seen text) count) (sym given.has.is_text ∙ ap (text_in collection) (sym at) ∙ text_there count within));
-          is_code = same_Some candidate (candidate_of (ranked_after count begin)) (sym given.given ∙ ap (λ n. option_map (as_ranked Collection) (first_at firsts n)) (sym at) ∙ code_there count within);
+          is_code = same_Some candidate (candidate_of (ranked_after count begin)) (sym given.given ∙ ap (λ n. option_map (as_ranked Collection) (code_for firsts n)) (sym at) ∙ code_there count within);
         }
 
     pub row_added : (old new : RunsByPrefix) → AddsTexts old new (text_seen text) begin further → AddsCids collection firsts first (first + further + 1) old new

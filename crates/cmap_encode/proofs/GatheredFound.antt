@@ -1,22 +1,25 @@
 -- The first code of a text, of those that runs give.
-use Rattle.std.proofs.Common.{◌≡◌, ℕ, zero, suc, ◌<◌, ◌⊎◌, List, [], ◌∷◌, ◌++◌, length, ◌^◌, take, ◌-◌, Option, Some, None, refl, sym, ap, ◌∙◌, subst, inl, inr, arith, length-append}
+use Rattle.std.proofs.Common.{◌≡◌, ℕ, Bool, true, false, zero, suc, ◌<◌, ◌⊎◌, List, [], ◌∷◌, ◌++◌, length, ◌^◌, take, ◌-◌, Option, Some, None, refl, sym, ap, ◌∙◌, subst, inl, inr, arith, length-append}
 use Rattle.std.specs.Prelude.{◌↔◌, Any, IsSomeAnd, MatchOption, option_and_then, option_map, slice_get}
 use Rattle.std.specs.Global.{Box, Vec}
 use Rattle.std.specs.List.{AllZip}
-use Rattle.std.proofs.lemmas.Bool.{cases_lt}
+use Rattle.std.proofs.lemmas.Bool.{cases_lt, false≢true}
 use Rattle.std.proofs.lemmas.Option.{none-some, same_Some}
 use Rattle.std.proofs.lemmas.Slice.Zip.{AllZip-left}
 use Rattle.cmap_values.specs.CodeLengths.{length_of}
-use Rattle.cmap_encode.specs.Codes.{IsBefore, IsWhole}
-use Rattle.cmap_encode.specs.FirstsSeen.{AreFirsts, Gives, IsCodeRun, IsFirstGiven, first_at}
+use Rattle.cmap_encode.specs.Codes.{IsBefore, IsWhole, code_bytes}
+use Rattle.cmap_encode.specs.GlyphCodesSeen.{AreGlyphCodes, codes_by_place}
+use Rattle.cmap_encode.specs.KeyCodesSeen.{Gives, IsCodeRun, IsFirstGiven, IsLastGiven, code_for}
 use Rattle.cmap_encode.specs.GatheredSeen.{AddsAllGlyphs, AddsCids, AddsGlyphs, AreGathered, GivesCharacter}
 use Rattle.cmap_encode.specs.Glyphs.{glyph_by}
 use Rattle.cmap_encode.specs.IndexSeen.{AreFirstsOf, IsIndexOf, first_in, own_after, own_at, own_in}
 use Rattle.cmap_encode.specs.Maps.{Maps, Unicode}
 use Rattle.cmap_encode.specs.Ranks.{Candidate, IsFirstAmong, IsNoLater, as_ranked, candidate_of, place_of}
 use Rattle.cmap_encode.specs.RunsSeen.{AreRunsByPrefix, GivesText, items_of, number_of, runs_of}
-use Rattle.cmap_encode.specs.StandsFor.{HasGlyph, IsCanonical, IsSilent, StandsFor}
-use Rattle.cmap_encode.specs.declared.firsts.CodeRun.{CodeRun}
+use Rattle.cmap_encode.specs.Strings.{IsNotAfter}
+use Rattle.cmap_encode.specs.StandsFor.{HasGlyph, IsOfGlyph, IsSilent, StandsFor, reads_other}
+use Rattle.cmap_encode.specs.declared.glyph_codes.GlyphCodes.{GlyphCodes}
+use Rattle.cmap_encode.specs.declared.key_codes.CodeRun.{CodeRun}
 use Rattle.cmap_encode.specs.declared.gathered.Gathered.{Gathered}
 use Rattle.cmap_encode.specs.declared.index.Index.{Index}
 use Rattle.cmap_encode.specs.declared.rank.Rank.{Rank}
@@ -107,29 +110,43 @@ module _ (all : RunsByPrefix) (firsts : Vec (Option (Box (List CodeRun)))) (are 
       ]
 
 -- ---- the codes that stand for a text
-module _ (maps : Maps) (gathered : Gathered) (new last : RunsByPrefix) (firsts : List CodeRun) (all : AreGathered maps 5 0 gathered) (are : AreFirsts gathered.cids.items firsts) (adds : AddsCids maps.font.collection firsts 0 (2 ^ 32) gathered.texts new)
-    (adds_last : AddsAllGlyphs maps firsts new last) where
+module _ (maps : Maps) (gathered : Gathered) (new last : RunsByPrefix) (glyphs : GlyphCodes) (all : AreGathered maps 5 0 gathered) (are : AreGlyphCodes gathered.cids.items glyphs) (adds : AddsCids maps.font.collection glyphs.firsts 0 (2 ^ 32) gathered.texts new)
+    (adds_last : AddsAllGlyphs maps glyphs new last) where
   short : (bytes : List ℕ) → IsWhole maps.font.encoding bytes → IsBefore 5 0 bytes
   short bytes whole = let few = (whole_length maps.font.encoding bytes whole).1 in inl (omega arith)
 
-  -- ---- the first code of a glyph
+  -- ---- the first code of a glyph, and the last
+  silent_one : (cid : ℕ) (rank : Rank) (found : Ranked) (candidate : Candidate) → as_ranked rank found ≡ candidate → Any (Gives cid (candidate_of found)) gathered.cids.items → (candidate.rank ≡ rank) × IsSilent maps cid candidate.bytes
+  silent_one cid rank found candidate same among =
+      let (before, (its, silent)) = (all.silent cid (candidate_of found)).0 among in
+      (ap (λ (c : Candidate). c.rank) (sym same), subst (λ (c : Candidate). IsSilent maps cid c.bytes) same silent)
+
+  given_silent : (cid : ℕ) (bytes : List ℕ) → IsSilent maps cid bytes → Any (Gives cid (record { bytes = bytes; rank = Collection })) gathered.cids.items
+  given_silent cid bytes silent = (all.silent cid (record { bytes = bytes; rank = Collection })).1 (short bytes silent.whole, (refl, silent))
+
   first_silent : (cid : ℕ) (rank : Rank) (first : Option Ranked) (candidate : Candidate) → option_map (as_ranked rank) first ≡ Some candidate → IsFirstGiven gathered.cids.items cid (option_map candidate_of first) → (candidate.rank ≡ rank) × IsSilent maps cid candidate.bytes
   first_silent cid rank None candidate given is = absurd (none-some candidate given)
-  first_silent cid rank (Some first) candidate given (among, least) =
-      let same : as_ranked rank first ≡ candidate = same_Some (as_ranked rank first) candidate given in
-      let (before, (its, silent)) = (all.silent cid (candidate_of first)).0 among in
-      (ap (λ (c : Candidate). c.rank) (sym same), subst (λ (c : Candidate). IsSilent maps cid c.bytes) same silent)
+  first_silent cid rank (Some first) candidate given (among, least) = silent_one cid rank first candidate (same_Some (as_ranked rank first) candidate given) among
+
+  -- no silent code of the glyph comes after the last one
+  last_silent : (cid : ℕ) (rank : Rank) (last : Option Ranked) (candidate : Candidate) → option_map (as_ranked rank) last ≡ Some candidate → IsLastGiven gathered.cids.items cid (option_map candidate_of last)
+      → (candidate.rank ≡ rank) × IsSilent maps cid candidate.bytes × ((other : List ℕ) → IsSilent maps cid other → IsNotAfter other candidate.bytes)
+  last_silent cid rank None candidate given is = absurd (none-some candidate given)
+  last_silent cid rank (Some last) candidate given (among, greatest) =
+      let same : as_ranked rank last ≡ candidate = same_Some (as_ranked rank last) candidate given in
+      let (its, silent) = silent_one cid rank last candidate same among in
+      (its, silent, λ other is. subst (λ (c : Candidate). IsNotAfter other c.bytes) same (greatest (record { bytes = other; rank = Collection }) (given_silent cid other is)))
 
   key_below : (cid : ℕ) (candidate : Candidate) → Any (Gives cid candidate) gathered.cids.items → cid < 2 ^ 32
   key_below cid candidate (k, run, within, at, (from, to, is)) = let keys = (subst IsCodeRun at (all.cids k run within)).keys in omega arith
 
   -- it comes no later than another code of the glyph
-  first_before : (cid : ℕ) (bytes : List ℕ) (rank : Rank) → IsSilent maps cid bytes → (found : Option Ranked) → first_at firsts cid ≡ found → IsFirstGiven gathered.cids.items cid (option_map candidate_of found)
-      → (first : Candidate) × (option_map (as_ranked rank) (first_at firsts cid) ≡ Some first) × IsNoLater first (record { bytes = bytes; rank = rank }) × (cid < 2 ^ 32)
-  first_before cid bytes rank silent None at none = absurd (none (record { bytes = bytes; rank = Collection }) ((all.silent cid (record { bytes = bytes; rank = Collection })).1 (short bytes silent.whole, (refl, silent))))
+  first_before : (cid : ℕ) (bytes : List ℕ) (rank : Rank) → IsSilent maps cid bytes → (found : Option Ranked) → code_for glyphs.firsts cid ≡ found → IsFirstGiven gathered.cids.items cid (option_map candidate_of found)
+      → (first : Candidate) × (option_map (as_ranked rank) (code_for glyphs.firsts cid) ≡ Some first) × IsNoLater first (record { bytes = bytes; rank = rank }) × (cid < 2 ^ 32)
+  first_before cid bytes rank silent None at none = absurd (none (record { bytes = bytes; rank = Collection }) (given_silent cid bytes silent))
   first_before cid bytes rank silent (Some first) at (among, least) =
       let candidate : Candidate = record { bytes = bytes; rank = Collection } in
-      let given = (all.silent cid candidate).1 (short bytes silent.whole, (refl, silent)) in
+      let given = given_silent cid bytes silent in
       let (before, (its, is)) = (all.silent cid (candidate_of first)).0 among in
       (as_ranked rank first, ap (option_map (as_ranked rank)) at, other_rank first bytes rank its (least candidate given), key_below cid candidate given)
     where
@@ -137,14 +154,22 @@ module _ (maps : Maps) (gathered : Gathered) (new last : RunsByPrefix) (firsts :
       other_rank first bytes rank its (inl less) = absurd (omega (arith, ap place_of its))
       other_rank first bytes rank its (inr (same, earlier)) = inr (refl, earlier)
 
+  -- the last one comes no later than a code after which no silent code of the glyph comes
+  last_before : (cid : ℕ) (bytes : List ℕ) (rank : Rank) → IsSilent maps cid bytes → ((other : List ℕ) → IsSilent maps cid other → IsNotAfter other bytes) → (found : Option Ranked) → code_for glyphs.lasts cid ≡ found → IsLastGiven gathered.cids.items cid (option_map candidate_of found)
+      → (last : Candidate) × (option_map (as_ranked rank) (code_for glyphs.lasts cid) ≡ Some last) × IsNoLater last (record { bytes = bytes; rank = rank })
+  last_before cid bytes rank silent is_last None at none = absurd (none (record { bytes = bytes; rank = Collection }) (given_silent cid bytes silent))
+  last_before cid bytes rank silent is_last (Some last) at (among, greatest) =
+      let (its, is) = silent_one cid rank last (as_ranked rank last) refl among in
+      (as_ranked rank last, ap (option_map (as_ranked rank)) at, inr (refl, is_last (code_bytes last.code) is))
+
   -- ---- by the map from Unicode
   abbrev GivenByUnicode : List ℕ → Candidate → Type 0
-  GivenByUnicode text candidate = (unicode : Unicode) × (maps.unicode ≡ Some unicode) × GivesCharacter maps unicode firsts 0 0x110000 text candidate
+  GivenByUnicode text candidate = (unicode : Unicode) × (maps.unicode ≡ Some unicode) × GivesCharacter maps unicode glyphs 0 0x110000 text candidate
 
   last_adds : (text : List ℕ) (candidate : Candidate) → GivesText last text candidate ↔ (GivesText new text candidate ⊎ GivenByUnicode text candidate)
   last_adds text candidate = by_unicode maps.unicode refl adds_last
     where
-      by_unicode : (found : Option Unicode) → maps.unicode ≡ found → MatchOption found (last ≡ new) (λ unicode. AddsGlyphs maps unicode firsts 0 0x110000 new last) → GivesText last text candidate ↔ (GivesText new text candidate ⊎ GivenByUnicode text candidate)
+      by_unicode : (found : Option Unicode) → maps.unicode ≡ found → MatchOption found (last ≡ new) (λ unicode. AddsGlyphs maps unicode glyphs 0 0x110000 new last) → GivesText last text candidate ↔ (GivesText new text candidate ⊎ GivenByUnicode text candidate)
       by_unicode None is same = (
         λ given. inl (subst (λ texts. GivesText texts text candidate) same given),
         λ either. elim either [ inl given ↦ subst (λ texts. GivesText texts text candidate) (sym same) given | inr (unicode, some, given) ↦ absurd (none-some unicode (sym is ∙ some)) ],
@@ -154,21 +179,27 @@ module _ (maps : Maps) (gathered : Gathered) (new last : RunsByPrefix) (firsts :
         λ either.
             elim either [
               | inl before ↦ (added text candidate).1 (inl before)
-              | inr (its, some, character) ↦ (added text candidate).1 (inr (subst (λ u. GivesCharacter maps u firsts 0 0x110000 text candidate) (same_Some its unicode (sym some ∙ is)) character))
+              | inr (its, some, character) ↦ (added text candidate).1 (inr (subst (λ u. GivesCharacter maps u glyphs 0 0x110000 text candidate) (same_Some its unicode (sym some ∙ is)) character))
             ],
       )
 
   sound_unicode : (text : List ℕ) (candidate : Candidate) → GivenByUnicode text candidate → StandsFor maps text candidate.bytes candidate.rank
   sound_unicode text candidate (unicode, some, given) =
       elim given.chosen [
-        | inl chosen ↦
-            let (rank, silent) = first_silent given.cid Canonical (first_at firsts given.cid) candidate chosen (are given.cid) in
-            subst (StandsFor maps text candidate.bytes) (sym rank) (canonical silent)
-        | inr (rank, silent, code) ↦ subst (StandsFor maps text candidate.bytes) (sym rank) (record { canonical = canonical silent; is_code = code })
+        | inl chosen ↦ by_place (reads_other maps given.character given.cid) refl chosen
+        | inr (rank, silent, code) ↦ subst (StandsFor maps text candidate.bytes) (sym rank) (record { of_glyph = of_glyph silent; is_code = code })
       ]
     where
-      canonical : IsSilent maps given.cid candidate.bytes → IsCanonical maps text candidate.bytes
-      canonical silent = record { unicode = unicode; has = some; character = given.character; is_text = given.is_text; cid = given.cid; glyph = given.glyph; silent = silent }
+      of_glyph : IsSilent maps given.cid candidate.bytes → IsOfGlyph maps text candidate.bytes
+      of_glyph silent = record { unicode = unicode; has = some; character = given.character; is_text = given.is_text; cid = given.cid; glyph = given.glyph; silent = silent }
+
+      by_place : (other : Bool) → reads_other maps given.character given.cid ≡ other → option_map (as_ranked Canonical) (code_for (codes_by_place glyphs other) given.cid) ≡ Some candidate → StandsFor maps text candidate.bytes candidate.rank
+      by_place true is chosen =
+          let (rank, silent, last) = last_silent given.cid Canonical (code_for glyphs.lasts given.cid) candidate chosen (are.lasts given.cid) in
+          subst (StandsFor maps text candidate.bytes) (sym rank) (record { of_glyph = of_glyph silent; last = λ other. last })
+      by_place false is chosen =
+          let (rank, silent) = first_silent given.cid Canonical (code_for glyphs.firsts given.cid) candidate chosen (are.firsts given.cid) in
+          subst (StandsFor maps text candidate.bytes) (sym rank) (record { of_glyph = of_glyph silent; last = λ other. absurd (false≢true (sym is ∙ other)) })
 
   -- ---- all that are given stand for the text
   sound_texts : (text : List ℕ) (candidate : Candidate) → GivesText last text candidate → StandsFor maps text candidate.bytes candidate.rank
@@ -178,7 +209,7 @@ module _ (maps : Maps) (gathered : Gathered) (new last : RunsByPrefix) (firsts :
             elim ((adds text candidate).0 before) [
               | inl stated ↦ let (limit, (rank, is)) = (all.stated text candidate).0 stated in subst (StandsFor maps text candidate.bytes) (sym rank) is
               | inr found ↦
-                  let (rank, silent) = first_silent found.cid Collection (first_at firsts found.cid) candidate found.given (are found.cid) in
+                  let (rank, silent) = first_silent found.cid Collection (code_for glyphs.firsts found.cid) candidate found.given (are.firsts found.cid) in
                   subst (StandsFor maps text candidate.bytes) (sym rank) (record { cid = found.cid; silent = silent; has = found.has })
             ]
         | inr by_unicode ↦ sound_unicode text candidate by_unicode
@@ -197,31 +228,37 @@ module _ (maps : Maps) (gathered : Gathered) (new last : RunsByPrefix) (firsts :
       let candidate : Candidate = record { bytes = bytes; rank = Stated } in
       (candidate, (last_adds text candidate).1 (inl ((adds text candidate).1 (inl ((all.stated text candidate).1 (short bytes is.whole, (refl, is)))))), no_later_itself candidate)
   first_text text bytes OwnForm is =
-      let candidate : Candidate = record { bytes = bytes; rank = OwnForm } in let canonical = is.canonical in
-      let given : GivesCharacter maps canonical.unicode firsts 0 0x110000 text candidate = record {
-        character = canonical.character;
+      let candidate : Candidate = record { bytes = bytes; rank = OwnForm } in let of_glyph = is.of_glyph in
+      let given : GivesCharacter maps of_glyph.unicode glyphs 0 0x110000 text candidate = record {
+        character = of_glyph.character;
         from = omega arith;
-        below = character_below canonical.unicode canonical.character canonical.cid canonical.glyph;
-        is_text = canonical.is_text;
-        cid = canonical.cid;
-        glyph = canonical.glyph;
-        chosen = inr (refl, canonical.silent, is.is_code);
+        below = character_below of_glyph.unicode of_glyph.character of_glyph.cid of_glyph.glyph;
+        is_text = of_glyph.is_text;
+        cid = of_glyph.cid;
+        glyph = of_glyph.glyph;
+        chosen = inr (refl, of_glyph.silent, is.is_code);
       } in
-      (candidate, (last_adds text candidate).1 (inr (canonical.unicode, canonical.has, given)), no_later_itself candidate)
+      (candidate, (last_adds text candidate).1 (inr (of_glyph.unicode, of_glyph.has, given)), no_later_itself candidate)
   first_text text bytes Canonical is =
-      let (first, chosen, earlier, below) = first_before is.cid bytes Canonical is.silent (first_at firsts is.cid) refl (are is.cid) in
-      let given : GivesCharacter maps is.unicode firsts 0 0x110000 text first = record {
-        character = is.character;
+      let of_glyph = is.of_glyph in
+      let (found, chosen, earlier) = by_place (reads_other maps of_glyph.character of_glyph.cid) refl in
+      let given : GivesCharacter maps of_glyph.unicode glyphs 0 0x110000 text found = record {
+        character = of_glyph.character;
         from = omega arith;
-        below = character_below is.unicode is.character is.cid is.glyph;
-        is_text = is.is_text;
-        cid = is.cid;
-        glyph = is.glyph;
+        below = character_below of_glyph.unicode of_glyph.character of_glyph.cid of_glyph.glyph;
+        is_text = of_glyph.is_text;
+        cid = of_glyph.cid;
+        glyph = of_glyph.glyph;
         chosen = inl chosen;
       } in
-      (first, (last_adds text first).1 (inr (is.unicode, is.has, given)), earlier)
+      (found, (last_adds text found).1 (inr (of_glyph.unicode, of_glyph.has, given)), earlier)
+    where
+      by_place : (other : Bool) → reads_other maps is.of_glyph.character is.of_glyph.cid ≡ other
+          → (found : Candidate) × (option_map (as_ranked Canonical) (code_for (codes_by_place glyphs other) is.of_glyph.cid) ≡ Some found) × IsNoLater found (record { bytes = bytes; rank = Canonical })
+      by_place true other = last_before is.of_glyph.cid bytes Canonical is.of_glyph.silent (is.last other) (code_for glyphs.lasts is.of_glyph.cid) refl (are.lasts is.of_glyph.cid)
+      by_place false other = let (first, chosen, earlier, below) = first_before is.of_glyph.cid bytes Canonical is.of_glyph.silent (code_for glyphs.firsts is.of_glyph.cid) refl (are.firsts is.of_glyph.cid) in (first, chosen, earlier)
   first_text text bytes Collection is =
-      let (first, chosen, earlier, below) = first_before is.cid bytes Collection is.silent (first_at firsts is.cid) refl (are is.cid) in
+      let (first, chosen, earlier, below) = first_before is.cid bytes Collection is.silent (code_for glyphs.firsts is.cid) refl (are.firsts is.cid) in
       (first, (last_adds text first).1 (inl ((adds text first).1 (inr (record { cid = is.cid; from = omega arith; below = below; given = chosen; has = is.has })))), earlier)
 
   pub texts_found : (index : Index) → ((text : List ℕ) → IsFirstAmong (GivesText last text) (option_map candidate_of (own_in index text))) → IsIndexOf maps index

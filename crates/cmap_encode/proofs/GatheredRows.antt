@@ -14,7 +14,7 @@ use Rattle.cmap_values.specs.BigEndian.{big_endian}
 use Rattle.cmap_values.specs.CodeLengths.{length_of}
 use Rattle.cmap_encode.specs.Codes.{IsBetween, IsWhole, code_bytes}
 use Rattle.cmap_encode.specs.Strings.{IsString}
-use Rattle.cmap_encode.specs.FirstsSeen.{Gives, IsCodeRun}
+use Rattle.cmap_encode.specs.KeyCodesSeen.{Gives, IsCodeRun}
 use Rattle.cmap_encode.specs.GatheredSeen.{AreGathered, AreJust, AreShown, HasNoTexts, HasTexts, HaveGlyphs, IsSilentOne, IsStatedOne}
 use Rattle.cmap_encode.specs.GlyphsSeen.{AreGlyphs, IsDeclaredSo, glyph_after}
 use Rattle.cmap_encode.specs.Maps.{Maps, glyph_of}
@@ -23,7 +23,7 @@ use Rattle.cmap_encode.specs.RunsSeen.{AddsTexts, AreRunsByPrefix, GivesText, Is
 use Rattle.cmap_encode.specs.StandsFor.{IsShown, IsSilent, IsStated}
 use Rattle.cmap_encode.specs.WholeSeen.{AreWhole}
 use Rattle.cmap_encode.specs.declared.code.Code.{Code}
-use Rattle.cmap_encode.specs.declared.firsts.CodeRun.{CodeRun}
+use Rattle.cmap_encode.specs.declared.key_codes.CodeRun.{CodeRun}
 use Rattle.cmap_encode.specs.declared.gathered.Gathered.{Gathered}
 use Rattle.cmap_encode.specs.declared.glyphs.Glyphs.{Glyphs}
 use Rattle.cmap_encode.specs.declared.glyphs.Glyphs.TheVariants.{CountOn, Missing, Undeclared}

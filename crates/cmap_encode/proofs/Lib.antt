@@ -9,7 +9,7 @@ pub mod WaysFollowed
 pub mod PrefixesFound
 pub mod CodesOutside
 pub mod LossyShown
-pub mod FirstsFound
+pub mod KeyCodesFound
 pub mod WholeCodes
 pub mod Gathering
 pub mod RunsNumbered

@@ -10,10 +10,10 @@ use Rattle.std.proofs.lemmas.Slice.Eq.{bytes_eq-Decides}
 use Rattle.cmap_tokens.specs.Texts.{Text, more, one}
 use Rattle.cmap_unicode.specs.Characters.{characters_of}
 use Rattle.cmap_unicode.specs.CountedTexts.{counted_on, text_after}
-use Rattle.cmap_encode.specs.FirstsSeen.{Gives}
+use Rattle.cmap_encode.specs.KeyCodesSeen.{Gives}
 use Rattle.cmap_encode.specs.Ranks.{Candidate, candidate_of, ranked_after}
 use Rattle.cmap_encode.specs.RunsSeen.{AddsTexts, GivesText, IsFurther, runs_of}
-use Rattle.cmap_encode.specs.declared.firsts.CodeRun.{CodeRun}
+use Rattle.cmap_encode.specs.declared.key_codes.CodeRun.{CodeRun}
 use Rattle.cmap_encode.specs.declared.rank.Ranked.{Ranked}
 use Rattle.cmap_encode.specs.declared.runs_by_prefix.RunsByPrefix.{RunsByPrefix}
 

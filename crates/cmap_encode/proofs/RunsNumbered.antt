@@ -7,7 +7,7 @@ use Rattle.std.proofs.lemmas.Bool.{cases_Bool, false≢true}
 use Rattle.std.proofs.lemmas.Option.{same_Some}
 use Rattle.std.proofs.lemmas.Slice.Eq.{bytes_eq-Decides}
 use Rattle.cmap_encode.specs.RunsSeen.{items_of}
-use Rattle.cmap_encode.specs.declared.firsts.CodeRun.{CodeRun}
+use Rattle.cmap_encode.specs.declared.key_codes.CodeRun.{CodeRun}
 use Rattle.cmap_encode.proofs.ListElements.{push_get, push_last, set_elsewhere, set_here}
 
 -- ---- numbers of prefixes

@@ -5,15 +5,17 @@ use Rattle.cmap_layers.specs.Layers.{Layer}
 use Rattle.cmap_unicode.specs.CountedTexts.{text_after}
 use Rattle.cmap_unicode.specs.TextsOfCodes.{text_in}
 use Rattle.cmap_encode.specs.Codes.{IsBefore, code_bytes}
-use Rattle.cmap_encode.specs.FirstsSeen.{Gives, IsCodeRun, first_at}
+use Rattle.cmap_encode.specs.GlyphCodesSeen.{codes_by_place}
+use Rattle.cmap_encode.specs.KeyCodesSeen.{Gives, IsCodeRun, code_for}
 use Rattle.cmap_encode.specs.Forms.{code_in}
 use Rattle.cmap_encode.specs.GlyphsSeen.{glyph_after}
 use Rattle.cmap_encode.specs.Maps.{Maps, Unicode, glyph_of}
 use Rattle.cmap_encode.specs.Ranks.{Candidate, as_ranked}
 use Rattle.cmap_encode.specs.RunsSeen.{AreRunsByPrefix, GivesText}
-use Rattle.cmap_encode.specs.StandsFor.{HasGlyph, HasText, IsShown, IsSilent, IsStated}
+use Rattle.cmap_encode.specs.StandsFor.{HasGlyph, HasText, IsShown, IsSilent, IsStated, reads_other}
 use Rattle.cmap_encode.specs.declared.code.Code.{Code}
-use Rattle.cmap_encode.specs.declared.firsts.CodeRun.{CodeRun}
+use Rattle.cmap_encode.specs.declared.key_codes.CodeRun.{CodeRun}
+use Rattle.cmap_encode.specs.declared.glyph_codes.GlyphCodes.{GlyphCodes}
 use Rattle.cmap_encode.specs.declared.gathered.Gathered.{Gathered}
 use Rattle.cmap_encode.specs.declared.glyphs.Glyphs.{Glyphs}
 use Rattle.cmap_encode.specs.declared.rank.Rank.TheVariants.{Canonical, Collection, OwnForm, Stated}
@@ -58,30 +60,30 @@ pub record GivesFirst (collection : Option (List Layer)) (firsts : List CodeRun)
   pub cid : ℕ
   pub from : first ≤ cid
   pub below : cid < limit
-  pub given : option_map (as_ranked Collection) (first_at firsts cid) ≡ Some candidate
+  pub given : option_map (as_ranked Collection) (code_for firsts cid) ≡ Some candidate
   pub has : HasText collection cid text
 
 -- the first codes of these CIDs are added
 abbrev pub AddsCids : Option (List Layer) → List CodeRun → ℕ → ℕ → RunsByPrefix → RunsByPrefix → Type 0
 AddsCids collection firsts first limit old new = (text : List ℕ) (candidate : Candidate) → GivesText new text candidate ↔ (GivesText old text candidate ⊎ GivesFirst collection firsts first limit text candidate)
 
--- a code for a character, from a first one on and below a limit, by its glyph: the first code of the glyph, or the code of the character in the form of the map from Unicode
-pub record GivesCharacter (maps : Maps) (unicode : Unicode) (firsts : List CodeRun) (first limit : ℕ) (text : List ℕ) (candidate : Candidate) : Type 0 where
+-- a code for a character, from a first one on and below a limit, by its glyph: the first code of the glyph, or the last one where the collection's map reads it as another character, or the code of the character in the form of the map from Unicode
+pub record GivesCharacter (maps : Maps) (unicode : Unicode) (glyphs : GlyphCodes) (first limit : ℕ) (text : List ℕ) (candidate : Candidate) : Type 0 where
   pub character : ℕ
   pub from : first ≤ character
   pub below : character < limit
   pub is_text : text ≡ character ∷ []
   pub cid : ℕ
   pub glyph : HasGlyph maps unicode character cid
-  pub chosen : (option_map (as_ranked Canonical) (first_at firsts cid) ≡ Some candidate) ⊎ ((candidate.rank ≡ OwnForm) × IsSilent maps cid candidate.bytes × (option_map code_bytes (code_in unicode.form character) ≡ Some candidate.bytes))
+  pub chosen : (option_map (as_ranked Canonical) (code_for (codes_by_place glyphs (reads_other maps character cid)) cid) ≡ Some candidate) ⊎ ((candidate.rank ≡ OwnForm) × IsSilent maps cid candidate.bytes × (option_map code_bytes (code_in unicode.form character) ≡ Some candidate.bytes))
 
 -- the codes for these characters are added
-abbrev pub AddsGlyphs : Maps → Unicode → List CodeRun → ℕ → ℕ → RunsByPrefix → RunsByPrefix → Type 0
-AddsGlyphs maps unicode firsts first limit old new = (text : List ℕ) (candidate : Candidate) → GivesText new text candidate ↔ (GivesText old text candidate ⊎ GivesCharacter maps unicode firsts first limit text candidate)
+abbrev pub AddsGlyphs : Maps → Unicode → GlyphCodes → ℕ → ℕ → RunsByPrefix → RunsByPrefix → Type 0
+AddsGlyphs maps unicode glyphs first limit old new = (text : List ℕ) (candidate : Candidate) → GivesText new text candidate ↔ (GivesText old text candidate ⊎ GivesCharacter maps unicode glyphs first limit text candidate)
 
 -- for all characters, if there is a map from Unicode
-abbrev pub AddsAllGlyphs : Maps → List CodeRun → RunsByPrefix → RunsByPrefix → Type 0
-AddsAllGlyphs maps firsts old new = MatchOption maps.unicode (new ≡ old) (λ unicode. AddsGlyphs maps unicode firsts 0 0x110000 old new)
+abbrev pub AddsAllGlyphs : Maps → GlyphCodes → RunsByPrefix → RunsByPrefix → Type 0
+AddsAllGlyphs maps glyphs old new = MatchOption maps.unicode (new ≡ old) (λ unicode. AddsGlyphs maps unicode glyphs 0 0x110000 old new)
 
 -- of a code in a form: the code itself, where its glyph is this one
 abbrev pub IsOwnFormOf : Code → Option ℕ → ℕ → Option Ranked → Type 0

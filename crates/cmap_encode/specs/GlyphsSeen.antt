@@ -6,7 +6,7 @@ use Rattle.cmap_unicode.specs.Given.{Given}
 use Rattle.cmap_encode.specs.Strings.{IsString}
 use Rattle.cmap_encode.specs.Forms.{HaveCodes}
 use Rattle.cmap_encode.specs.Maps.{Maps}
-use Rattle.cmap_encode.specs.StandsFor.{IsSilent}
+use Rattle.cmap_encode.specs.StandsFor.{IsSilent, reads_other}
 use Rattle.cmap_encode.specs.declared.by_character.GlyphRow.{GlyphRow}
 use Rattle.cmap_encode.specs.declared.code.Code.{Code}
 use Rattle.cmap_encode.specs.declared.forms.Form.{Form}
@@ -52,3 +52,7 @@ pub record AreOfCharacters (form : Form) (Has : ℕ → ℕ → Type 0) (first :
   pub codes : HaveCodes form first (first + row.more) row.code
   pub fits : IfSome row.code (λ code. code.number + row.more < 256 ^ length_of code.len)
   pub glyphs : (count cid : ℕ) → count ≤ row.more → Has (first + count) cid ↔ (option_map (λ glyph. glyph + count) row.cid ≡ Some cid)
+
+-- the collection's map reads the glyphs of characters in a row as other characters, or none so
+abbrev pub AreReadSo : Maps → ℕ → GlyphRow → Type 0
+AreReadSo maps first row = (count cid : ℕ) → count ≤ row.more → option_map (λ glyph. glyph + count) row.cid ≡ Some cid → reads_other maps (first + count) cid ≡ row.reads_other

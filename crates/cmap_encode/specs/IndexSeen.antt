@@ -1,11 +1,11 @@
 -- Private aid: what an index has for each text.
 use Rattle.std.specs.Prelude.{◌≡◌, ℕ, ◌-◌, List, [], length, take, Option, MatchOption, option_and_then, slice_get}
 use Rattle.std.specs.Global.{Box}
-use Rattle.cmap_encode.specs.FirstsSeen.{AreFirsts, first_at}
+use Rattle.cmap_encode.specs.KeyCodesSeen.{AreFirsts, code_for}
 use Rattle.cmap_encode.specs.Maps.{Maps}
 use Rattle.cmap_encode.specs.StandsFor.{IsOwn}
 use Rattle.cmap_encode.specs.TreeSeen.{node_of}
-use Rattle.cmap_encode.specs.declared.firsts.CodeRun.{CodeRun}
+use Rattle.cmap_encode.specs.declared.key_codes.CodeRun.{CodeRun}
 use Rattle.cmap_encode.specs.declared.index.Index.{Index}
 use Rattle.cmap_encode.specs.declared.rank.Ranked.{Ranked}
 
@@ -15,7 +15,7 @@ AreFirstsOf runs found = MatchOption found (runs ≡ []) (λ firsts. AreFirsts r
 
 -- the code of a key
 abbrev pub first_in : Option (Box (List CodeRun)) → ℕ → Option Ranked
-first_in found key = option_and_then (λ firsts. first_at firsts.value key) found
+first_in found key = option_and_then (λ firsts. code_for firsts.value key) found
 
 -- the code that it has for the text of a node and a last character
 abbrev pub own_at : Index → Option ℕ → ℕ → Option Ranked

@@ -30,11 +30,15 @@ place_of Collection = 3
 abbrev pub IsNoLater : Candidate → Candidate → Type 0
 IsNoLater candidate other = (place_of candidate.rank < place_of other.rank) ⊎ ((place_of candidate.rank ≡ place_of other.rank) × IsNotAfter candidate.bytes other.bytes)
 
--- of these candidates, it comes first; or there are none
-abbrev pub IsFirstAmong : (Candidate → Type 0) → Option Candidate → Type 0
-IsFirstAmong Among found = MatchOption found
+-- of these candidates, it comes before each; or there are none
+abbrev pub IsFirstBy : (Candidate → Candidate → Type 0) → (Candidate → Type 0) → Option Candidate → Type 0
+IsFirstBy IsBefore Among found = MatchOption found
     ((candidate : Candidate) → Among candidate → ⊥)
-    (λ first. Among first × ((other : Candidate) → Among other → IsNoLater first other))
+    (λ first. Among first × ((other : Candidate) → Among other → IsBefore first other))
+
+-- by rank, then by bytes
+abbrev pub IsFirstAmong : (Candidate → Type 0) → Option Candidate → Type 0
+IsFirstAmong Among found = IsFirstBy IsNoLater Among found
 
 -- the code that comes count codes after this one
 abbrev pub code_after : ℕ → Code → Code

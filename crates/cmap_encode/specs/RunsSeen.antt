@@ -4,10 +4,10 @@ use Rattle.std.specs.Global.{Vec}
 use Rattle.cmap_tokens.specs.Texts.{Text, one}
 use Rattle.cmap_unicode.specs.Characters.{characters_of}
 use Rattle.cmap_unicode.specs.CountedTexts.{text_after}
-use Rattle.cmap_encode.specs.FirstsSeen.{Gives, IsCodeRun}
+use Rattle.cmap_encode.specs.KeyCodesSeen.{Gives, IsCodeRun}
 use Rattle.cmap_encode.specs.Ranks.{Candidate, candidate_of, ranked_after}
 use Rattle.cmap_encode.specs.TreeSeen.{node_of, step_of}
-use Rattle.cmap_encode.specs.declared.firsts.CodeRun.{CodeRun}
+use Rattle.cmap_encode.specs.declared.key_codes.CodeRun.{CodeRun}
 use Rattle.cmap_encode.specs.declared.rank.Ranked.{Ranked}
 use Rattle.cmap_encode.specs.declared.runs_by_prefix.RunsByPrefix.{RunsByPrefix}
 

@@ -1,13 +1,13 @@
 -- The codes that stand for a text, by rank, and the first of them.
-use Rattle.std.specs.Prelude.{◌≡◌, ℕ, ◌⊎◌, List, [], ◌∷◌, length, Option, None, Some, IsSome, IsTrue, option_map}
-use Rattle.cmap_tokens.specs.Texts.{Text, one}
+use Rattle.std.specs.Prelude.{◌≡◌, ℕ, ◌==◌, ◌⊎◌, Bool, false, not, List, [], ◌∷◌, length, Option, None, Some, IsSome, IsTrue, option_and_then, option_map}
+use Rattle.cmap_tokens.specs.Texts.{Text, more, one}
 use Rattle.cmap_values.specs.BigEndian.{big_endian}
 use Rattle.cmap_layers.specs.Layers.{Layer}
 use Rattle.cmap_unicode.specs.Characters.{characters_of}
 use Rattle.cmap_unicode.specs.Given.{given}
 use Rattle.cmap_unicode.specs.TextsOfCodes.{text_in}
 use Rattle.cmap_encode.specs.Codes.{IsWhole, code_bytes}
-use Rattle.cmap_encode.specs.Strings.{IsString}
+use Rattle.cmap_encode.specs.Strings.{IsNotAfter, IsString}
 use Rattle.cmap_encode.specs.Forms.{code_in}
 use Rattle.cmap_encode.specs.Maps.{Maps, Unicode, glyph_of, glyph_of_character}
 use Rattle.cmap_encode.specs.Ranks.{IsFirstAmong, candidate_of}
@@ -44,8 +44,21 @@ pub record HasGlyph (maps : Maps) (unicode : Unicode) (character cid : ℕ) : Ty
   pub glyph : glyph_of_character unicode character ≡ Some cid
   pub exact : IsTrue maps.exact → text_in maps.font.collection cid ≡ Some (one character)
 
+-- a text that is just one character
+abbrev pub only_one : Text → Option ℕ
+only_one (one character) = Some character
+only_one (more characters) = None
+
+abbrev pub is_other : ℕ → Option ℕ → Bool
+is_other character None = false
+is_other character (Some read) = not (read == character)
+
+-- the collection's map reads the glyph as another character
+abbrev pub reads_other : Maps → ℕ → ℕ → Bool
+reads_other maps character cid = is_other character (option_and_then only_one (text_in maps.font.collection cid))
+
 -- the text is one character, and the map from Unicode gives it the glyph of the code
-pub record IsCanonical (maps : Maps) (text bytes : List ℕ) : Type 0 where
+pub record IsOfGlyph (maps : Maps) (text bytes : List ℕ) : Type 0 where
   pub unicode : Unicode
   pub has : maps.unicode ≡ Some unicode
   pub character : ℕ
@@ -56,8 +69,13 @@ pub record IsCanonical (maps : Maps) (text bytes : List ℕ) : Type 0 where
 
 -- and the code is that of the character in the form of the map
 pub record IsOwnForm (maps : Maps) (text bytes : List ℕ) : Type 0 where
-  pub canonical : IsCanonical maps text bytes
-  pub is_code : option_map code_bytes (code_in canonical.unicode.form canonical.character) ≡ Some bytes
+  pub of_glyph : IsOfGlyph maps text bytes
+  pub is_code : option_map code_bytes (code_in of_glyph.unicode.form of_glyph.character) ≡ Some bytes
+
+-- or, where the collection's map reads the glyph as another character, it is the last code of the glyph: the first is that character's
+pub record IsCanonical (maps : Maps) (text bytes : List ℕ) : Type 0 where
+  pub of_glyph : IsOfGlyph maps text bytes
+  pub last : IsTrue (reads_other maps of_glyph.character of_glyph.cid) → (other : List ℕ) → IsSilent maps of_glyph.cid other → IsNotAfter other bytes
 
 -- it has none, and the collection's map has the text for the glyph of the code
 pub record IsCollected (maps : Maps) (text bytes : List ℕ) : Type 0 where

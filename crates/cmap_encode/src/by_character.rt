@@ -1,17 +1,16 @@
 //! The codes of characters, by the glyphs that a map from Unicode gives these.
 
-ghost use Rattle.std.specs.Prelude.{◌≡◌, ◌↔◌, ◌+◌, ◌<◌, ◌≤◌, ℕ, IfOk, OnOk, IsTrue, Some, option_map};
-ghost use Rattle.cmap_tokens.specs.Texts.{one};
+ghost use Rattle.std.specs.Prelude.{◌≡◌, ◌↔◌, ◌+◌, ◌<◌, ◌≤◌, ℕ, IfOk, IsTrue, OnOk, Some, option_and_then, option_map};
 ghost use Rattle.cmap_tokens.specs.TextSeen.{text_seen};
 ghost use Rattle.cmap_encode.specs.GatheredSeen.{AddsAllGlyphs, AddsGlyphs, IsOwnFormOf};
-ghost use Rattle.cmap_encode.specs.GlyphsSeen.{AreOfCharacters, glyph_after};
+ghost use Rattle.cmap_encode.specs.GlyphsSeen.{AreOfCharacters, AreReadSo, glyph_after};
 ghost use Rattle.cmap_encode.specs.Maps.{glyph_of_character, maps_seen, unicode_seen};
 ghost use Rattle.cmap_encode.specs.RunsSeen.{AreRunsByPrefix};
-ghost use Rattle.cmap_encode.specs.StandsFor.{HasGlyph};
+ghost use Rattle.cmap_encode.specs.StandsFor.{HasGlyph, is_other, only_one};
 
 use crate::code::Code;
-use crate::firsts::Firsts;
 use crate::forms::LAST_CHARACTER;
+use crate::glyph_codes::GlyphCodes;
 use crate::glyphs::{Glyphs, glyph_stretch};
 use crate::maps::{Maps, Unicode};
 use crate::rank::{Rank, Ranked};
@@ -29,28 +28,31 @@ pub(crate) struct GlyphRow {
     pub(crate) code: Option<Code>,
     /// Its glyph.
     pub(crate) cid: Option<Cid>,
+    /// Whether the collection's map reads the glyph of each as another character.
+    pub(crate) reads_other: bool,
     /// How many characters come after the first.
     pub(crate) more: u32,
 }
 
 /// Adds the codes of characters by the map from Unicode, if there is one: for each character the first code
-/// of its glyph, and its code in the form of the map, if that has the same glyph in the font.
+/// of its glyph, or the last one where the collection's map reads the glyph as another character; and its
+/// code in the form of the map, if that has the same glyph in the font.
 pub(crate) fn add_characters(
     alloc: Global,
     texts: &mut RunsByPrefix,
     maps: &Maps<'_>,
-    cids: &Firsts,
+    glyphs: &GlyphCodes,
 ) -> Result<(), AllocError>
     requires { AreRunsByPrefix texts.old }
     ensures are { OnOk result (AreRunsByPrefix texts.new) }
-    ensures adds { OnOk result (AddsAllGlyphs (maps_seen maps.now) cids.now texts.old texts.new) }
+    ensures adds { OnOk result (AddsAllGlyphs (maps_seen maps.now) glyphs.now texts.old texts.new) }
 {
     let Some(unicode) = &maps.unicode else {
         return Ok(());
     };
     let mut next = 0;
     while next <= LAST_CHARACTER {
-        next = add_row(alloc, texts, maps, unicode, cids, next)?;
+        next = add_row(alloc, texts, maps, unicode, glyphs, next)?;
     }
     Ok(())
 }
@@ -62,7 +64,7 @@ fn add_row(
     texts: &mut RunsByPrefix,
     maps: &Maps<'_>,
     unicode: &Unicode<'_>,
-    cids: &Firsts,
+    glyphs: &GlyphCodes,
     first: u32,
 ) -> Result<u32, AllocError>
     requires are { AreRunsByPrefix texts.old }
@@ -70,7 +72,7 @@ fn add_row(
     ensures more { IfOk result (λ next. (first < next) × (next ≤ LAST_CHARACTER + 1)) }
     ensures are { OnOk result (AreRunsByPrefix texts.new) }
     ensures adds { IfOk result (λ next. AddsGlyphs (maps_seen maps.now) (unicode_seen unicode.now)
-        cids.now first next texts.old texts.new) }
+        glyphs.now first next texts.old texts.new) }
 {
     let row = read_back(alloc, maps, unicode, first, glyph_row(unicode, first))?;
     let Some(code) = row.code else {
@@ -79,7 +81,7 @@ fn add_row(
     let Some(cid) = row.cid else {
         return Ok(first + row.more + 1);
     };
-    let own = cids.stretch(cid);
+    let own = glyphs.by_place(row.reads_other).stretch(cid);
     let silent = silent_stretch(alloc, maps, code)?;
     let more = row.more.min(own.last - cid).min(silent.last - code.number);
     texts.add_characters(alloc, first, canonical(own.first), more)?;
@@ -122,6 +124,7 @@ fn glyph_row(unicode: &Unicode<'_>, first: u32) -> GlyphRow
         return GlyphRow {
             code: None,
             cid: None,
+            reads_other: false,
             more: row.last - first,
         };
     };
@@ -129,6 +132,7 @@ fn glyph_row(unicode: &Unicode<'_>, first: u32) -> GlyphRow
     GlyphRow {
         code: row.code,
         cid: glyph_of(stretch.glyphs),
+        reads_other: false,
         more: (row.last - first).min(stretch.last - code.number),
     }
 }
@@ -143,8 +147,8 @@ fn glyph_of(glyphs: Glyphs) -> Option<Cid>
     }
 }
 
-/// The same characters as far as their glyphs all read back, or none does. If codes count that don't read
-/// back, all characters keep their glyphs.
+/// The same characters as far as the collection's map reads all their glyphs as themselves, as other
+/// characters, or neither. Where only codes count that read back, other characters have no glyphs.
 fn read_back(
     alloc: Global,
     maps: &Maps<'_>,
@@ -154,30 +158,51 @@ fn read_back(
 ) -> Result<GlyphRow, AllocError>
     requires { let from = unicode_seen unicode.now in
         AreOfCharacters from.form (λ c cid. glyph_of_character from c ≡ Some cid) first row }
-    ensures { let from = unicode_seen unicode.now in IfOk result
+    ensures of { let from = unicode_seen unicode.now in IfOk result
         (AreOfCharacters from.form (HasGlyph (maps_seen maps.now) from) first) }
+    ensures others { IfOk result (AreReadSo (maps_seen maps.now) first) }
 {
-    if !maps.exact {
-        return Ok(row);
-    }
     let Some(cid) = row.cid else {
         return Ok(row);
     };
     let texts = texts_in_row(alloc, maps.font.collection, cid)?;
-    let reads = is_character(&texts.text, first);
+    let read = only_character(&texts.text);
     Ok(GlyphRow {
         code: row.code,
-        cid: if reads { row.cid } else { None },
+        cid: if counts(maps.exact, read, first) {
+            row.cid
+        } else {
+            None
+        },
+        reads_other: is_other(first, read),
         more: row.more.min(texts.last - cid),
     })
 }
 
-/// Whether a text is just this character.
-fn is_character(text: &Option<BfString>, character: u32) -> bool
-    ensures { IsTrue result ↔ (option_map text_seen text.now ≡ Some (one character)) }
+/// Whether the glyph of a character counts, where the collection's map reads it so: where only codes count
+/// that read back, it reads it as the character.
+fn counts(exact: bool, read: Option<u32>, character: u32) -> bool
+    ensures { IsTrue result ↔ (IsTrue exact → read ≡ Some character) }
+{
+    !exact || read == Some(character)
+}
+
+/// Whether it is another character, as which a glyph is read.
+fn is_other(character: u32, read: Option<u32>) -> bool
+    ensures { result ≡ is_other character read }
+{
+    match read {
+        Some(other) => other != character,
+        None => false,
+    }
+}
+
+/// The character, where a text is just one.
+fn only_character(text: &Option<BfString>) -> Option<u32>
+    ensures { result ≡ option_and_then only_one (option_map text_seen text.now) }
 {
     match text {
-        Some(BfString::Char(only)) => u32::from(*only) == character,
-        _ => false,
+        Some(BfString::Char(only)) => Some(u32::from(*only)),
+        _ => None,
     }
 }

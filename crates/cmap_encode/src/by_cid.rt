@@ -5,7 +5,7 @@ ghost use Rattle.std.specs.Option.{option_copied};
 ghost use Rattle.cmap_encode.specs.GatheredSeen.{AddsCids};
 ghost use Rattle.cmap_encode.specs.RunsSeen.{AreRunsByPrefix};
 
-use crate::firsts::Firsts;
+use crate::key_codes::KeyCodes;
 use crate::rank::{Rank, Ranked};
 use crate::runs_by_prefix::RunsByPrefix;
 use cmap_layers::layers::Layers;
@@ -17,7 +17,7 @@ pub(crate) fn add_cids(
     alloc: Global,
     texts: &mut RunsByPrefix,
     collection: Option<&Layers>,
-    cids: &Firsts,
+    cids: &KeyCodes,
 ) -> Result<(), AllocError>
     requires { AreRunsByPrefix texts.old }
     ensures are { OnOk result (AreRunsByPrefix texts.new) }
@@ -37,7 +37,7 @@ fn add_row(
     alloc: Global,
     texts: &mut RunsByPrefix,
     collection: Option<&Layers>,
-    cids: &Firsts,
+    cids: &KeyCodes,
     first: u32,
 ) -> Result<u64, AllocError>
     requires { AreRunsByPrefix texts.old }

@@ -10,8 +10,8 @@ ghost use Rattle.cmap_encode.specs.GlyphsSeen.{Fit};
 ghost use Rattle.cmap_encode.specs.Maps.{maps_seen};
 
 use crate::code::Code;
-use crate::firsts::CodeRun;
 use crate::glyphs::{Glyphs, glyph_stretch};
+use crate::key_codes::CodeRun;
 use crate::maps::Maps;
 use crate::rank::{Rank, Ranked};
 use crate::runs_by_prefix::RunsByPrefix;

@@ -3,15 +3,16 @@
 ghost use Rattle.std.specs.Prelude.{◌≡◌, All, IfOk, option_and_then};
 ghost use Rattle.std.specs.List.{AllZip};
 ghost use Rattle.std.specs.Global.{Vec as List_of};
-ghost use Rattle.cmap_encode.specs.FirstsSeen.{IsCodeRun};
+ghost use Rattle.cmap_encode.specs.KeyCodesSeen.{IsCodeRun};
 ghost use Rattle.cmap_encode.specs.IndexSeen.{AreFirstsOf, IsIndexOf, own_at};
 ghost use Rattle.cmap_encode.specs.Maps.{maps_seen};
 ghost use Rattle.cmap_encode.specs.TreeSeen.{step_of};
 
 use crate::by_character::add_characters;
 use crate::by_cid::add_cids;
-use crate::firsts::{CodeRun, Firsts};
 use crate::gathered::Gathered;
+use crate::glyph_codes::GlyphCodes;
+use crate::key_codes::{CodeRun, KeyCodes};
 use crate::maps::Maps;
 use crate::rank::Ranked;
 use crate::tree::Tree;
@@ -24,7 +25,7 @@ pub(crate) struct Index {
     /// Prefixes, the characters of texts before the last one, as nodes.
     tree: Tree,
     /// The first code of each last character, for each node that a last character follows.
-    firsts: Vec<Option<Box<Firsts>>>,
+    firsts: Vec<Option<Box<KeyCodes>>>,
 }
 
 impl Index {
@@ -33,10 +34,10 @@ impl Index {
         ensures { IfOk result (IsIndexOf (maps_seen maps.now)) }
     {
         let gathered = Gathered::build(alloc, maps)?;
-        let cids = Firsts::build(alloc, gathered.cids)?;
+        let glyphs = GlyphCodes::build(alloc, gathered.cids)?;
         let mut texts = gathered.texts;
-        add_cids(alloc, &mut texts, maps.font.collection, &cids)?;
-        add_characters(alloc, &mut texts, maps, &cids)?;
+        add_cids(alloc, &mut texts, maps.font.collection, &glyphs.firsts)?;
+        add_characters(alloc, &mut texts, maps, &glyphs)?;
         Ok(Index {
             tree: texts.tree,
             firsts: firsts_of(alloc, texts.lists)?,
@@ -62,7 +63,7 @@ impl Index {
 fn firsts_of(
     alloc: Global,
     lists: Vec<Vec<CodeRun>>,
-) -> Result<Vec<Option<Box<Firsts>>>, AllocError>
+) -> Result<Vec<Option<Box<KeyCodes>>>, AllocError>
     requires { All (λ (list : List_of CodeRun). All IsCodeRun list.items) lists.items }
     ensures { IfOk result
         (λ all. AllZip (λ list. AreFirstsOf list.items) lists.items all.items) }
@@ -75,13 +76,13 @@ fn firsts_of(
 }
 
 /// The first code of each key, if there are runs.
-fn first_codes(alloc: Global, runs: Vec<CodeRun>) -> Result<Option<Box<Firsts>>, AllocError>
+fn first_codes(alloc: Global, runs: Vec<CodeRun>) -> Result<Option<Box<KeyCodes>>, AllocError>
     requires { All IsCodeRun runs.items }
     ensures { IfOk result (AreFirstsOf runs.items) }
 {
     if runs.is_empty() {
         return Ok(None);
     }
-    let firsts = Firsts::build(alloc, runs)?;
+    let firsts = KeyCodes::first(alloc, runs)?;
     Ok(Some(Box::new(alloc, firsts)?))
 }

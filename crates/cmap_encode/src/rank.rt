@@ -15,7 +15,8 @@ pub(crate) enum Rank {
     /// The map from Unicode has the glyph of the code for the character that is the text, and the code is
     /// that of the character in the form of this map.
     OwnForm,
-    /// The map from Unicode has the glyph of the code for the character that is the text.
+    /// The map from Unicode has the glyph of the code for the character that is the text. Where the
+    /// collection's map reads the glyph as another character, it is the last code of the glyph.
     Canonical,
     /// The collection's map has the text for the CID of the code.
     Collection,

@@ -5,10 +5,10 @@ ghost use Rattle.std.specs.Str.{bytes_eq};
 ghost use Rattle.cmap_tokens.specs.TextSeen.{text_seen};
 ghost use Rattle.cmap_unicode.specs.Characters.{characters_of};
 ghost use Rattle.cmap_values.specs.CodeLengths.{length_of};
-ghost use Rattle.cmap_encode.specs.FirstsSeen.{IsCodeRun};
+ghost use Rattle.cmap_encode.specs.KeyCodesSeen.{IsCodeRun};
 ghost use Rattle.cmap_encode.specs.RunsSeen.{AddsCharacters, AddsTexts, AreRunsByPrefix, HasNoRuns, Numbers, number_of, runs_of};
 
-use crate::firsts::CodeRun;
+use crate::key_codes::CodeRun;
 use crate::rank::Ranked;
 use crate::tree::{EMPTY, Tree};
 use cmap_tokens::utf16::BfString;

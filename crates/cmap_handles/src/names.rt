@@ -1,6 +1,6 @@
 //! Names of files that go to C: their bytes one after another, and their lengths.
 
-ghost use Rattle.std.specs.Prelude.{◌≡◌, ◌++◌, IfOk, OnOk};
+ghost use Rattle.std.specs.Prelude.{◌≡◌, ◌++◌, ℕ, IfOk, MatchResult, take};
 ghost use Rattle.std.specs.List.{concat};
 ghost use Rattle.cmap_values.specs.NamesSeen.{names_seen};
 
@@ -16,10 +16,12 @@ pub fn joined(alloc: Global, names: &[&[u8]]) -> Result<Vec<u8>, AllocError>
     Ok(bytes)
 }
 
-/// Adds the names, one after another.
+/// Adds the names, one after another; the first of them, each whole, if memory runs out.
 pub fn push_names(bytes: &mut Vec<u8>, names: &[&[u8]]) -> Result<(), AllocError>
-    ensures { OnOk result
-        (bytes.new.items ≡ bytes.old.items ++ concat (names_seen names.now)) }
+    ensures { MatchResult result
+        (λ _. bytes.new.items ≡ bytes.old.items ++ concat (names_seen names.now))
+        (λ _. (count : ℕ)
+        × (bytes.new.items ≡ bytes.old.items ++ concat (names_seen (take count names.now)))) }
 {
     for name in names {
         bytes.extend_from_slice(name)?;

@@ -1,14 +1,16 @@
 //! Codes as ranges, each as long as can be.
 
-ghost use Rattle.std.specs.Prelude.{◌≡◌, ◌-◌, ◌<◌, ℕ, OnOk, length, slice_get, true};
+ghost use Rattle.std.specs.Prelude.{◌≡◌, ◌-◌, ◌<◌, ℕ, MatchResult, length, slice_get, true};
 ghost use Rattle.cmap_layers.specs.CodeRanges.{goes_on, joined};
 
 use cmap_values::range::Range;
 use std::alloc::AllocError;
 
-/// Adds a range at the end. Where it begins just after the last one, the two are one.
+/// Adds a range at the end. Where it begins just after the last one, the two are one. If memory runs out,
+/// the ranges stay as they were.
 pub fn add_range(ranges: &mut Vec<Range>, range: Range) -> Result<(), AllocError>
-    ensures { OnOk result (ranges.new.items ≡ joined ranges.old.items range) }
+    ensures { MatchResult result (λ _. ranges.new.items ≡ joined ranges.old.items range)
+        (λ _. ranges.new.items ≡ ranges.old.items) }
 {
     if is_continued_by(ranges, range.start) {
         let last = ranges.len() - 1;

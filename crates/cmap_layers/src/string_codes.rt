@@ -11,7 +11,6 @@ ghost use Rattle.cmap_layers.specs.StringCodes.{BeginsInside, IsNextCode, IsShor
 use crate::codespaces::{any_has_front, shortest};
 use crate::layer::Layer;
 use crate::layers::Layers;
-use cmap_values::code_length::read_code;
 
 /// The code that a string begins with. ISO 32000-1, 9.7.6.2.
 #[derive(Clone, Copy, Debug, PartialEq, Eq)]
@@ -47,7 +46,7 @@ impl Layers {
             None => {
                 let wanted = bytes_wanted(layers, text);
                 let byte_len = text.len().min(usize::from(wanted)) as u8;
-                let (_, code) = read_code(&text[..usize::from(byte_len)])?;
+                let code = code_of_prefix(text, byte_len)?;
                 (byte_len, code, wanted)
             }
         };
@@ -70,8 +69,25 @@ fn shortest_inside(layers: &[Layer], text: &[u8]) -> Option<(u8, u32)>
         × (found.1 ≡ front text.now found.0)) }
 {
     let byte_len = shortest(layers, text)?;
-    let (_, code) = read_code(&text[..usize::from(byte_len)])?;
+    let code = code_of_prefix(text, byte_len)?;
     Some((byte_len, code))
+}
+
+/// The number that the first `byte_len` bytes of a string write, the first one high; `None` unless these
+/// are one to four and the string has as many.
+#[inline(always)]
+fn code_of_prefix(text: &[u8], byte_len: u8) -> Option<u32>
+    ensures { MatchOption result (IsCodeLength byte_len → byte_len ≤ length text.now → ⊥)
+        (λ code. IsCodeLength byte_len × (byte_len ≤ length text.now) × (code ≡ front text.now byte_len)) }
+{
+    // Where a caller has found the length, the compiler leaves out these tests.
+    match (byte_len, text) {
+        (1, [a, ..]) => Some(u32::from(*a)),
+        (2, [a, b, ..]) => Some(u32::from_be_bytes([0, 0, *a, *b])),
+        (3, [a, b, c, ..]) => Some(u32::from_be_bytes([0, *a, *b, *c])),
+        (4, [a, b, c, d, ..]) => Some(u32::from_be_bytes([*a, *b, *c, *d])),
+        _ => None,
+    }
 }
 
 /// How many bytes a string wants for its code where it begins with none in a codespace range.

@@ -16,7 +16,7 @@ pub record HaveSymbols (tables : PrefixTables) : Type 0 where
   pub deltas : All (λ p. p.symbol < 2 ^ 32) tables.delta
   pub counts : All (λ p. p.symbol < 2 ^ 8) tables.count
 
--- the bytes of a file that the binary form can say, which keeps what the file says
+-- the bytes of a file in the binary form, which keeps what the file says
 pub record IsFileWritten (tables : PrefixTables) (file : File) (bytes : List ℕ) : Type 0 where
   pub encoded : IsEncodedFor tables file bytes
   pub written : IsWritten tables file bytes

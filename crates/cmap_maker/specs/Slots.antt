@@ -39,11 +39,11 @@ source_at (source ∷ sources) place = if is_index (index_of_name source.name) p
 abbrev pub IsTextBehind : List ℕ → List ℕ → Type 0
 IsTextBehind text bytes = (size : List ℕ) × (spaces : List ℕ) × (bytes ≡ (codes "% text" ++ size) ++ (10 ∷ (text ++ spaces))) × All (λ b. ends_comment b ≡ false) size × All (λ b. b ≡ 32) spaces × IsFramedFile bytes
 
--- the binary form can't say the file
+-- something stands in the way of the file in the binary form
 abbrev pub IsUnsayable : File → Type 0
 IsUnsayable file = (obstacle : Obstacle) × IsObstacle file obstacle
 
--- what stands in a bundle for a name: the file of its source in the binary form, just where this can say it, or else its text; without a source no file
+-- what stands in a bundle for a name: the file of its source in the binary form, just where nothing stands in its way, or else its text; without a source no file
 abbrev pub IsFileFor : PrefixTables → Option Source → List ℕ → Type 0
 IsFileFor tables None bytes = bytes ≡ no_file_bytes
 IsFileFor tables (Some source) bytes = IsFileWritten tables (file_seen source.file.now) bytes ⊎ (IsUnsayable (file_seen source.file.now) × ((text : Bor (List ℕ)) × (source.text ≡ Some text) × IsTextBehind text.now bytes))

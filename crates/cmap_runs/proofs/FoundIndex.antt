@@ -10,11 +10,11 @@ use Rattle.cmap_runs.specs.Blocks.{AreBlocks, MayHold, begun_by}
 use Rattle.cmap_runs.specs.DeclaredRanges.{DecidedRuns}
 use Rattle.cmap_runs.specs.HeldRuns.{EndsBefore, Reaches}
 use Rattle.cmap_runs.specs.declared.runs.blocks.Block.{Block}
-use Rattle.cmap_runs.specs.declared.runs.blocks.Blocks.{Blocks}
+use Rattle.cmap_runs.specs.declared.runs.held.Blocks.{Blocks}
 use Rattle.cmap_runs.specs.declared.runs.looks.Looks.{Looks}
 use Rattle.cmap_runs.specs.Order.{IsInOrder}
 use Rattle.cmap_runs.specs.Ranges.{Span, Run, Holds, IsRun, AreRuns, contains, digits, last_of, last_index, runs_of}
-use Rattle.cmap_runs.specs.SearchLooks.{LooksAtMost}
+use Rattle.cmap_runs.specs.SearchLooks.{FindsLast, LooksAtMost}
 use Rattle.cmap_runs.proofs.BinaryDigits.{digits_half}
 use Rattle.cmap_runs.proofs.LastIndex.{ContainsAt, IsLast, is_last}
 use Rattle.cmap_runs.proofs.MaximalRuns.{AreRuns-runs_of, in_order}
@@ -125,18 +125,21 @@ one_found old now new most runs bound same grows declarations runs_now declarati
 pub none_looked : (looks : Looks) (runs : ℕ) → LooksAtMost looks looks runs 1 false
 none_looked looks runs = record { most_runs = omega arith; some_run = omega arith; most_declarations = omega arith; some_declaration = omega arith }
 
--- what a search in a block finds
-pub record AtLast {T : Type 0} (span_of : T → Span) (now : List T) (code : ℕ) (old new : Looks) (result : Option (Bor T)) : Type 0 where
-  pub found : option_copied result ≡ last_of span_of now code
-  pub contains : IfSome result (λ declaration. contains (span_of declaration.now) code ≡ true)
-  pub looks : LooksAtMost old new (digits (length (runs_of (map span_of now)))) 1 (is_some result)
-  pub no_declaration : IfNone result (new.declarations ≡ old.declarations)
+-- nothing is looked at but a block, in which no run holds the code
+pub none_in_block : {T : Type 0} (span_of : T → Span) (held : DecidedRuns T) (code begun : ℕ) (old new : Looks) → held.runs ≡ runs_of (map span_of held.declarations) → code < 2 ^ 32 → MayHold held.runs code begun → begun ≡ 0 → 0 < length held.runs
+    → new.runs ≡ old.runs + 1 → new.declarations ≡ old.declarations → FindsLast span_of held.declarations code old new None
+none_in_block span_of held code begun old new are fits may nothing some looked looked_too = record {
+  found = none_last span_of held.declarations held.declarations code (no_index (map span_of held.declarations) code are fits (none_begun held.runs code begun may nothing)) refl;
+  contains = tt;
+  looks = none_looked_up old new _ _ (omega (arith, looked, one_look (length held.runs) _ 1 (ap length are) (omega arith) (omega (arith, some)))) refl (omega (arith, looked)) looked_too;
+  no_declaration = looked_too;
+}
 
 -- the last run that begins up to and including the code holds it, or none does
 pub at_last : {T : Type 0} (span_of : T → Span) (held : DecidedRuns T) (now : List T) (code begun : ℕ) (old new : Looks) (result : Option (Bor T))
     → held.runs ≡ runs_of (map span_of held.declarations) → held.declarations ≡ now → code < 2 ^ 32 → MayHold held.runs code begun → 0 < begun
     → IfNone result (EndsBefore held.runs (begun - 1) code) → IfSome result (λ declaration. Reaches held (begun - 1) code declaration.now)
-    → new.runs ≡ old.runs + 1 → new.declarations ≡ old.declarations + (if is_some result then 1 else 0) → AtLast span_of now code old new result
+    → new.runs ≡ old.runs + 1 → new.declarations ≡ old.declarations + (if is_some result then 1 else 0) → FindsLast span_of now code old new result
 at_last span_of held now code begun old new None are view fits may some ends reaches looked looked_too =
     let spans = map span_of held.declarations in
     let none = none_at_last held.runs code begun ends.run (runs_in_order spans are) may some ends.at ends.ends in

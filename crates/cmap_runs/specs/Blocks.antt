@@ -3,7 +3,7 @@ use Rattle.std.specs.Prelude.{◌==◌, if◌then◌else◌, ℕ, ◌+◌, ◌-�
 use Rattle.std.specs.List.{AllWithin}
 use Rattle.cmap_runs.specs.Ranges.{Run, Holds}
 use Rattle.cmap_runs.specs.declared.runs.blocks.Block.{Block}
-use Rattle.cmap_runs.specs.declared.runs.blocks.Blocks.{Blocks}
+use Rattle.cmap_runs.specs.declared.runs.held.Blocks.{Blocks}
 
 -- how many runs begin before a block, and up to and including its code at `place`; none where no run holds a code of it
 abbrev pub begun_by : Block → ℕ → ℕ
@@ -28,6 +28,8 @@ pub record AreBlocks (runs : List Run) (blocks : Blocks) : Type 0 where
   pub within : blocks.left ≤ length runs
   pub before : AllWithin (λ run. run.high < 32 * length blocks.list.items) runs 0 (length runs - blocks.left)
   pub end : All (λ run. run.high < blocks.end) runs
+  -- there is none where there is no run
+  pub some : 0 < length blocks.list.items → 0 < length runs
 
 -- no start stands at this place or later, in a word with a bit for each start, the first one high
 abbrev pub AreBefore : ℕ → ℕ → Type 0

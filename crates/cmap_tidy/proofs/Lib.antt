@@ -1,4 +1,5 @@
 pub mod CidsAdded
+pub mod InPart
 pub mod ListsEnd
 pub mod ListsSaid
 pub mod TidyAdded

@@ -1,5 +1,5 @@
 -- What a list of declarations says of codes, and the tidy lists, which say it in the fewest declarations.
-use Rattle.std.specs.Prelude.{◌≡◌, ℕ, ◌+◌, ◌-◌, ◌/◌, ◌%◌, ◌<◌, ◌≤◌, ◌^◌, List, All, AllPairs, Option, Some, length, option_map, slice_index_or, if◌then◌else◌}
+use Rattle.std.specs.Prelude.{◌≡◌, ℕ, ◌+◌, ◌-◌, ◌/◌, ◌%◌, ◌<◌, ◌≤◌, ◌^◌, ◌&&◌, List, All, AllPairs, Option, Some, length, nat_le, nat_lt, option_map, slice_index_or, if◌then◌else◌}
 use Rattle.cmap_runs.specs.Ranges.{Span, contains, last_of}
 use Rattle.cmap_values.specs.declared.range.Range.{Range}
 use Rattle.cmap_tokens.specs.Texts.{shifted}
@@ -31,6 +31,14 @@ units_said entries code = said bf_span units_at entries code
 -- of the codes of the range is said what `here` gives, and of others what was said before
 abbrev pub said_with : {X : Type 0} → Range → (ℕ → X) → (ℕ → Option X) → ℕ → Option X
 said_with range here before code = if contains (record { start = range.start; end = range.end }) code then Some (here code) else before code
+
+-- of the codes from the first to the one before `next` is said what `here` gives, and of others what was said before
+abbrev pub IsSaidTo : {X : Type 0} → ℕ → ℕ → (ℕ → X) → (ℕ → Option X) → (ℕ → Option X) → Type 0
+IsSaidTo first next here before now = (code : ℕ) → now code ≡ (if nat_le first code && nat_lt code next then Some (here code) else before code)
+
+-- so it is said of the first codes of the range, or of none, but not of all
+abbrev pub IsSaidInPart : {X : Type 0} → Range → (ℕ → X) → (ℕ → Option X) → (ℕ → Option X) → Type 0
+IsSaidInPart range here before now = (next : ℕ) × (next ≤ range.end) × IsSaidTo range.start next here before now
 
 -- codes of 32 bits that differ in their last byte alone: Adobe Technical Note 5014
 abbrev pub IsCodeRow : Span → Type 0

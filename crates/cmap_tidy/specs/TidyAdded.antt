@@ -6,6 +6,7 @@ use Rattle.cmap_tokens.specs.Texts.{shifted}
 use Rattle.cmap_values.specs.Files.{BfEntry, CidEntry}
 use Rattle.cmap_layers.specs.Lookups.{bf_span, cid_at, cid_span}
 use Rattle.cmap_tidy.specs.Tidy.{AreTidy, AreTidyTexts, CouldBeOneCid, CouldBeOneNotdef, CouldBeOneText, IsCidRow, IsNotdefRow, IsTextRow, last_unit, notdef_at, said, said_with, units_at, units_said}
+pub use Rattle.cmap_tidy.specs.Tidy.{IsSaidTo}
 
 -- the tidy list says of the row's codes what the row says, and of others what the old list says
 pub record AddsRow {E X : Type 0} (span : E → Span) (at : E → ℕ → X) (IsRow : E → Type 0) (CouldBeOne : E → E → Type 0) (old : List E) (row : E) (new : List E) : Type 0 where
@@ -21,10 +22,6 @@ AddsNotdefRow old row new = AddsRow cid_span notdef_at IsNotdefRow CouldBeOneNot
 
 abbrev pub AddsTextRow : List BfEntry → BfEntry → List BfEntry → Type 0
 AddsTextRow old row new = AddsRow bf_span units_at IsTextRow CouldBeOneText old row new
-
--- of the codes from the first to the one before `next` is said what `here` gives, and of others what was said before
-abbrev pub IsSaidTo : {X : Type 0} → ℕ → ℕ → (ℕ → X) → (ℕ → Option X) → (ℕ → Option X) → Type 0
-IsSaidTo first next here before now = (code : ℕ) → now code ≡ (if nat_le first code && nat_lt code next then Some (here code) else before code)
 
 -- a tidy list of codes below `next`, which says of them what another list says
 pub record SaysSoFar {E X : Type 0} (span : E → Span) (at : E → ℕ → X) (list : List E) (next : ℕ) (new : List E) : Type 0 where

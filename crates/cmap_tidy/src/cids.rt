@@ -2,7 +2,7 @@
 
 ghost use Rattle.std.specs.Prelude.{◌≡◌, ◌↔◌, ℕ, ◌+◌, ◌-◌, ◌<◌, ◌≤◌, ◌^◌, All, IsTrue, OnErr, OnOk, Some};
 ghost use Rattle.cmap_values.specs.DeclarationsSeen.{cid_entry_seen, entries_seen};
-ghost use Rattle.cmap_tidy.specs.Tidy.{AreTidyCids, CouldBeOneCid, IsCidRow, cid_said, said_with};
+ghost use Rattle.cmap_tidy.specs.Tidy.{AreTidyCids, CouldBeOneCid, IsCidRow, IsSaidInPart, cid_said, said_with};
 ghost use Rattle.cmap_tidy.specs.TidyAdded.{AddsCidRow};
 
 use crate::rows::row_end;
@@ -26,6 +26,8 @@ pub fn push_cids(list: &mut Vec<CidRange>, range: Range, cid: Cid) -> Result<(),
         ≡ said_with range (λ code. Some (cid + (code - range.start))) (cid_said (entries_seen list.old.items)) code) }
     ensures last { OnOk result (All (λ e. e.end ≤ range.end) (entries_seen list.new.items)) }
     ensures err { OnErr result (AreTidyCids (entries_seen list.new.items)) }
+    ensures kept { OnErr result (IsSaidInPart range (λ code. Some (cid + (code - range.start)))
+        (cid_said (entries_seen list.old.items)) (cid_said (entries_seen list.new.items))) }
 {
     let end = u64::from(range.end);
     let mut next = u64::from(range.start);

@@ -2,7 +2,7 @@
 
 ghost use Rattle.std.specs.Prelude.{◌≡◌, ◌↔◌, ℕ, ◌+◌, ◌-◌, ◌<◌, ◌≤◌, ◌^◌, All, IsTrue, OnErr, OnOk, Some};
 ghost use Rattle.cmap_values.specs.DeclarationsSeen.{cid_entry_seen, entries_seen};
-ghost use Rattle.cmap_tidy.specs.Tidy.{AreTidyNotdefs, CouldBeOneNotdef, IsNotdefRow, notdef_said, said_with};
+ghost use Rattle.cmap_tidy.specs.Tidy.{AreTidyNotdefs, CouldBeOneNotdef, IsNotdefRow, IsSaidInPart, notdef_said, said_with};
 ghost use Rattle.cmap_tidy.specs.TidyAdded.{AddsNotdefRow};
 
 use crate::rows::row_end;
@@ -26,6 +26,8 @@ pub fn push_notdefs(list: &mut Vec<CidRange>, range: Range, cid: Cid) -> Result<
         ≡ said_with range (λ code. cid) (notdef_said (entries_seen list.old.items)) code) }
     ensures last { OnOk result (All (λ e. e.end ≤ range.end) (entries_seen list.new.items)) }
     ensures err { OnErr result (AreTidyNotdefs (entries_seen list.new.items)) }
+    ensures kept { OnErr result (IsSaidInPart range (λ code. cid)
+        (notdef_said (entries_seen list.old.items)) (notdef_said (entries_seen list.new.items))) }
 {
     let end = u64::from(range.end);
     let mut next = u64::from(range.start);

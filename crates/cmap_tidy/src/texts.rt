@@ -4,7 +4,7 @@ ghost use Rattle.std.specs.Prelude.{◌≡◌, ◌↔◌, ℕ, ◌+◌, ◌-◌,
 ghost use Rattle.cmap_tokens.specs.Texts.{shifted};
 ghost use Rattle.cmap_values.specs.DeclarationsSeen.{bf_entry_seen};
 ghost use Rattle.cmap_values.specs.UnitsSeen.{units_seen};
-ghost use Rattle.cmap_tidy.specs.Tidy.{AreTidyTexts, CouldBeOneText, IsTextRow, last_unit, said_with, units_said};
+ghost use Rattle.cmap_tidy.specs.Tidy.{AreTidyTexts, CouldBeOneText, IsSaidInPart, IsTextRow, last_unit, said_with, units_said};
 ghost use Rattle.cmap_tidy.specs.TidyAdded.{AddsTextRow};
 
 use crate::rows::row_end;
@@ -35,6 +35,8 @@ pub fn push_texts(
         ≡ said_with range (λ code. shifted units.now (code - range.start)) (units_said (map bf_entry_seen list.old.items)) code) }
     ensures last { OnOk result (All (λ e. e.end ≤ range.end) (map bf_entry_seen list.new.items)) }
     ensures err { OnErr result (AreTidyTexts (map bf_entry_seen list.new.items)) }
+    ensures kept { OnErr result (IsSaidInPart range (λ code. shifted units.now (code - range.start))
+        (units_said (map bf_entry_seen list.old.items)) (units_said (map bf_entry_seen list.new.items))) }
 {
     let end = u64::from(range.end);
     let mut next = u64::from(range.start);

@@ -1,13 +1,13 @@
 -- The CIDs that layers declare for codes in a row.
-use Rattle.std.proofs.Common.{◌≡◌, ℕ, ◌≤◌, List, [], ◌∷◌, Option, Some, None, map, refl, ap, ◌∙◌, ◌-◌, arith}
-use Rattle.std.specs.Prelude.{option_map, unwrap_or}
+use Rattle.std.proofs.Common.{◌≡◌, ℕ, ◌+◌, ◌<◌, ◌≤◌, ◌^◌, List, [], ◌∷◌, Option, Some, None, map, refl, ap, ◌∙◌, ◌-◌, arith}
+use Rattle.std.specs.Prelude.{◌⊎◌, option_map, unwrap_or}
 use Rattle.std.specs.Option.{option_or}
 use Rattle.cmap_values.specs.CodeLengths.{length_of}
 use Rattle.cmap_values.specs.DeclarationsSeen.{cid_entry_seen}
 use Rattle.cmap_values.specs.Files.{CidEntry, of_length}
 use Rattle.cmap_values.specs.declared.code_length.CodeLength.{CodeLength}
 use Rattle.cmap_values.specs.declared.declarations.CidRange.{CidRange}
-use Rattle.cmap_layers.specs.CodeStretches.{cid_after}
+use Rattle.cmap_layers.specs.CodeStretches.{EndsCids, HoldsBelow, cid_after}
 use Rattle.cmap_layers.specs.Layers.{Layer}
 use Rattle.cmap_layers.specs.declared.stretches.CidStretch.{CidStretch}
 use Rattle.cmap_layers.specs.Lookups.{cid_at, cid_in, decided_cid, last_cid}
@@ -15,7 +15,7 @@ use Rattle.cmap_layers.specs.declared.stretches.Cids.{Cids}
 use Rattle.cmap_layers.specs.declared.stretches.Cids.TheVariants.{Absent, Same, CountOn}
 use Rattle.cmap_layers.proofs.LayerStretches.{has_code_length}
 use Rattle.cmap_unicode.specs.Cids.{declared_cid, without_texts}
-use Rattle.cmap_unicode.specs.Given.{AreDeclaredCids, Fits, Given, as_cid, cid_given, given, given_after, given_by, given_in, notdef_given}
+use Rattle.cmap_unicode.specs.Given.{AreDeclaredCids, DeclarationsEnd, DeclaresNone, Fits, Given, as_cid, cid_given, given, given_after, given_by, given_in, notdef_given}
 
 -- what a layer declares, and else what those below it declare
 pub layer_gives : (layer : Layer) (below : List Layer) (code len : ℕ) (decision : Option (Option Given)) → given_in layer code len ≡ decision → given (layer ∷ below) code len ≡ unwrap_or decision (given below code len)
@@ -61,10 +61,11 @@ after (CountOn cid) k = refl
 
 -- CIDs that are declared so, with those that a layer's clauses tell of
 pub declared_cids : (layers : List Layer) (len : CodeLength) (first : ℕ) (stretch : CidStretch) → first ≤ stretch.last → ((code : ℕ) → first ≤ code → code ≤ stretch.last → given layers code (length_of len) ≡ given_after stretch.cids (code - first))
-    → Fits stretch.cids (stretch.last - first) → AreDeclaredCids layers (length_of len) first stretch
-declared_cids layers len first stretch within declared fit = record {
+    → Fits stretch.cids (stretch.last - first) → (stretch.last + 1 < 2 ^ 32 → HoldsBelow (DeclaresNone (length_of len) first) (DeclarationsEnd (length_of len) first stretch.last) layers ⊎ EndsCids stretch.cids (stretch.last - first)) → AreDeclaredCids layers (length_of len) first stretch
+declared_cids layers len first stretch within declared fit longest = record {
   within = within;
   cids = λ code le lt. declared_is layers code len ∙ ap number (declared code le lt) ∙ after stretch.cids (code - first);
   declared = declared;
   fit = fit;
+  longest = longest;
 }

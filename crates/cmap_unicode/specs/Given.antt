@@ -1,9 +1,10 @@
 -- What layers declare for codes: CIDs, or notdefs.
-use Rattle.std.specs.Prelude.{◌≡◌, ℕ, ◌+◌, ◌-◌, ◌<◌, ◌≤◌, ◌^◌, List, [], ◌∷◌, Option, None, Some, option_map, unwrap_or}
+use Rattle.std.specs.Prelude.{◌≡◌, ◌⊎◌, ℕ, ◌+◌, ◌-◌, ◌<◌, ◌≤◌, ◌^◌, List, [], ◌∷◌, IsSomeAnd, Option, None, Some, map, option_map, unwrap_or}
+use Rattle.cmap_runs.specs.Stretches.{IsLongest}
 use Rattle.cmap_values.specs.Files.{CidEntry, of_length}
-use Rattle.cmap_layers.specs.CodeStretches.{cid_after}
+use Rattle.cmap_layers.specs.CodeStretches.{EndsCids, HoldsBelow, cid_after}
 use Rattle.cmap_layers.specs.Layers.{Layer}
-use Rattle.cmap_layers.specs.Lookups.{cid_at, last_cid}
+use Rattle.cmap_layers.specs.Lookups.{cid_at, cid_span, last_cid}
 use Rattle.cmap_layers.specs.declared.stretches.Cids.{Cids}
 use Rattle.cmap_layers.specs.declared.stretches.Cids.TheVariants.{Absent, CountOn, Same}
 use Rattle.cmap_layers.specs.declared.stretches.CidStretch.{CidStretch}
@@ -53,14 +54,29 @@ abbrev pub Fits : Cids → ℕ → Type 0
 Fits (CountOn cid) more = cid + more < 2 ^ 32
 Fits _ more = Unit {0}
 
+-- the layer declares nothing for the code
+abbrev pub DeclaresNone : ℕ → ℕ → Layer → Type 0
+DeclaresNone len code layer = given_in layer code len ≡ None
+
+-- in the list of CIDs another declaration decides the code after the last one than decides the first; or, where none does, in that of notdefs
+abbrev pub DeclarationsEnd : ℕ → ℕ → ℕ → Layer → Type 0
+DeclarationsEnd len first last layer = IsLongest (map cid_span (of_length layer.lists.cids len)) first last
+    ⊎ ((last_cid (of_length layer.lists.cids len) first ≡ None) × IsLongest (map cid_span (of_length layer.lists.notdefs len)) first last)
+
 -- what layers declare for codes of len bytes from the first to the last one
 pub record AreDeclaredCids (layers : List Layer) (len first : ℕ) (stretch : CidStretch) : Type 0 where
   pub within : first ≤ stretch.last
   pub cids : (code : ℕ) → first ≤ code → code ≤ stretch.last → declared_cid layers code len ≡ cid_after stretch.cids (code - first)
   pub declared : (code : ℕ) → first ≤ code → code ≤ stretch.last → given layers code len ≡ given_after stretch.cids (code - first)
   pub fit : Fits stretch.cids (stretch.last - first)
+  -- it ends, unless with the last code of 32 bits, where another declaration decides, in a layer above which none declares anything for the first code; or with the last CID
+  pub longest : stretch.last + 1 < 2 ^ 32 → HoldsBelow (DeclaresNone len first) (DeclarationsEnd len first stretch.last) layers ⊎ EndsCids stretch.cids (stretch.last - first)
 
 -- ---- private aid
 -- of the codes from the first to the last one a layer decides that these are declared, or it decides nothing
 abbrev pub Decides : (ℕ → Option (Option Given)) → ℕ → ℕ → Option Cids → Type 0
 Decides decision first last cids = (code : ℕ) → first ≤ code → code ≤ last → decision code ≡ option_map (λ these. given_after these (code - first)) cids
+
+-- what a layer declares from the first to the last code goes on with the code after it, unless one of these ends it
+abbrev pub IsLayerLongest : Layer → ℕ → ℕ → ℕ → Option Cids → Type 0
+IsLayerLongest layer len first last cids = last + 1 < 2 ^ 32 → DeclarationsEnd len first last layer ⊎ IsSomeAnd cids (λ these. EndsCids these (last - first))

@@ -1,15 +1,16 @@
 //! The CIDs that a map declares, without the texts.
 
-ghost use Rattle.std.specs.Prelude.{◌≡◌, ◌-◌, ◌≤◌, Some, option_map, IfSome};
+ghost use Rattle.std.specs.Prelude.{◌≡◌, ◌⊎◌, ◌-◌, ◌≤◌, Some, option_map, IfSome, IsSomeAnd};
 ghost use Rattle.std.specs.Option.{option_copied};
 ghost use Rattle.cmap_values.specs.CodeLengths.{length_of};
 ghost use Rattle.cmap_values.specs.DeclarationsSeen.{cid_entry_seen, entries_seen};
+ghost use Rattle.cmap_layers.specs.CodeStretches.{EndsCids};
 ghost use Rattle.cmap_layers.specs.declared.stretches.Cids.TheVariants.{Same};
 ghost use Rattle.cmap_layers.specs.LayersSeen.{layer_seen, layers_seen};
 ghost use Rattle.cmap_layers.specs.Lookups.{last_cid};
 ghost use Rattle.cmap_unicode.specs.Cids.{declared_cid};
 ghost use Rattle.cmap_unicode.specs.LayersTried.{declared_in};
-ghost use Rattle.cmap_unicode.specs.Given.{AreDeclaredCids, Decides, Fits, given_at, given_in};
+ghost use Rattle.cmap_unicode.specs.Given.{AreDeclaredCids, Decides, Fits, IsLayerLongest, given_at, given_in};
 
 use cmap_layers::layer::Layer;
 use cmap_layers::layers::Layers;
@@ -97,6 +98,7 @@ fn stretch_in(layer: &Layer, first: u32, len: CodeLength) -> LayerStretch
     ensures cids { Decides (λ code. given_in (layer_seen layer.now) code (length_of len))
         first result.last result.cids }
     ensures fit { IfSome result.cids (λ cids. Fits cids (result.last - first)) }
+    ensures longest { IsLayerLongest (layer_seen layer.now) (length_of len) first result.last result.cids }
 {
     let cids = layer.cids(len).stretch(first);
     if let Some(declaration) = cids.declaration {
@@ -125,6 +127,8 @@ fn counted_on(declaration: &CidRange, first: u32, last: u32) -> LayerStretch
     ensures cids { Decides (λ code. Some (given_at (cid_entry_seen declaration.now) code))
         first result.last result.cids }
     ensures fit { IfSome result.cids (λ cids. Fits cids (result.last - first)) }
+    ensures ends { (result.last ≡ last)
+        ⊎ IsSomeAnd result.cids (λ these. EndsCids these (result.last - first)) }
 {
     match declaration.cid.checked_add(first - declaration.range.start) {
         Some(cid) => LayerStretch {

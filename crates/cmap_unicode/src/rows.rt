@@ -1,13 +1,14 @@
 //! Codes in a row, whose texts are the same or count on.
 
-ghost use Rattle.std.specs.Prelude.{◌≡◌, ◌+◌, ◌≤◌, ℕ, IfOk, option_map, true};
+ghost use Rattle.std.specs.Prelude.{◌≡◌, ◌⊎◌, ◌+◌, ◌-◌, ◌<◌, ◌≤◌, ◌^◌, ℕ, IfOk, option_map, true};
 ghost use Rattle.std.specs.Option.{option_copied};
 ghost use Rattle.cmap_tokens.specs.Texts.{text_at};
 ghost use Rattle.cmap_values.specs.CodeLengths.{length_of};
+ghost use Rattle.cmap_layers.specs.CodeStretches.{IsRowEnd};
 ghost use Rattle.cmap_unicode.specs.Characters.{font_of};
 ghost use Rattle.cmap_unicode.specs.CountedTexts.{counted_on};
 ghost use Rattle.cmap_unicode.specs.TextsOfCodes.{text_in};
-ghost use Rattle.cmap_unicode.specs.TextRows.{AreTexts, CountOn, IsTextRow, texts_of_cids};
+ghost use Rattle.cmap_unicode.specs.TextRows.{AreTexts, CountedEnd, IsLongestRow, IsLongestTextRow, IsTextRow, MapEnds, TextsCountOn, texts_of_cids};
 
 use crate::cids::declared_stretch;
 use crate::extractor::Extractor;
@@ -40,7 +41,9 @@ impl Extractor<'_> {
         first: u32,
         len: CodeLength,
     ) -> Result<TextRow, AllocError>
-        ensures { IfOk result (IsTextRow (font_of self.now) (length_of len) first) }
+        ensures texts { IfOk result (IsTextRow (font_of self.now) (length_of len) first) }
+        ensures longest { IfOk result
+            (λ row. IsLongestTextRow (font_of self.now) (length_of len) first row.last) }
     {
         let by_code = texts_in_row(alloc, self.to_unicode, first)?;
         if by_code.text.is_some() {
@@ -61,6 +64,8 @@ impl Extractor<'_> {
 pub fn texts_in_row(alloc: Global, map: Option<&Layers>, first: u32) -> Result<TextRow, AllocError>
     ensures texts { IfOk result (AreTexts (text_in (option_copied map.entry)) first) }
     ensures counts { IfOk result (λ row. row.counts_on ≡ true) }
+    ensures longest { IfOk result
+        (λ row. IsLongestRow (option_copied map.entry) first row.last) }
 {
     let Some(map) = map else {
         return Ok(TextRow {
@@ -88,6 +93,8 @@ fn row_of_cids(
     ensures within { IfOk result (λ row. row.last ≤ stretch.last) }
     ensures texts { IfOk result (AreTexts
         (texts_of_cids (option_copied collection.entry) stretch.cids first) first) }
+    ensures ends { IfOk result (λ row. (row.last ≡ stretch.last)
+        ⊎ CountedEnd (option_copied collection.entry) stretch.cids (row.last - first)) }
 {
     match stretch.cids {
         Cids::Absent => Ok(TextRow {
@@ -114,7 +121,8 @@ fn row_of_cids(
 /// The last code up to which the texts of a map count on from that of `first`.
 fn last_in_row(map: &Layers, first: u32) -> u32
     ensures within { first ≤ result }
-    ensures texts { CountOn map.now first result }
+    ensures texts { TextsCountOn map.now first result }
+    ensures longest { result + 1 < 2 ^ 32 → MapEnds first result map.now }
 {
     let stretch = map.text_stretch(first);
     match stretch.declaration {
@@ -130,8 +138,9 @@ fn last_in_row(map: &Layers, first: u32) -> u32
 /// How many further offsets have texts that count on from that of this one, or, if this one gives none,
 /// none. Surrogates lie in rows of 1,024 units.
 fn further_texts(units: &[u16], offset: u32) -> u32
-    ensures { (k : ℕ) → k ≤ result → text_at units.now (offset + k)
+    ensures count { (k : ℕ) → k ≤ result → text_at units.now (offset + k)
         ≡ option_map (λ cs. counted_on cs k) (text_at units.now offset) }
+    ensures ends { (result ≡ 2 ^ 32 - 1) ⊎ IsRowEnd units.now (offset + result) }
 {
     let Some(last) = units.last() else {
         return u32::MAX;

@@ -72,7 +72,7 @@ HasLongName file = (IsSomeAnd file.metadata.collection IsLongCollection ⊎ IsSo
 abbrev pub InSomeList : ByLength → (ℕ → List CidEntry → Type 0) → Type 0
 InSomeList lists P = (len : ℕ) × P len (of_length lists len)
 
--- the file has this, which the binary form can't say
+-- the file has this, which isn't written in the binary form
 abbrev pub IsObstacle : File → Obstacle → Type 0
 IsObstacle file (LargeCid range) = InSomeList file.lists.cids (λ len es. GivesLargeCid es range) ⊎ InSomeList file.lists.notdefs (λ len es. Any (IsLargeNotdef range) es)
 IsObstacle file (LargeCode code) = Any (λ space. IsLargeEnd code space.len space.low space.high) file.lists.spaces ⊎ InSomeList file.lists.notdefs (λ len es. Any (λ e. IsLargeEnd code len e.start e.end) es)
@@ -84,11 +84,11 @@ IsObstacle file TooLong = HasLongName file
 IsObstacle file NoWord = ⊥
 IsObstacle file NoPlace = ⊥
 
--- the binary form can say the file
+-- nothing stands in the way of the file
 abbrev pub IsSayable : File → Type 0
 IsSayable file = (obstacle : Obstacle) → IsObstacle file obstacle → ⊥
 
--- what is to be written of a file: the binary form can say it, what it says, and where it stands
+-- what is to be written of a file: nothing stands in its way, what it says, and where it stands
 pub record IsPreparedFor (file : File) (prepared : Prepared) : Type 0 where
   pub sayable : IsSayable file
   pub says : IsPrepared file prepared

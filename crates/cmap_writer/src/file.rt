@@ -20,7 +20,7 @@ use std::alloc::Global;
 /// A binary file that keeps what a file says: its metadata, its codespace ranges, the names of the files
 /// that it uses, the CID of each code of each length, and the text of each code.
 ///
-/// It is refused with what the binary form can't say.
+/// It is refused with its obstacle, as a CID of more than two bytes.
 pub fn write_file(
     alloc: Global,
     tables: &Encoders,

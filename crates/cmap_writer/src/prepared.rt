@@ -38,7 +38,7 @@ pub struct Prepared {
     pub segments: Vec<Segment>,
 }
 
-/// What is to be written of a file. It is refused with what the binary form can't say.
+/// What is to be written of a file. It is refused with its obstacle, as a CID of more than two bytes.
 pub fn prepare(alloc: Global, file: &File<'_>) -> Result<Prepared, Fault<Obstacle>>
     ensures { Outcome (IsPreparedFor (file_seen file.now)) (IsObstacle (file_seen file.now)) result }
 {

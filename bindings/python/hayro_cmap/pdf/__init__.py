@@ -23,7 +23,7 @@ end_on_interrupt()
 try:
     import pikepdf  # noqa: F401
 except ImportError as fault:
-    raise missing('pikepdf is missing: pip install "hayro-cmap[pdf]", or Debian\'s python3-pikepdf') from fault
+    raise missing("pikepdf is missing: pip install pikepdf, or Debian's python3-pikepdf") from fault
 
 from ._check import CMapWarning, FontReport, Report, ShownCode, check
 from ._content import Content, Document, Shown, characters

@@ -22,7 +22,7 @@ from ._check import OF_SHOWN_CODES, share
 from ._commands import Result, run
 from ._limits import MEMORY, SECONDS
 from ._many import Task, by_dask, by_processes, json_lines, limited_memory
-from ._paths import STANDARD_INPUT, listed, readable, reason_of
+from ._paths import STANDARD_INPUT, expanded, listed, readable, reason_of
 from ._warning_names import FEW_TEXTS, WARNINGS
 
 #: What --deny takes.
@@ -101,7 +101,7 @@ def shared_options() -> argparse.ArgumentParser:
 def file_options() -> argparse.ArgumentParser:
     """The arguments of commands that read many files."""
     options = argparse.ArgumentParser(add_help=False)
-    options.add_argument("files", metavar="FILE", nargs="*", help="a PDF file")
+    options.add_argument("files", metavar="FILE", nargs="*", help="a PDF file, or a folder with some")
     options.add_argument("--files-from", metavar="LIST", help="a file of further paths, one per line; - is stdin")
     options.add_argument("-0", "--null", action="store_true", help="a zero byte ends each path in LIST")
     options.add_argument("--jobs", metavar="N", type=at_least_one, default=1, help="how many processes read files")
@@ -120,11 +120,11 @@ def reading_options() -> argparse.ArgumentParser:
 
 
 def paths_of(asked: argparse.Namespace) -> List[str]:
-    """The files, then those of the list."""
+    """The files, then those of the list, and those below folders of either."""
     if asked.command == "repair":
         return [asked.input]
     found = [] if asked.files_from is None else listed(asked.files_from, b"\0" if asked.null else b"\n")
-    return asked.files + found
+    return expanded(asked.files + found)
 
 
 def options_of(asked: argparse.Namespace) -> dict:

@@ -8,6 +8,8 @@ import stat
 import sys
 from typing import BinaryIO, Iterable, List
 
+from .._folder import files_below
+
 #: The standard input, where a list of paths is asked for.
 STANDARD_INPUT = "-"
 
@@ -52,6 +54,20 @@ def listed(path: str, end: bytes) -> List[str]:
     else:
         data = sys.stdin.buffer.read()
     return [os.fsdecode(it) for it in data.split(end) if it]
+
+
+def expanded(paths: Iterable[str]) -> List[str]:
+    """The same paths, and in the place of a folder the PDF files below it."""
+    return [it for path in paths for it in (pdf_files_below(path) if os.path.isdir(path) else [path])]
+
+
+def pdf_files_below(folder: str) -> List[str]:
+    """The files in a folder and its subfolders whose names end in .pdf, and the folders that can't be read, in the order
+    of their paths as bytes."""
+    unread: List[bytes] = []
+    files = files_below(os.fsencode(folder), lambda fault: unread.append(fault.filename))
+    found = [it for it in files if it.lower().endswith(b".pdf")]
+    return [os.fsdecode(it) for it in sorted(found + unread)]
 
 
 def is_among(path: str, others: Iterable[str]) -> bool:

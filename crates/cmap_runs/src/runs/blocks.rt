@@ -1,6 +1,6 @@
 //! For blocks of codes, which runs begin in them.
 
-ghost use Rattle.std.specs.Prelude.{◌≡◌, ◌*◌, ◌-◌, ◌/◌, ◌%◌, ◌^◌, ◌<◌, ◌≤◌, MatchOption, get_or, length};
+ghost use Rattle.std.specs.Prelude.{◌≡◌, ◌*◌, ◌-◌, ◌%◌, ◌^◌, ◌≤◌};
 ghost use Rattle.cmap_runs.specs.Blocks.{begun_by};
 
 /// How many codes a block has.
@@ -57,27 +57,5 @@ pub(super) fn most_blocks(run_count: usize, first: u64) -> usize
         _ if first >= u64::from(BLOCK_LEN) * MOST_BLOCKS as u64 => 0,
         1..FEWEST_RUNS => 1,
         _ => MOST_BLOCKS,
-    }
-}
-
-/// The first blocks of codes.
-#[derive(Drop)]
-pub(super) struct Blocks {
-    pub(super) list: Vec<Block>,
-    /// How many runs don't end before the first code after the blocks.
-    pub(super) left: usize,
-    /// The code after those of all runs.
-    pub(super) end: u64,
-}
-
-impl Blocks {
-    /// The block of the code; `None` where the code comes after all blocks.
-    pub(super) fn block(&self, code: u32) -> Option<&Block>
-        ensures { MatchOption result
-            (32 * length self.now.list.items ≤ code)
-            (λ block. (code / 32 < length self.now.list.items)
-            × (block.now ≡ get_or self.now.list.items (code / 32) block.now)) }
-    {
-        self.list.get((code / BLOCK_LEN) as usize)
     }
 }

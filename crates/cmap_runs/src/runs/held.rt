@@ -1,16 +1,18 @@
-//! What a table holds: runs and declarations. Outside of this module each look at one is counted.
+//! What a table holds: runs, their blocks, and declarations. Outside of this module each look at one is
+//! counted.
 
-ghost use Rattle.std.specs.Prelude.{◌≡◌, ℕ, ◌+◌, ◌-◌, ◌^◌, ◌<◌, ◌≤◌, true, [], All, Some, IfNone, IfOk, IfSome, OnOk, OnErr, if◌then◌else◌, is_some, length, map, slice_get};
+ghost use Rattle.std.specs.Prelude.{◌≡◌, ℕ, ◌+◌, ◌-◌, ◌*◌, ◌/◌, ◌^◌, ◌<◌, ◌≤◌, true, [], All, Some, IfNone, IfOk, IfSome, MatchOption, OnOk, OnErr, if◌then◌else◌, get_or, is_some, length, map, slice_get};
 ghost use Rattle.std.specs.List.{AllWithin};
 ghost use Rattle.cmap_runs.specs.Blocks.{AreBlocks};
 ghost use Rattle.cmap_runs.specs.HeldRuns.{EndsBefore, Reaches, indices_within, runs_held};
 ghost use Rattle.cmap_runs.specs.Made.{AreMadeBy};
 ghost use Rattle.cmap_runs.specs.Order.{IsInOrder};
-ghost use Rattle.cmap_runs.specs.Ranges.{goes_on, joined};
+ghost use Rattle.cmap_runs.specs.Ranges.{goes_on, joined, runs_of};
+ghost use Rattle.cmap_runs.specs.SearchLooks.{FindsLast};
 
 use super::HasRange;
 use super::block_maker::BlockMaker;
-use super::blocks::{BLOCK_LEN, Blocks, most_blocks};
+use super::blocks::{BLOCK_LEN, Block, most_blocks};
 use super::looks::Looks;
 use super::ranges::range_at;
 use std::alloc::{AllocError, Global};
@@ -109,6 +111,28 @@ pub(super) enum RunList {
     Swept(Runs),
 }
 
+/// The first blocks of codes.
+#[derive(Drop)]
+pub(super) struct Blocks {
+    list: Vec<Block>,
+    /// How many runs don't end before the first code after the blocks.
+    pub(super) left: usize,
+    /// The code after those of all runs.
+    pub(super) end: u64,
+}
+
+impl Blocks {
+    /// The block of the code; `None` where the code comes after all blocks.
+    fn block(&self, code: u32) -> Option<&Block>
+        ensures { MatchOption result
+            (32 * length self.now.list.items ≤ code)
+            (λ block. (code / 32 < length self.now.list.items)
+            × (block.now ≡ get_or self.now.list.items (code / 32) block.now)) }
+    {
+        self.list.get((code / BLOCK_LEN) as usize)
+    }
+}
+
 /// Declarations, each at its index, with their runs.
 #[derive(Drop)]
 pub(super) struct Held<T: HasRange> {
@@ -180,18 +204,43 @@ impl<T: HasRange> Held<T> {
         }
     }
 
-    /// The declaration of the run at `i`, unless the run ends before `code`.
+    /// The last declaration that contains `code`, by its block; `None` where it comes after all blocks.
+    /// A look at a block, and at the run that it leads to, counts as one at a run.
     #[inline(always)]
-    pub(super) fn reaching(&self, i: usize, code: u32, looks: &mut Looks) -> Option<&T>
+    pub(super) fn find_in_block(
+        &self,
+        blocks: &Blocks,
+        code: u32,
+        looks: &mut Looks,
+    ) -> Option<Option<&T>>
+        requires runs { self.now.runs ≡ runs_of (map T.span self.now.declarations) }
+        requires blocks { AreBlocks self.now.runs blocks.now }
+        ensures after { IfNone result (32 * length blocks.now.list.items ≤ code) }
+        ensures none { IfNone result (looks.new ≡ looks.old) }
+        ensures some { IfSome result
+            (FindsLast T.span self.now.declarations code looks.old looks.new) }
+    {
+        let block = blocks.block(code)?;
+        looks.look_at_run();
+        let begun = block.begun_by(code);
+        if begun == 0 {
+            return Some(None);
+        }
+        Some(self.reaching(begun - 1, code, looks))
+    }
+
+    /// The declaration of the run at `i`, unless the run ends before `code`. Its caller counts the look at
+    /// the run.
+    #[inline(always)]
+    fn reaching(&self, i: usize, code: u32, looks: &mut Looks) -> Option<&T>
         requires run { i < length self.now.runs }
         requires within { All (λ run. run.index < length self.now.declarations) self.now.runs }
         ensures none { IfNone result (EndsBefore self.now.runs i code) }
         ensures some { IfSome result (λ declaration. Reaches self.now i code declaration.now) }
-        ensures runs { looks.new.runs ≡ looks.old.runs + 1 }
+        ensures runs { looks.new.runs ≡ looks.old.runs }
         ensures declarations { looks.new.declarations
             ≡ looks.old.declarations + (if is_some result then 1 else 0) }
     {
-        looks.look_at_run();
         let declaration = match &self.runs {
             RunList::Ranges(indices) => {
                 let declaration = &self.declarations[indices[i] as usize];
@@ -233,8 +282,8 @@ impl<T: HasRange> Held<T> {
         Ok(maker)
     }
 
-    /// The blocks that were made of all runs, up to the end of the last one. It counts no look, as `made`
-    /// doesn't.
+    /// The blocks that were made of all runs, up to the end of the last one; none where there is no run. It
+    /// counts no look, as `made` doesn't.
     pub(super) fn finished(&mut self, maker: BlockMaker) -> Blocks
         requires order { IsInOrder self.old.runs }
         requires made { AreMadeBy self.old.runs (length self.old.runs) maker }
@@ -246,7 +295,10 @@ impl<T: HasRange> Held<T> {
         let end = self.end_of(run_count);
         maker.end_before(end + u64::from(BLOCK_LEN) - 1, run_count, end);
         let left = run_count - self.ended_before(maker.begun, maker.code());
-        let list = maker.list;
+        let mut list = maker.list;
+        if run_count == 0 {
+            list.clear();
+        }
         Blocks { list, left, end }
     }
 

@@ -9,8 +9,7 @@ ghost use Rattle.cmap_runs.specs.Ranges.{Holds, contains, digits, last_of, runs_
 ghost use Rattle.cmap_runs.specs.SearchLooks.{LooksAtMost};
 
 use super::HasRange;
-use super::blocks::Blocks;
-use super::held::Held;
+use super::held::{Blocks, Held};
 use super::looks::Looks;
 
 /// The last declaration that contains `code`, which comes after all blocks. It is called last, so that who

@@ -1,6 +1,6 @@
 //! Codes in a row, taken by stretches that one declaration decides, or none.
 
-ghost use Rattle.std.specs.Prelude.{◌≡◌, ◌+◌, ◌<◌, ◌≤◌, ◌^◌, IfNone, IfSome, IsTrue, length, map};
+ghost use Rattle.std.specs.Prelude.{◌≡◌, ◌+◌, ◌<◌, ◌≤◌, ◌^◌, IfNone, IfSome, IsTrue, OnSome, length, map};
 ghost use Rattle.std.specs.Option.{option_copied};
 ghost use Rattle.cmap_runs.specs.Order.{IsFirstLeft, IsInOrder};
 ghost use Rattle.cmap_runs.specs.Ranges.{contains, digits, runs_of};
@@ -56,6 +56,7 @@ impl<'t, T: HasRange> Stretches<'t, T> {
         ensures declarations { result.declarations ≡ held.now.declarations }
         ensures next { result.next ≡ first }
         ensures runs { looks.new.runs ≤ looks.old.runs + digits (length held.now.runs) }
+        ensures grows { looks.old.runs ≤ looks.new.runs }
         ensures none { looks.new.declarations ≡ looks.old.declarations }
     {
         let ended = ended_before(held, first, looks);
@@ -79,6 +80,13 @@ impl<'t, T: HasRange> Stretches<'t, T> {
         ensures declarations { self.new.declarations ≡ self.old.declarations }
         ensures looks { (looks.new.runs ≤ looks.old.runs + 1)
             × (looks.new.declarations ≤ looks.old.declarations + 1) }
+        ensures grows { (looks.old.runs ≤ looks.new.runs)
+            × (looks.old.declarations ≤ looks.new.declarations) }
+
+        // A declaration is one that was looked at.
+        ensures looked { IfSome result (λ stretch. OnSome stretch.declaration
+            ((looks.old.runs + 1 ≤ looks.new.runs)
+            × (looks.old.declarations + 1 ≤ looks.new.declarations))) }
     {
         let code = u32::try_from(self.next).ok()?;
         let stretch = stretch_at(self.held, &mut self.ended, code, looks);
@@ -106,6 +114,10 @@ fn stretch_at<'t, T: HasRange>(
     ensures ended { IsFirstLeft held.now.runs (result.last + 1) ended.new }
     ensures looks { (looks.new.runs ≤ looks.old.runs + 1)
         × (looks.new.declarations ≤ looks.old.declarations + 1) }
+    ensures grows { (looks.old.runs ≤ looks.new.runs)
+        × (looks.old.declarations ≤ looks.new.declarations) }
+    ensures looked { OnSome result.declaration ((looks.old.runs + 1 ≤ looks.new.runs)
+        × (looks.old.declarations + 1 ≤ looks.new.declarations)) }
 {
     if *ended >= held.run_count() {
         return Stretch {
@@ -132,6 +144,7 @@ fn ended_before<T: HasRange>(held: &Held<T>, code: u32, looks: &mut Looks) -> us
     requires { IsInOrder held.now.runs }
     ensures first { IsFirstLeft held.now.runs code result }
     ensures runs { looks.new.runs ≤ looks.old.runs + digits (length held.now.runs) }
+    ensures grows { looks.old.runs ≤ looks.new.runs }
     ensures declarations { looks.new.declarations ≡ looks.old.declarations }
 {
     let (mut low, mut high) = (0, held.run_count());

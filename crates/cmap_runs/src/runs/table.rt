@@ -7,8 +7,7 @@ ghost use Rattle.cmap_runs.specs.SearchLooks.{LooksAtMost};
 ghost use Rattle.cmap_runs.specs.Stretches.{IsLongest, IsStretch};
 
 use super::HasRange;
-use super::blocks::Blocks;
-use super::held::Held;
+use super::held::{Blocks, Held};
 use super::looks::Looks;
 use super::search::find_after_blocks;
 use super::stretch::{Stretch, Stretches};
@@ -93,17 +92,13 @@ impl<T: HasRange> Table<T> {
         ensures no_declaration { IfNone result
             (looks.new.declarations ≡ looks.old.declarations) }
     {
-        let Some(block) = self.blocks.block(code) else {
+        let Some(found) = self.held.find_in_block(&self.blocks, code, looks) else {
             if u64::from(code) >= self.end() {
                 return None;
             }
             return find_after_blocks(&self.held, &self.blocks, code, looks);
         };
-        let begun = block.begun_by(code);
-        if begun == 0 {
-            return None;
-        }
-        self.held.reaching(begun - 1, code, looks)
+        found
     }
 
     /// A code after those of all declarations: none of them contains it, or a later one.
@@ -122,6 +117,7 @@ impl<T: HasRange> Table<T> {
         ensures next { result.next ≡ first }
         ensures runs { looks.new.runs
             ≤ looks.old.runs + digits (length (runs_of (map T.span self.now))) }
+        ensures grows { looks.old.runs ≤ looks.new.runs }
         ensures none { looks.new.declarations ≡ looks.old.declarations }
     {
         Stretches::of(&self.held, first, looks)

@@ -8,7 +8,7 @@ abbrev pub invariant-loop-next : goal.invariant-loop-next
 invariant-loop-next l = record {
   within : l.next ≤ 0x110000;
   are : AreRunsByPrefix l.texts;
-  adds : AddsGlyphs (maps_seen l.maps) (unicode_seen l.unicode) l.cids 0 l.next l.initial.texts l.texts;
+  adds : AddsGlyphs (maps_seen l.maps) (unicode_seen l.unicode) l.glyphs 0 l.next l.initial.texts l.texts;
 }
 
 abbrev pub decreases-loop-next : goal.decreases-loop-next

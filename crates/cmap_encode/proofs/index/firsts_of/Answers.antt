@@ -2,7 +2,7 @@ use Rattle.std.proofs.Common.{Option, List, [], ◌∷◌, sym, ap, subst, ◌++
 use Rattle.std.specs.Global.{Box, Vec}
 use Rattle.std.specs.List.{AllZip}
 use Rattle.cmap_encode.specs.IndexSeen.{AreFirstsOf}
-use Rattle.cmap_encode.specs.declared.firsts.CodeRun.{CodeRun}
+use Rattle.cmap_encode.specs.declared.key_codes.CodeRun.{CodeRun}
 use Rattle.cmap_encode.proofs.GatheredFound.{zip_push}
 use Rattle.cmap_encode.proofs.index.firsts_of.Goals as goal
 

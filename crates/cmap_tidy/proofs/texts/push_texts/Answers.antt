@@ -4,6 +4,7 @@ use Rattle.cmap_values.specs.DeclarationsSeen.{bf_entry_seen}
 use Rattle.cmap_values.specs.UnitsSeen.{units_seen}
 use Rattle.cmap_tidy.specs.Tidy.{units_said, units_at}
 use Rattle.cmap_tidy.specs.TidyAdded.{IsSaidTo}
+use Rattle.cmap_tidy.proofs.InPart.{on_err}
 use Rattle.cmap_tidy.proofs.TextUnits.{shifted_twice}
 use Rattle.cmap_tidy.proofs.RowsSaid.{row_said}
 use Rattle.cmap_tidy.proofs.texts.push_texts.Goals as goal
@@ -24,3 +25,9 @@ loop-next-preserved c =
           let sum : code - first ≡ next - first + (code - next) = omega arith in
           sym (ap (shifted units) sum ∙ shifted_twice units (units_seen c.in_ok-units.units) (next - first) (code - next) c.in_ok-units.ensures)));
     }
+
+pub returns-in_err-units-clause-kept : goal.returns-in_err-units-clause-kept
+returns-in_err-units-clause-kept c = on_err c.from_residual.result _ (c.loop-next.next, omega arith, c.loop-next.invariant.said)
+
+pub returns-in_err-add_row-clause-kept : goal.returns-in_err-add_row-clause-kept
+returns-in_err-add_row-clause-kept c = on_err c.from_residual-in_err-add_row.result _ (c.loop-next.next, omega arith, λ code. ap (λ items. units_said (map bf_entry_seen items) code) c.in_err-add_row.ensures.same ∙ c.loop-next.invariant.said code)

@@ -1,14 +1,14 @@
-use Rattle.std.proofs.Common.{◌-◌, Some, None, ap, ◌∙◌, subst, sym, arith}
+use Rattle.std.proofs.Common.{◌-◌, Some, None, ap, inl, inr, map, ◌∙◌, subst, sym, arith}
 use Rattle.std.specs.Prelude.{option_map}
 use Rattle.std.specs.Option.{option_copied}
-use Rattle.cmap_runs.specs.Stretches.{IsStretch}
+use Rattle.cmap_runs.specs.Stretches.{IsLongest, IsStretch}
 use Rattle.cmap_values.specs.CodeLengths.{length_of}
 use Rattle.cmap_values.specs.DeclarationsSeen.{cid_range_span}
 use Rattle.cmap_values.specs.Files.{of_length}
 use Rattle.cmap_layers.specs.LayersSeen.{layer_seen}
-use Rattle.cmap_layers.specs.Lookups.{last_cid}
-use Rattle.cmap_layers.proofs.LayerStretches.{found_in}
-use Rattle.cmap_unicode.specs.Given.{given_after, given_by}
+use Rattle.cmap_layers.specs.Lookups.{cid_span, last_cid}
+use Rattle.cmap_layers.proofs.LayerStretches.{at_lesser, found_in, longest_cids}
+use Rattle.cmap_unicode.specs.Given.{DeclarationsEnd, given_after, given_by}
 use Rattle.cmap_unicode.proofs.DeclaredStretches.{notdef_gives}
 use Rattle.cmap_unicode.proofs.cids.stretch_in.Goals as goal
 
@@ -29,3 +29,21 @@ returns-clause-cids c = λ code le lt.
     ap (λ o. given_by code o (last_cid (of_length layer.lists.notdefs len) code)) missed
     ∙ ap (λ o. given_by code None o) found ∙ notdef_gives code (code - first) (option_copied c.stretch-notdefs.result.declaration)
     ∙ ap (option_map (λ these. given_after these (code - first))) (sym c.same_cid.ensures)
+
+pub returns-in-Some-clause-longest : goal.returns-in-Some-clause-longest
+returns-in-Some-clause-longest c = λ small.
+    let first = c.args.first in let layer = layer_seen c.args.layer.now in let len = length_of c.args.len in
+    elim c.counted_on.ensures.ends [
+      | inl same ↦ inl (inl (subst (IsLongest (map cid_span (of_length layer.lists.cids len)) first) (sym same)
+          (longest_cids c.cids.result.now (of_length layer.lists.cids len) first c.stretch-cids.result.last c.cids.ensures c.stretch-cids.ensures.longest)))
+      | inr ends ↦ inr ends
+    ]
+
+pub returns-clause-longest : goal.returns-clause-longest
+returns-clause-longest c = λ small.
+    let first = c.args.first in let layer = layer_seen c.args.layer.now in let len = length_of c.args.len in
+    let none = subst (λ o. IsStretch cid_range_span c.cids.result.now first c.stretch-cids.result.last (option_copied o)) c.in_default.is c.stretch-cids.ensures.same in
+    let missed = found_in c.cids.result.now (of_length layer.lists.cids len) first c.stretch-cids.result.last first None c.cids.ensures none (omega arith) (omega arith) in
+    inl (at_lesser (λ last. DeclarationsEnd len first last layer) c.stretch-cids.result.last c.stretch-notdefs.result.last c.min.result (omega (arith, c.min.ensures))
+    (λ _. inl (longest_cids c.cids.result.now (of_length layer.lists.cids len) first c.stretch-cids.result.last c.cids.ensures c.stretch-cids.ensures.longest))
+    (λ _. inr (missed, longest_cids c.notdefs.result.now (of_length layer.lists.notdefs len) first c.stretch-notdefs.result.last c.notdefs.ensures c.stretch-notdefs.ensures.longest)) small)

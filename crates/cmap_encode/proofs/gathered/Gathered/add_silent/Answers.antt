@@ -2,7 +2,7 @@ use Rattle.std.proofs.Common.{◌≡◌, ◌+◌, ◌-◌, refl, sym, subst, ari
 use Rattle.std.specs.Prelude.{All}
 use Rattle.std.proofs.lemmas.List.Elements.{All-push}
 use Rattle.cmap_values.specs.CodeLengths.{length_of}
-use Rattle.cmap_encode.specs.FirstsSeen.{IsCodeRun}
+use Rattle.cmap_encode.specs.KeyCodesSeen.{IsCodeRun}
 use Rattle.cmap_encode.specs.GatheredSeen.{AreGathered, HaveGlyphs}
 use Rattle.cmap_encode.specs.Maps.{maps_seen}
 use Rattle.cmap_encode.proofs.GatheredRows.{cids_gathered, is_false, is_so, passed_over, silent_over}

@@ -5,9 +5,9 @@ use Rattle.std.specs.Str.{bytes_eq}
 use Rattle.std.proofs.Math.ListN.{length-set, set}
 use Rattle.std.proofs.lemmas.List.Elements.{All-get_or, All-push, All-set}
 use Rattle.std.proofs.lemmas.Option.{slice_get-get_or}
-use Rattle.cmap_encode.specs.FirstsSeen.{IsCodeRun}
+use Rattle.cmap_encode.specs.KeyCodesSeen.{IsCodeRun}
 use Rattle.cmap_encode.specs.RunsSeen.{number_of}
-use Rattle.cmap_encode.specs.declared.firsts.CodeRun.{CodeRun}
+use Rattle.cmap_encode.specs.declared.key_codes.CodeRun.{CodeRun}
 use Rattle.cmap_encode.proofs.RunsNumbered.{run_added}
 use Rattle.cmap_encode.proofs.runs_by_prefix.RunsByPrefix.add.Goals as goal
 

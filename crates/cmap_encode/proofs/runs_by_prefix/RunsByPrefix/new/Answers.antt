@@ -3,10 +3,10 @@ use Rattle.std.specs.Prelude.{All, option_and_then, slice_get}
 use Rattle.std.specs.Global.{Vec}
 use Rattle.std.proofs.lemmas.List.Elements.{All-nil, All-push, All-same}
 use Rattle.std.proofs.lemmas.Option.{none-some}
-use Rattle.cmap_encode.specs.FirstsSeen.{IsCodeRun}
+use Rattle.cmap_encode.specs.KeyCodesSeen.{IsCodeRun}
 use Rattle.cmap_encode.specs.RunsSeen.{items_of}
 use Rattle.cmap_encode.specs.TreeSeen.{node_after, step_of}
-use Rattle.cmap_encode.specs.declared.firsts.CodeRun.{CodeRun}
+use Rattle.cmap_encode.specs.declared.key_codes.CodeRun.{CodeRun}
 use Rattle.cmap_encode.proofs.TreeNodes.{only_empty}
 use Rattle.cmap_encode.proofs.runs_by_prefix.RunsByPrefix.new.Goals as goal
 

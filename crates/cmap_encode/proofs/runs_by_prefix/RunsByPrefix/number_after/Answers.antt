@@ -4,10 +4,10 @@ use Rattle.std.specs.Global.{Vec}
 use Rattle.std.specs.Str.{bytes_eq}
 use Rattle.std.proofs.lemmas.List.Elements.{All-nil, All-push, All-same}
 use Rattle.std.proofs.lemmas.Slice.Eq.{bytes_eq-Decides}
-use Rattle.cmap_encode.specs.FirstsSeen.{IsCodeRun}
+use Rattle.cmap_encode.specs.KeyCodesSeen.{IsCodeRun}
 use Rattle.cmap_encode.specs.RunsSeen.{number_of}
 use Rattle.cmap_encode.specs.TreeSeen.{PutsStep, node_of, step_of}
-use Rattle.cmap_encode.specs.declared.firsts.CodeRun.{CodeRun}
+use Rattle.cmap_encode.specs.declared.key_codes.CodeRun.{CodeRun}
 use Rattle.cmap_encode.proofs.RunsNumbered.{more_apart, more_within, runs_at, same_runs}
 use Rattle.cmap_encode.proofs.TreeNodes.{none_at, one_further, put_step, steps_inside}
 use Rattle.cmap_encode.proofs.runs_by_prefix.RunsByPrefix.number_after.Goals as goal

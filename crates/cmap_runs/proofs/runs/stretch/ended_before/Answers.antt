@@ -18,6 +18,7 @@ loop-low-preserved-then-run-code g c =
           (omega (arith, c.if-run-code.true, ap (λ (run : Run). run.high) (c.run-in-loop-low.view_is ∙ sym (get_or_from_slice_get runs middle _ d c.run.ensures.run))));
       after = old.after;
       bound = omega (arith, c.run.ensures.runs, half.1);
+      grows = omega (arith, c.run.ensures.runs, old.grows);
       declarations = search rules;
     }
 
@@ -33,5 +34,6 @@ loop-low-preserved g c =
           ends_later runs c.args.code middle k d c.requires le lt
           (omega (arith, c.if-run-code.false, ap (λ (run : Run). run.high) (c.run-in-loop-low.view_is ∙ sym (get_or_from_slice_get runs middle _ d c.run.ensures.run))));
       bound = omega (arith, c.run.ensures.runs, half.0);
+      grows = omega (arith, c.run.ensures.runs, old.grows);
       declarations = search rules;
     }

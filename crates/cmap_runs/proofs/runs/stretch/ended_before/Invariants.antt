@@ -10,6 +10,7 @@ invariant-loop-low g l = record {
   before : AllWithin (λ run. run.high < l.code) l.held.runs 0 l.low;
   after : AllWithin (λ run. l.code ≤ run.high) l.held.runs l.high (length l.held.runs);
   bound : l.looks.runs + digits (l.high - l.low) ≤ l.fn.looks.runs + digits (length l.held.runs);
+  grows : l.fn.looks.runs ≤ l.looks.runs;
   declarations : l.looks.declarations ≡ l.fn.looks.declarations;
 }
 

@@ -16,6 +16,8 @@ returns-then-ended-run_count g c =
       within = (omega (arith, c.ranges.code.fits), omega arith);
       ended = left_at_end runs code c.args.ended.now left (omega arith);
       looks = (omega arith, omega arith);
+      grows = (omega arith, omega arith);
+      looked = tt;
     }
 
 pub returns-then-code-run : goal.returns-then-code-run
@@ -31,6 +33,8 @@ returns-then-code-run g c =
       within = (omega (arith, lt), omega (arith, fits));
       ended = left_before_run runs c.args.code ended run (runs_in_order (map span list) c.requires.runs) c.requires.ended at lt (omega (arith, fits));
       looks = (omega (arith, c.run-run.ensures.runs), omega (arith, c.run-run.ensures.declarations));
+      grows = (omega (arith, c.run-run.ensures.runs), omega (arith, c.run-run.ensures.declarations));
+      looked = tt;
     }
 
 pub declaration-requires : goal.declaration-requires
@@ -56,4 +60,6 @@ returns g c =
       within = (here, fits.1);
       ended = left_after_run runs c.args.code ended run (runs_in_order (map span list) c.requires.runs) c.requires.ended at here (omega (arith, fits));
       looks = (omega (arith, c.run-run.ensures.runs, c.declaration.ensures.runs), omega (arith, c.run-run.ensures.declarations, c.declaration.ensures.declarations));
+      grows = (omega (arith, c.run-run.ensures.runs, c.declaration.ensures.runs), omega (arith, c.run-run.ensures.declarations, c.declaration.ensures.declarations));
+      looked = (omega (arith, c.run-run.ensures.runs, c.declaration.ensures.runs), omega (arith, c.run-run.ensures.declarations, c.declaration.ensures.declarations));
     }

@@ -8,4 +8,4 @@ use Rattle.cmap_unicode.proofs.extractor.Extractor.codes_from.Goals as goal
 pub returns : goal.returns
 returns c =
     let font = font_of c.args.self.now in let len = length_of c.args.len in
-    (omega (arith, c.in_ok-row.ensures.within), omega arith, spelled_among font len c.args.text.now _ _ (c.in_ok-found.ensures (its_text font len) (are_filled font len) c.in_ok-row.ensures))
+    (omega (arith, c.in_ok-row.ensures.texts.within), omega arith, spelled_among font len c.args.text.now _ _ (c.in_ok-found.ensures (its_text font len) (are_filled font len) c.in_ok-row.ensures.texts))

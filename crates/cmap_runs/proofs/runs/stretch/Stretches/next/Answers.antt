@@ -21,6 +21,8 @@ returns-in_err-code g c =
       none = rw (none, ← c.self.view_is) past;
       declarations = refl;
       looks = (omega arith, omega arith);
+      grows = (omega arith, omega arith);
+      looked = MatchOption-from_none _ _ none;
     }
 
 pub stretch_at-stretch-requires-clause-runs : goal.stretch_at-stretch-requires-clause-runs
@@ -47,4 +49,6 @@ returns g c =
       none = tt;
       declarations = rw (← c.self.view_is);
       looks = c.stretch_at-stretch.ensures.looks;
+      grows = c.stretch_at-stretch.ensures.grows;
+      looked = c.stretch_at-stretch.ensures.looked;
     }

@@ -6,7 +6,7 @@ use Rattle.cmap_runs.specs.DeclaredRanges.{DecidedRuns}
 use Rattle.cmap_runs.specs.Ranges.{Run, Span, runs_of}
 use Rattle.cmap_runs.specs.HeldRuns.{indices_within, runs_held}
 use Rattle.cmap_runs.specs.declared.runs.block_maker.BlockMaker.{BlockMaker}
-use Rattle.cmap_runs.specs.declared.runs.blocks.Blocks.{Blocks}
+use Rattle.cmap_runs.specs.declared.runs.held.Blocks.{Blocks}
 use Rattle.cmap_runs.specs.declared.runs.held.RunList.{RunList}
 use Rattle.cmap_runs.specs.Made.{AreFound, AreMadeBy}
 use Rattle.cmap_runs.specs.Order.{IsInOrder}

@@ -1,0 +1,26 @@
+"""Command lines that pages show, with what they print."""
+
+import re
+from dataclasses import dataclass
+
+SHOWN = re.compile(r"^    \$ (.*)\n((?:    (?!\$ ).*\n)*)", re.MULTILINE)
+
+
+@dataclass
+class Shown:
+    """A command line, and what stands below it."""
+
+    line: str
+    printed: str
+
+    def is_printed(self, output):
+        """Whether an output is what stands below; `...` as its last line stands for anything."""
+        if self.printed.endswith("...\n"):
+            return output.startswith(self.printed.removesuffix("...\n"))
+        return output == self.printed
+
+
+def shown_in(page):
+    """The command lines of a page."""
+    for line, printed in SHOWN.findall(page.read_text()):
+        yield Shown(line, re.sub("^    ", "", printed, flags=re.MULTILINE))
