@@ -44,6 +44,10 @@ Requires-Python: >=3.8
 Provides-Extra: pdf
 Requires-Dist: pikepdf >= 6; extra == "pdf"
 Requires-Dist: fonttools; extra == "pdf"
+Provides-Extra: pdfminer
+Requires-Dist: pdfminer.six >= 20221105; extra == "pdfminer"
+Provides-Extra: pypdf
+Requires-Dist: pypdf >= 3.4; extra == "pypdf"
 Classifier: Operating System :: OS Independent
 Classifier: Programming Language :: Python :: 3
 Classifier: Typing :: Typed
@@ -172,7 +176,7 @@ def build_sdist(sdist_directory, config_settings=None):
     root = f"{PACKAGE}-{VERSION}"
     here = ["pyproject.toml", "build_backend.py", "README.md"]
     files = {name: (HERE / name).read_bytes() for name in here}
-    tests = [path for folder in ["tests", "pdf_tests"] for path in sorted((HERE / folder).glob("*.py"))]
+    tests = [path for folder in ["tests", "pdf_tests", "adapter_tests"] for path in sorted((HERE / folder).glob("*.py"))]
     files.update({str(path.relative_to(HERE)): path.read_bytes() for path in [*sources(), *tests]})
     files.update({name: (TOP / name).read_bytes() for name in ["VERSION", *LICENCES]})
     files["PKG-INFO"] = metadata()

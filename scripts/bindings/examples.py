@@ -25,7 +25,7 @@ from .known import (
     to_unicode_file,
 )
 from .library import EXAMPLES, HELGRIND, MEMCHECK
-from .suites import python_with_pikepdf
+from .suites import python_with
 
 NATIVE = {"C": EXAMPLES / "decode.c", "C++": EXAMPLES / "decode.cc"}
 BUNDLE = EXAMPLES / "bundle.c"
@@ -282,7 +282,7 @@ def test_python_encodes_texts(checks, setting):
 @needs("pdftotext")
 def test_python_fills_a_form(checks, setting):
     """Each field has its text by pdftotext, and the codes of the glyphs that its collection means."""
-    python = python_with_pikepdf()
+    python = python_with("pikepdf")
     if python is None or not has_debian_files():
         print("skipped: python fills a form, for lack of pikepdf or poppler-data", flush=True)
         return

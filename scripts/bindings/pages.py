@@ -8,7 +8,7 @@ from common.shown import shown_in
 from .checks import needs, run
 from .known import has_debian_files
 from .library import EXAMPLES, TOP
-from .suites import python_with_pikepdf
+from .suites import python_with
 
 OWN = TOP / "crates" / "cmap" / "data" / "japanese" / "Sample-RKSJ-H"
 # what a stream says itself; with a use of a file, and without one
@@ -54,7 +54,7 @@ def test_rust_readme(checks, setting):
 
 def test_python_readme(checks, setting):
     """The PDF file that one example writes has the text that the other one prints."""
-    python, path = python_with_pikepdf(), setting.work / "office.pdf"
+    python, path = python_with("pikepdf"), setting.work / "office.pdf"
     if python is None:
         print("skipped: python readme, for lack of pikepdf (Debian's python3-pikepdf)", flush=True)
         return

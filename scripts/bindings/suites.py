@@ -167,15 +167,6 @@ def test_rust_crates_share_a_target_folder(checks, setting):
         checks.holds(f"the bindings, {what}", ran.status == 0, ran)
 
 
-@functools.cache
-def python_with_pikepdf():
-    """A Python that has pikepdf: this one, else Debian's; or None."""
-    for python in dict.fromkeys([sys.executable, "/usr/bin/python3"]):
-        if is_there(python) and run(python, "-c", "import pikepdf").status == 0:
-            return python
-    return None
-
-
 def check_unittest(checks, where, folder, environment):
     """Runs the tests of the package in a folder."""
     ran = run(Package.python, "-m", "unittest", "discover", "-s", "tests", "-t", ".", folder=folder, **environment)
@@ -199,15 +190,38 @@ def test_python_suite_installed(checks, setting):
     check_unittest(checks, "as pip installs it", folder, setting.package.installed())
 
 
+@functools.cache
+def python_with(module):
+    """A Python that has a module: this one, else Debian's; or None."""
+    for python in dict.fromkeys([sys.executable, "/usr/bin/python3"]):
+        if is_there(python) and run(python, "-c", f"import {module}").status == 0:
+            return python
+    return None
+
+
+def check_suite(checks, setting, python, what, folder):
+    """Runs the tests of a folder, from within it. Those for which something else is missing are counted."""
+    ran = run(python, "-m", "unittest", folder=PACKAGE / folder, **setting.package.in_project())
+    found = re.search(r"^Ran ([1-9]\d*) tests", ran.err, re.M)
+    checks.holds(f"unittest, {what}", ran.status == 0 and found, ran)
+    skipped = re.search(r"skipped=(\d+)", ran.err)
+    rest = f", {skipped[1]} of them skipped" if skipped else ""
+    print(f"unittest, {what}: {found[1] if found else 'no'} tests{rest}", flush=True)
+
+
 def test_python_pdf_suite(checks, setting):
-    """The tests over PDF files, where a Python has pikepdf. Those for which something else is missing are counted."""
-    python = python_with_pikepdf()
+    """The tests over PDF files, where a Python has pikepdf."""
+    python = python_with("pikepdf")
     if python is None:
         print("skipped: the tests over PDF files, for lack of pikepdf (Debian's python3-pikepdf)", flush=True)
         return
-    ran = run(python, "-m", "unittest", folder=PACKAGE / "pdf_tests", **setting.package.in_project())
-    found = re.search(r"^Ran ([1-9]\d*) tests", ran.err, re.M)
-    checks.holds("unittest, over PDF files", ran.status == 0 and found, ran)
-    skipped = re.search(r"skipped=(\d+)", ran.err)
-    rest = f", {skipped[1]} of them skipped" if skipped else ""
-    print(f"unittest, over PDF files: {found[1] if found else 'no'} tests{rest}", flush=True)
+    check_suite(checks, setting, python, "over PDF files", "pdf_tests")
+
+
+def test_python_adapters(checks, setting):
+    """The tests of the adapters for pdfminer and pypdf, where a Python has one of these."""
+    python = python_with("pdfminer") or python_with("pypdf")
+    if python is None:
+        print("skipped: the tests of the adapters, for lack of pdfminer and pypdf (Debian's python3-pdfminer)", flush=True)
+        return
+    check_suite(checks, setting, python, "with pdfminer and pypdf", "adapter_tests")

@@ -24,11 +24,13 @@ from ._map import CidRange, CMap, Code, CodeRange, Codespace, Layer, Metadata, S
 from ._owned import library, put
 from ._predefined import predefined
 from ._reading import uses
+from ._source import CMapSource
 from ._writer import CMapWriter, to_unicode
 
 __all__ = [
     "Bundle",
     "CMap",
+    "CMapSource",
     "CMapWriter",
     "Cause",
     "Character",

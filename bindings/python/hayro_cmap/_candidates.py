@@ -27,8 +27,7 @@ def candidates(encoding, to_unicode, collection) -> Iterator[bytes]:
 
 def with_texts(cmap) -> List[Range]:
     """The codes of declarations of texts. The last unit of a text counts on over 65,536 codes at most."""
-    declared = (it for layer in cmap.layers for it in layer._declared_texts())
-    return union((it.first, min(it.last, it.first + 0xFFFF)) for it in declared)
+    return union((first, min(last, first + 0xFFFF)) for first, last in cmap._declared_codes())
 
 
 def union(ranges: Iterable[Range]) -> List[Range]:

@@ -6,7 +6,7 @@ import itertools
 import os
 import struct
 from ctypes import c_int32, c_size_t, c_uint16, c_uint32, string_at
-from typing import Iterable, Iterator, List, NamedTuple, Optional, Tuple, Union
+from typing import Dict, Iterable, Iterator, List, NamedTuple, Optional, Tuple, Union
 
 from . import _based
 from ._bundle import Bundle, held
@@ -57,8 +57,14 @@ from ._values import (
 #: A hayro_cmap_code: its fields have no gaps between them.
 CODE = struct.Struct("=IIBBBB")
 
+#: A hayro_cmap_text_range.
+DECLARED = struct.Struct("@IIN")
+
 #: How many codes are kept: strings repeat them, and to make one takes longer than to find it.
 KEPT_CODES = 4096
+
+#: The greatest code whose text is given with those of all others, where nothing else is asked for.
+MOST_BY_CODE = 0xFFFF
 
 #: How many bytes the text of a map is written to at first.
 TEXT_ROOM = 65536
@@ -450,6 +456,16 @@ class CMap(Owned):
             for code in range(run.first, run.last + 1)
         )
 
+    def texts_by_code(self, last: int = MOST_BY_CODE) -> Dict[int, str]:
+        """The texts of the codes up to `last`, what `text` gives for those that have one, by their numbers.
+
+        No more than `last` + 1 codes are looked up, by default all of two bytes: a file of a few bytes may give each of
+        2^32 codes a text.
+        """
+        from ._by_code import texts_by_code
+
+        return texts_by_code(self, code_number(last))
+
     def _text_runs(self, codespaces: Optional[Iterable[Codespace]]) -> Iterator[TextRun]:
         """What `texts` gives, made one by one."""
         given = None if codespaces is None else [codespace_of(it) for it in codespaces]
@@ -496,13 +512,27 @@ class CMap(Owned):
         ranges = self._listed(library.hayro_cmap_codespaces, CodespaceRange, layer)
         return [Codespace(it.low, it.high, it.byte_len) for it in ranges]
 
+    def _declared_codes(self) -> List[Tuple[int, int]]:
+        """The first and the last code of each declaration of texts, layer by layer."""
+        found: List[Tuple[int, int]] = []
+        for layer in range(self._ask(library.hayro_cmap_layers)):
+            room, count = self._filled(library.hayro_cmap_text_ranges, DeclaredTexts, layer)
+            rows = DECLARED.iter_unpack(string_at(room, count * DECLARED.size))
+            found += [(first, last) for first, last, _ in rows]
+        return found
+
     def _listed(self, call, kind, *arguments):
         """The values of this type that a call on the map puts to a room; none where it has no answer."""
+        room, count = self._filled(call, kind, *arguments)
+        return room[:count]
+
+    def _filled(self, call, kind, *arguments):
+        """This room, and how many values of the type there are."""
         needed, status = c_size_t(16), NO_ROOM
         while status == NO_ROOM:
             room = (kind * needed.value)()
             status = checked(self._ask(call, *arguments, room, len(room), needed))
-        return room[: needed.value] if status == OK else []
+        return room, needed.value if status == OK else 0
 
 
 @functools.lru_cache(maxsize=KEPT_CODES)

@@ -2,7 +2,7 @@
 
 import struct
 from ctypes import byref, c_char, c_char_p, c_size_t
-from typing import Iterator, List, Optional, Tuple
+from typing import Dict, Iterator, List, Optional, Tuple
 
 from ._library import CharacterInString, Extracted
 from ._map import CMap
@@ -68,6 +68,15 @@ class Room:
             (code, byte_len, cid if has_cid else None, texts[start : start + text_len].decode() if has_text else None)
             for code, cid, byte_len, _, has_cid, _, has_text, start, text_len in FIELDS.iter_unpack(made)
         ]
+
+    def texts_by_code(self) -> Dict[int, str]:
+        """The texts of the codes that have one."""
+        texts, made = self.texts, memoryview(self._characters)[: self._extracted.made * FIELDS.size]
+        return {
+            code: texts[start : start + text_len].decode()
+            for code, _, _, _, _, _, has_text, start, text_len in FIELDS.iter_unpack(made)
+            if has_text
+        }
 
     def text(self, missing: str) -> str:
         """The texts, one after another, with `missing` for each character that has none."""

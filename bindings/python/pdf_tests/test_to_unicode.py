@@ -41,6 +41,29 @@ class FiveDigits(unittest.TestCase):
         self.assertEqual(character.text, "\U00020bb7")
 
 
+class UnclosedStrings(unittest.TestCase):
+    """Strings without a closing bracket end with their digits, where faults are read past."""
+
+    def text(self, entries, **options):
+        file = showing(b"\1\2\3", RANGES + entries)
+        return "".join(it.text or "?" for it in pdf.characters(file.pdf.pages[0], **options))
+
+    def test_texts(self):
+        for entries in [
+            b"beginbfchar <01> <0061 <02> <0062> <03> <0063> endbfchar",
+            b"beginbfchar <01> <0061> <02 <0062> <03><0063 endbfchar",
+            b"beginbfchar <01<0061><02><0062<03><0063> endbfchar",
+            b"beginbfrange <01> <03> [<0061 <0062> <0063] endbfrange",
+            b"beginbfrange <01> <03 [<0061> <0062> <0063>] endbfrange",
+        ]:
+            self.assertEqual(self.text(entries), "abc", entries)
+            self.assertEqual(self.text(entries, lenient=False), "???", entries)
+
+    def test_other_faults(self):
+        """What stands in a string and is no digit isn't its end."""
+        self.assertEqual(self.text(b"beginbfchar <01> <0061x <02> <0062> <03> <0063> endbfchar"), "?bc")
+
+
 @needs_glyph_list
 class EmptyTexts(unittest.TestCase):
     """An empty string is a fault, and the empty text: nothing else is asked for the text of the code."""

@@ -98,13 +98,6 @@ class NoFiles(unittest.TestCase):
             self.assertEqual([cmap.cid(0x41, 1), salvaged.cid(0x41, 1)], [34, 34])
         self.assertRaises(Refused, CMap.parse, uses(b"A"), None)
 
-    def test_what_are_no_files(self):
-        for call in [CMap.parse, CMap.salvage]:
-            with self.assertRaisesRegex(TypeError, "not list$"):
-                call(SMALL, [SMALL])
-        with self.assertRaisesRegex(TypeError, "not list$"):
-            CMap.open("Small-H", [SMALL])
-
 
 class Callables(unittest.TestCase):
     def test_each_name_once(self):

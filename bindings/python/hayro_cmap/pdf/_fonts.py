@@ -1,16 +1,12 @@
 """The fonts of a PDF file, with their CMaps."""
 
-import bisect
-import enum
 import functools
-import re
 from typing import Any, Callable, Dict, Iterable, Iterator, List, NamedTuple, Optional, Tuple
 
 import pikepdf
 
-from .. import CMap, Code, Extractor, Layer, NotWritable, Refused, predefined
-from .._faults import Lines
-from .._reading import NO_FILES
+from .. import CMapSource, Code, Extractor
+from .._font_maps import MOST_IN_CHAIN, Fault, FontMaps, Read, Source
 from .._room import Row
 from ._budget import Budget
 from ._glyphs import Names, differences_of, glyph_names, guessed_texts, is_symbolic, texts_of_names
@@ -21,6 +17,7 @@ from ._objects import (
     Undecodable,
     bytes_of,
     dictionary_at,
+    integer_at,
     name_at,
     object_number,
     stream_at,
@@ -30,59 +27,13 @@ from ._objects import (
 from ._programs import GlyphsOfCids, Program, glyphs_of_codes, program_of
 from ._widths import Widths
 
+__all__ = ["Character", "Fault", "Font", "Fonts", "Read", "Source", "fonts"]
+
 #: How many fonts a file may have.
 MOST_FONTS = 20_000
 
-#: How many faults of a CMap are kept: a small stream may have millions.
-MOST_FAULTS = 1_000
-
-#: How many files a chain of CMaps may have.
-MOST_IN_CHAIN = 16
-
 #: How deep the nodes of pages are looked up for resources.
 MOST_NODES = 1 << 10
-
-#: The registries and orderings whose CIDs have a text, where the system has the map (ISO 32000-1, 9.10.2).
-COLLECTIONS = {b"Adobe-GB1", b"Adobe-CNS1", b"Adobe-Japan1", b"Adobe-Korea1", b"Adobe-KR"}
-
-#: The encodings by which codes are CIDs.
-IDENTITIES = ("Identity-H", "Identity-V")
-
-#: How many characters the text of a code may have, and what a longer one is written in, at least.
-MOST_OF_TEXT = 1 << 10
-LONG_TEXT = re.compile(rb"<[0-9A-Fa-f\0\t\n\f\r ]{2048}|\([^()<>\[\]]{1024}")
-
-#: A hexadecimal string of five digits, and any one.
-FIVE_DIGITS = re.compile(rb"<[\0\t\n\f\r ]*[0-9A-Fa-f]{5}[\0\t\n\f\r ]*>")
-HEXADECIMAL = re.compile(rb"<([0-9A-Fa-f\0\t\n\f\r ]*)>")
-
-#: The last code that four bytes write.
-LAST_CODE = (1 << 32) - 1
-
-#: How many bytes a code has that is a character.
-UNICODE_BYTES = 2
-
-
-class Source(enum.Enum):
-    """Where the text of a code comes from."""
-
-    TO_UNICODE = "ToUnicode"
-    #: The codes are characters, as a ToUnicode entry without texts says.
-    UNICODE_CODES = "codes that are Unicode"
-    COLLECTION = "collection"
-    GLYPH_NAME = "glyph name"
-    #: The characters or the glyph names of the embedded program.
-    FONT_PROGRAM = "font program"
-    #: The number that a glyph has for a name.
-    GLYPH_NUMBER = "glyph number"
-    #: The text that the file gives for marked content with the code (ISO 32000-1, 14.9.4).
-    ACTUAL_TEXT = "ActualText"
-    NONE = "none"
-
-    @property
-    def is_guess(self) -> bool:
-        """Whether the file only suggests the text."""
-        return self is Source.GLYPH_NUMBER
 
 
 class Character(NamedTuple):
@@ -97,57 +48,18 @@ class Character(NamedTuple):
     source: Source
 
 
-class Fault(NamedTuple):
-    """Why a CMap of a font is refused."""
-
-    #: The key of the CMap, "ToUnicode" or "Encoding".
-    of: str
-    #: The number of the object of its stream; 0 where it is none.
-    number: int
-    #: Where reading stopped, in bytes of the decoded stream, and its line; None where it isn't malformed.
-    offset: Optional[int]
-    line: Optional[int]
-    #: The names of the CMaps by `UseCMap` that lead to the one at fault.
-    names: Tuple[bytes, ...]
-    reason: str
-
-    def __str__(self) -> str:
-        where = "" if self.offset is None else f"byte {self.offset}"
-        where += "" if self.line is None else f" (line {self.line})"
-        below = f", in /{self.names[-1].decode('latin-1')}" if self.names else ""
-        what = f"{self.of} {self.number}" if self.number else self.of
-        return f"{what}: {where}{': ' if where else ''}{self.reason}{below}"
-
-
-class Read(NamedTuple):
-    """What is read of a CMap of a font."""
-
-    #: The map, or None where it has faults, or there is no CMap.
-    strict: Optional[CMap]
-    #: The map of what it says apart from its faults.
-    lenient: Optional[CMap]
-    faults: List[Fault]
-    #: The decoded stream; no bytes for a predefined CMap.
-    data: bytes = b""
-    #: Whether the map past faults has characters for texts of five digits.
-    has_five_digits: bool = False
-
-
-NOTHING = Read(None, None, [])
-
-
-class Font:
+class Font(FontMaps):
     """A font of a PDF file. Its CMaps are read when they are first asked for, while the file is open."""
 
     def __init__(
         self, dictionary: pikepdf.Dictionary, streams: Optional[Streams] = None, budget: Optional[Budget] = None
     ):
+        super().__init__()
         self.dictionary = dictionary
         self._streams = Streams() if streams is None else streams
         #: What may still be taken of the programs and the widths of the fonts of the file.
         self.budget = Budget() if budget is None else budget
         self._characters: Dict[Tuple[bool, bool], Dict[Tuple[int, int], Character]] = {}
-        self._extractors: Dict[bool, Extractor] = {}
         #: The numbers of its object, or None where it is written where it is used.
         self.objgen: Optional[Tuple[int, int]] = written_as(dictionary)
         #: "Type0", "Type1", "TrueType" and so on.
@@ -190,66 +102,30 @@ class Font:
         return next((name for kind, name in kinds if isinstance(self._encoding_entry, kind)), "none")
 
     @functools.cached_property
-    def encoding(self) -> Read:
-        """The CMap of a composite font, over those of `UseCMap`; nothing of a simple one."""
-        if not self.is_composite:
-            return NOTHING
-        encoding = self._encoding_entry
-        if self.encoding_kind == "stream":
-            return read_stream(encoding, "Encoding", self._streams)
-        if self.encoding_kind != "name":
-            return Read(None, None, [Fault("Encoding", 0, None, None, (), "it is neither a name nor a stream")])
-        try:
-            # the files of these two have nothing that isn't known
-            is_identity = self.encoding_name in IDENTITIES
-            cmap = CMap.identity(self.encoding_name == "Identity-V") if is_identity else CMap.open(bytes_of(encoding))
-        except Refused as fault:
-            return Read(None, None, [fault_of(fault, "Encoding", 0, b"")])
-        return Read(cmap, cmap, [])
+    def encoding_source(self) -> Optional[CMapSource]:
+        """Where the CMap of a composite font is read from; None where its encoding is neither a name nor a stream."""
+        return source_of(self._encoding_entry, self._streams)
 
     @functools.cached_property
-    def encoding_layers(self) -> List[Layer]:
-        """What the files of the CMap of a composite font give; nothing of a simple one."""
-        return [] if self.encoding.lenient is None else self.encoding.lenient.layers
-
-    @functools.cached_property
-    def to_unicode(self) -> Read:
-        """The ToUnicode CMap; nothing where the font has none."""
+    def to_unicode_source(self) -> Optional[CMapSource]:
+        """Where the ToUnicode CMap is read from; None where the font has no such entry."""
         value = self.dictionary.get("/ToUnicode")
-        if isinstance(value, pikepdf.Stream):
-            return read_stream(value, "ToUnicode", self._streams)
-        # a name there stands for no text: writers of PDF give Identity-H
-        is_absent = value is None or isinstance(value, pikepdf.Name)
-        return NOTHING if is_absent else Read(None, None, [Fault("ToUnicode", 0, None, None, (), "it is no stream")])
+        return None if value is None else source_of(value, self._streams) or CMapSource(unreadable="it is no stream")
 
     @functools.cached_property
-    def collection(self) -> Optional[bytes]:
-        """The character collection of a composite font, as b"Adobe-Japan1" (ISO 32000-1, 9.7.3).
+    def collection_of_cid_font(self) -> Optional[bytes]:
+        """The registry and the ordering of the CIDFont of a composite font."""
+        return None if self.descendant is None else collection_in(self.descendant.get("/CIDSystemInfo"))
 
-        It is that of a predefined CMap. Under Identity-H, Identity-V or a stream it is that of the CIDFont: the codes
-        are CIDs of that font, while the CMap's own collection is Adobe-Identity.
-        """
-        if not self.is_composite:
-            return None
-        of_font = None if self.descendant is None else collection_in(self.descendant.get("/CIDSystemInfo"))
-        is_own = self.encoding_kind == "stream" or self.encoding_name in IDENTITIES
-        if is_own and of_font is not None:
-            return of_font
-        said = [layer.metadata for layer in self.encoding_layers]
-        found = (
-            b"%b-%b" % (it.registry, it.ordering) for it in said if it.registry is not None and it.ordering is not None
-        )
-        return next(found, of_font)
+    @property
+    def has_glyph_stream(self) -> bool:
+        """Whether the CIDToGIDMap of the CIDFont is a stream."""
+        return self.descendant is not None and stream_at(self.descendant, "/CIDToGIDMap") is not None
 
-    @functools.cached_property
-    def texts_of_cids(self) -> Optional[CMap]:
-        """The map of the CIDs of its collection to texts, as Adobe-Japan1-UCS2; None where there is none."""
-        if self.collection not in COLLECTIONS or self.encoding.lenient is None:
-            return None
-        try:
-            return CMap.open(self.collection + b"-UCS2")
-        except Refused:
-            return None
+    @property
+    def mode_of_stream(self) -> int:
+        """The entry WMode of the stream of the encoding, or 0."""
+        return integer_at(self._encoding_entry, "/WMode") if self.encoding_kind == "stream" else 0
 
     @functools.cached_property
     def glyph_names(self) -> Names:
@@ -298,62 +174,9 @@ class Font:
         return None if self.descendant is None else GlyphsOfCids(self.descendant, self.program, self._streams)
 
     @functools.cached_property
-    def has_unicode_codes(self) -> bool:
-        """Whether the codes of two bytes of a composite font are characters.
-
-        They are if ToUnicode is the name Identity-H or Identity-V, or has CIDs and no texts, and the CMap or the map
-        from CIDs to glyphs is a stream of the file. Without such a stream codes are numbers of glyphs.
-        """
-        is_mapped = self.encoding_kind == "stream" or (
-            self.descendant is not None and stream_at(self.descendant, "/CIDToGIDMap") is not None
-        )
-        if not self.is_composite or not is_mapped:
-            return False
-        if name_at(self.dictionary, "/ToUnicode") in IDENTITIES:
-            return True
-        layers = [] if self.to_unicode.lenient is None else self.to_unicode.lenient.layers
-        return any(layer.cids for layer in layers) and not any(layer.texts for layer in layers)
-
-    @functools.cached_property
     def widths(self) -> Widths:
         """The widths of its glyphs."""
         return Widths.of(self)
-
-    def extractor(self, lenient: bool = False) -> Extractor:
-        """The CMaps of the font, by which strings have texts.
-
-        A ToUnicode CMap with faults gives no text, but with `lenient` what it says apart from them. Where a composite
-        font has no CMap that can be had, strings are cut by the codespace ranges of the ToUnicode CMap, and without
-        these into codes of two bytes. Its `encode` goes by the map from Unicode to the collection, where the system has
-        that.
-        """
-        to_unicode = self.to_unicode.lenient if lenient else self.to_unicode.strict
-        extractor = Extractor(self._cutting, to_unicode=to_unicode, collection=self.texts_of_cids, files=NO_FILES)
-        if self.encoding.lenient is not None:
-            # few strings are encoded, and the map is large
-            extractor._unicode_of = functools.partial(unicode_or_none, self.encoding.lenient, self.collection)
-        return extractor
-
-    @functools.cached_property
-    def _cutting(self) -> Optional[CMap]:
-        """The map that cuts strings into codes and gives these CIDs; None of a simple font."""
-        if not self.is_composite or self.encoding.lenient is not None:
-            return self.encoding.lenient
-        left = self.to_unicode.lenient
-        has_ranges = left is not None and any(layer.codespaces for layer in left.layers)
-        return left if has_ranges else CMap.identity()
-
-    def _kept_extractor(self, lenient: bool) -> Extractor:
-        """The extractor of its CMaps alone, made once: most codes have a text without the map of the collection."""
-        if lenient not in self._extractors:
-            to_unicode = self.to_unicode.lenient if lenient else self.to_unicode.strict
-            self._extractors[lenient] = Extractor(self._cutting, to_unicode=to_unicode, files=NO_FILES)
-        return self._extractors[lenient]
-
-    @property
-    def code_length(self) -> Optional[int]:
-        """How many bytes each code has; None where codes have several lengths."""
-        return 1 if not self.is_composite else self._kept_extractor(True)._code_length
 
     def characters(self, string: bytes, lenient: bool = True, guesses: bool = True) -> List[Character]:
         """The codes of a string that is shown with the font, with their texts.
@@ -392,52 +215,20 @@ class Font:
 
     def _text_and_source(self, row: Row, lenient: bool, guesses: bool) -> Tuple[Optional[str], Source]:
         """The text of a code, to which the ToUnicode CMap gives the one of this row, and where it comes from."""
-        code, byte_len, cid, text = row
-        if text is not None:
-            return text, Source.TO_UNICODE
-        if lenient and self._has_empty_text(code):
-            return "", Source.TO_UNICODE
-        if self.is_composite:
-            found = self._text_of_composite(code, byte_len, cid, lenient)
-        else:
-            found = self._text_of_simple(code)
+        found = self.text_by_maps(row, lenient)
+        if found[0] is None:
+            found = self._text_of_glyph(row[2]) if self.is_composite else self._text_of_simple(row[0])
         return found if guesses or not found[1].is_guess else (None, Source.NONE)
 
-    def _text_of_composite(
-        self, code: int, byte_len: int, cid: Optional[int], lenient: bool
-    ) -> Tuple[Optional[str], Source]:
-        """The text of a code of a composite font without one in the ToUnicode CMap."""
-        if lenient and byte_len == UNICODE_BYTES and self.has_unicode_codes and is_character(code):
-            return chr(code), Source.UNICODE_CODES
-        if cid is None:
-            return None, Source.NONE
-        text = None if self.texts_of_cids is None else self.texts_of_cids.text(cid)
-        if text is not None:
-            return text, Source.COLLECTION
-        text = None if self.glyphs_of_cids is None else self.glyphs_of_cids.text(cid)
+    def _text_of_glyph(self, cid: Optional[int]) -> Tuple[Optional[str], Source]:
+        """The text that the program has for the glyph of a CID of a composite font."""
+        text = None if cid is None or self.glyphs_of_cids is None else self.glyphs_of_cids.text(cid)
         return text, Source.NONE if text is None else Source.FONT_PROGRAM
 
     def _text_of_simple(self, code: int) -> Tuple[Optional[str], Source]:
         """The text of a code of a simple font without one in the ToUnicode CMap."""
         found = ((text_of(self, code), source) for source, text_of in self._ways)
         return next(((text, source) for text, source in found if text is not None), (None, Source.NONE))
-
-    def _has_empty_text(self, code: int) -> bool:
-        """Whether the ToUnicode CMap declares the empty text for a code of which it has no other text."""
-        index = bisect.bisect_right(self._empty_texts, (code, LAST_CODE)) - 1
-        return index >= 0 and code <= self._empty_texts[index][1]
-
-    @functools.cached_property
-    def _empty_texts(self) -> List[Tuple[int, int]]:
-        """The codes for which the ToUnicode CMap declares the empty text, which is a fault, in rows that lie apart."""
-        read, found = self.to_unicode, []
-        layers = read.lenient.layers if read.faults and read.lenient is not None else []
-        for first, last in sorted((it.first, it.last) for layer in layers for it in layer.texts if not it.text):
-            if found and first <= found[-1][1]:
-                found[-1] = (found[-1][0], max(last, found[-1][1]))
-            else:
-                found.append((first, last))
-        return found
 
     @functools.cached_property
     def _ways(self) -> List[Tuple[Source, Callable[["Font", int], Optional[str]]]]:
@@ -500,92 +291,25 @@ def written_as(value: pikepdf.Object) -> Optional[Tuple[int, int]]:
     return numbers if numbers[0] else None
 
 
-def is_character(code: int) -> bool:
-    """Whether a code of two bytes is a character: it is neither 0 nor a surrogate."""
-    return code != 0 and not 0xD800 <= code <= 0xDFFF
-
-
-def read_stream(stream: pikepdf.Stream, of: str, streams: Streams, over: Tuple = ()) -> Read:
-    """What is read of a CMap in a stream, over the one that it is based on; `over` are the streams based on it."""
-    number = object_number(stream)
-    try:
-        data = streams.decoded(stream)
-        base = stream["/UseCMap"] if "/UseCMap" in stream else None
-        below = read_base(base, of, streams, (*over, stream.objgen))
-        # without the operator no file is used, and none is looked for
-        files = predefined if b"usecmap" in data else None
-        cmap, refusals = CMap.salvage(data, files, base=below.lenient, most_faults=MOST_FAULTS + 1)
-        limit_texts(cmap, data)
-        past_faults = cmap
-        read_as = with_whole_characters(data)
-        if read_as != data:
-            past_faults, _ = CMap.salvage(read_as, files, base=below.lenient, most_faults=0)
-    except (TooLarge, Undecodable) as fault:
-        return Read(None, None, [Fault(of, number, None, None, (), str(fault))])
-    except NotWritable as fault:
-        return Read(None, None, [Fault(of, number, None, None, (), f"what it is based on can't be used: {fault}")])
-    lines = Lines(data if refusals else b"")
-    faults = [fault_of(it, of, number, lines) for it in refusals[:MOST_FAULTS]]
-    if len(refusals) > MOST_FAULTS:
-        faults.append(Fault(of, number, None, None, (), f"more than {MOST_FAULTS:,} faults"))
-    faults += below.faults
-    return Read(None if faults else cmap, past_faults, faults, data, read_as != data)
-
-
-def limit_texts(cmap: CMap, data: bytes) -> None:
-    """TooLarge where a code has a text that is too long: a range of few bytes gives it to many codes."""
-    if len(data) > MOST_OF_TEXT and LONG_TEXT.search(data) and any(len(row.start) >= MOST_OF_TEXT for row in cmap._text_rows()):
-        raise TooLarge(f"a code has a text of more than {MOST_OF_TEXT:,} characters")
-
-
-def with_whole_characters(data: bytes) -> bytes:
-    """The same CMap with each text of five digits in UTF-16, if no other string has an odd number of digits.
-
-    Some producers write the number of a character past U+FFFF so, as `<20BB7>`, which is the bytes 20 BB 70.
-    """
-    if FIVE_DIGITS.search(data) is None:
-        return data
-    odd = [it for it in map(digits_of, HEXADECIMAL.findall(data)) if len(it) % 2]
-    if not odd or any(len(it) != 5 or not 0x10000 <= int(it, 16) for it in odd):
-        return data
-    return HEXADECIMAL.sub(lambda found: in_utf_16(digits_of(found[1])) or found[0], data)
-
-
-def digits_of(written: bytes) -> bytes:
-    """The digits of a hexadecimal string, without white space."""
-    return b"".join(written.replace(b"\0", b"").split())
-
-
-def in_utf_16(digits: bytes) -> Optional[bytes]:
-    """The hexadecimal string of the character whose number is written with five digits; None of other numbers."""
-    return b"<%b>" % chr(int(digits, 16)).encode("utf-16-be").hex().encode() if len(digits) == 5 else None
-
-
-def read_base(base: Any, of: str, streams: Streams, over: Tuple) -> Read:
-    """What is read of the CMap at the entry UseCMap of a stream (ISO 32000-1, 9.7.5.3), a stream or a name."""
-    if isinstance(base, pikepdf.Stream) and base.objgen not in over and len(over) < MOST_IN_CHAIN:
-        return read_stream(base, of, streams, over)
-    if not isinstance(base, pikepdf.Name):
-        return NOTHING
-    try:
-        cmap = CMap.open(bytes_of(base))
-    except Refused as fault:
-        return Read(None, None, [fault_of(fault, of, 0, Lines(b""))])
-    return Read(cmap, cmap, [])
-
-
-def fault_of(refused: Refused, of: str, number: int, lines: Lines) -> Fault:
-    """Why a CMap is refused, whose lines are these."""
-    line = None if refused.names else lines.line(refused.offset)
-    return Fault(of, number, refused.offset, line, refused.names, refused.words)
-
-
-def unicode_or_none(encoding: CMap, collection: Optional[bytes]) -> Optional[CMap]:
-    """The map from Unicode to the CIDs of the collection of a font; None where there is none."""
-    try:
-        return encoding.unicode(name=collection)
-    except Refused:
+def source_of(value: Any, streams: Streams, over: Tuple = ()) -> Optional[CMapSource]:
+    """Where a CMap is read from, a stream or a name; `over` are the streams that are based on it."""
+    if isinstance(value, pikepdf.Name):
+        return CMapSource(bytes_of(value))
+    if not isinstance(value, pikepdf.Stream):
         return None
+    number = object_number(value)
+    try:
+        data = streams.decoded(value)
+    except (TooLarge, Undecodable) as fault:
+        return CMapSource(number=number, unreadable=str(fault))
+    return CMapSource(data=data, base=base_of(value, streams, (*over, value.objgen)), number=number)
+
+
+def base_of(stream: pikepdf.Stream, streams: Streams, over: Tuple) -> Optional[CMapSource]:
+    """What a stream is based on, by its entry UseCMap (ISO 32000-1, 9.7.5.3); nothing in a circle."""
+    base = stream["/UseCMap"] if "/UseCMap" in stream else None
+    is_repeated = isinstance(base, pikepdf.Stream) and (base.objgen in over or len(over) >= MOST_IN_CHAIN)
+    return None if base is None or is_repeated else source_of(base, streams, over)
 
 
 def collection_in(info: Any) -> Optional[bytes]:

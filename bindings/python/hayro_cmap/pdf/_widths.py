@@ -11,7 +11,6 @@ from typing import TYPE_CHECKING, Any, Callable, Dict, Iterator, List, NamedTupl
 
 import pikepdf
 
-from .. import WritingMode
 from ._budget import Budget
 from ._glyphs import Names
 from ._metrics import (
@@ -126,7 +125,7 @@ class Widths:
         descendant = pikepdf.Dictionary() if font.descendant is None else font.descendant
         default = number_at(descendant, "/DW", DEFAULT_OF_CID)
         by_cid = widths_of_cids(descendant, font.budget)
-        if not is_vertical(font):
+        if not font.is_vertical:
             return cls([], by_cid, default)
         verticals = verticals_of_cids(descendant, font.budget)
         return cls([], by_cid, default, verticals, pair_of(descendant.get("/DW2"), DEFAULT_VERTICAL))
@@ -212,19 +211,6 @@ def scale_of(font: "Font") -> float:
         return 1.0
     matrix = numbers(font.dictionary.get("/FontMatrix"))
     return 1000 * (matrix[0] if matrix and matrix[0] is not None else THOUSANDTH)
-
-
-def is_vertical(font: "Font") -> bool:
-    """Whether the encoding of a composite font is for vertical writing (ISO 32000-1, 9.7.5)."""
-    kind = font.encoding_kind
-    if kind == "stream" and integer_at(font.dictionary.get("/Encoding"), "/WMode") == WritingMode.VERTICAL:
-        return True
-    encoding = font.encoding.lenient
-    mode = None if encoding is None else encoding._first_writing_mode()
-    if mode is None and kind == "name":
-        # a predefined CMap that isn't at hand has its writing mode in its name
-        return (font.encoding_name or "").endswith("V")
-    return mode is WritingMode.VERTICAL
 
 
 def widths_of_cids(descendant: pikepdf.Dictionary, budget: Budget) -> Dict[int, float]:

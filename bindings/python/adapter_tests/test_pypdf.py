@@ -1,0 +1,161 @@
+"""The adapter for pypdf and PyPDF2."""
+
+import copy
+import gc
+import importlib
+import io
+import pickle
+import threading
+import time
+import unittest
+import warnings
+
+import cases
+
+LIBRARIES = []
+for name in ("pypdf", "PyPDF2"):
+    try:
+        LIBRARIES.append(importlib.import_module(name))
+    except ImportError:
+        pass
+if not LIBRARIES:
+    raise unittest.SkipTest("neither pypdf nor PyPDF2 is there (Debian's python3-pypdf)")
+
+from made import Name, Stream, composite, pdf, simple, to_unicode
+
+import hayro_cmap
+import hayro_cmap.pypdf as adapter
+
+#: An encoding with the codes 41, 8140 to 8142, and 42 with the CID 0.
+OWN = Stream(cases.EMBEDDED + b" 1 begincidchar <42> 0 endcidchar", Type=Name("CMap"), CMapName=Name("Own-H"))
+
+
+def text(library, font, string):
+    with warnings.catch_warnings():
+        warnings.simplefilter("ignore")
+        page = library.PdfReader(io.BytesIO(pdf({"F": font}, [("F", string)]))).pages[0]
+        return "".join(page.extract_text().split())
+
+
+def hooked(library):
+    """The functions of a library in whose places others are put."""
+    module = importlib.import_module(library.__name__ + "._cmap")
+    names = ("parse_encoding", "parse_to_unicode")
+    return [it for name, it in sorted(vars(module).items()) if name.lstrip("_") in names]
+
+
+def characters_of(name):
+    """The texts of the characters of an encoding, and its codec."""
+    maps = adapter.GivenMaps(True, adapter.CMapSource(name), None, b"Adobe-Japan1")
+    codec = adapter.codec_name(maps)
+    return adapter.Characters(maps, codec, None), codec
+
+
+def live():
+    gc.collect()
+    return sum(isinstance(it, (hayro_cmap.CMap, adapter.Encoding)) for it in gc.get_objects())
+
+
+class Texts(unittest.TestCase):
+    def test_texts(self):
+        for library in LIBRARIES:
+            for name, font, string, expected in [*cases.RIGHT, *cases.BROKEN, *cases.COLLECTIONS]:
+                with self.subTest(f"{library.__name__}: {name}"), adapter.installed():
+                    self.assertEqual(text(library, font, string), expected)
+
+    def test_right_files_are_as_without(self):
+        for library in LIBRARIES:
+            for name, font, string, expected in cases.RIGHT:
+                before = text(library, font, string)
+                with self.subTest(f"{library.__name__}: {name}"), adapter.installed():
+                    self.assertEqual((text(library, font, string), before), (expected, expected))
+
+    def test_missing(self):
+        font = composite(Name("Identity-H"), to_unicode(b"1 beginbfchar <0041> <0042> endbfchar"))
+        for library in LIBRARIES:
+            with adapter.installed(missing="?"):
+                self.assertEqual(text(library, font, b"\0A\0C"), "B?")
+            with adapter.installed():
+                self.assertEqual(text(library, font, b"\0A\0C"), "BC")
+                # the CID 0 has no text, and 43 has no CID
+                self.assertEqual(text(library, composite(OWN, ordering="Japan1"), b"ABC"), "あ\N{REPLACEMENT CHARACTER}")
+
+    def test_a_range_of_all_codes_takes_no_time(self):
+        start = time.process_time()
+        with adapter.installed():
+            for library in LIBRARIES:
+                self.assertEqual(text(library, composite(Name("Identity-H"), cases.ENDLESS), b"\0A"), "A")
+                self.assertEqual(text(library, simple(cases.ENDLESS), b"A"), "A")
+                text(library, composite(Name("Identity-H"), cases.MANY), b"\0A")
+        self.assertLess(time.process_time() - start, 5)
+
+    def test_install_and_uninstall(self):
+        for library in LIBRARIES:
+            originals = hooked(library)
+            self.assertEqual(len(originals), 2)
+            adapter.install()
+            adapter.install()
+            with adapter.installed():
+                pass
+            self.assertFalse(set(hooked(library)) & set(originals))
+            adapter.uninstall()
+            adapter.uninstall()
+            self.assertEqual(hooked(library), originals)
+
+    def test_threads(self):
+        wrong = []
+
+        def work(library):
+            for name, font, string, expected in [*cases.RIGHT, *cases.COLLECTIONS[:5]]:
+                if text(library, font, string) != expected:
+                    wrong.append(name)
+
+        with adapter.installed():
+            threads = [threading.Thread(target=work, args=[library]) for library in LIBRARIES for _ in range(4)]
+            for it in threads:
+                it.start()
+            for it in threads:
+                it.join()
+        self.assertEqual(wrong, [])
+
+
+class Codecs(unittest.TestCase):
+    def test_both_ways(self):
+        characters, codec = characters_of(b"90ms-RKSJ-H")
+        shown = cases.WORD.decode(codec)
+        self.assertEqual([characters[it] for it in shown], ["日", "本", "語"])
+        self.assertEqual(shown.encode(codec), cases.WORD)
+        self.assertRaises(UnicodeEncodeError, "\U0010ffff".encode, codec)
+
+    def test_copies_and_pickles(self):
+        characters, codec = characters_of(b"90ms-RKSJ-H")
+        for other in (pickle.loads(pickle.dumps(characters)), copy.copy(characters), characters.copy()):
+            self.assertEqual([other[it] for it in cases.WORD.decode(codec)], ["日", "本", "語"])
+        self.assertNotIn(-1, characters)
+        self.assertEqual(characters.get(-1, 5), 5)
+
+    def test_a_codec_ends_with_its_fonts(self):
+        characters, codec = characters_of(b"EUC-H")
+        self.assertTrue(b"\xc6\xfc".decode(codec))
+        del characters
+        adapter._recent.clear()
+        gc.collect()
+        self.assertRaises(LookupError, b"\xc6\xfc".decode, codec)
+
+    def test_no_map_outlives_its_font(self):
+        def show(number):
+            own = Stream(cases.EMBEDDED + b"%%%d" % number, Type=Name("CMap"), CMapName=Name("Own-H"))
+            self.assertEqual(text(LIBRARIES[0], composite(own, ordering="Japan1"), b"\x81\x40"), "日")
+
+        with adapter.installed():
+            for number in range(300):
+                show(number)
+            before = live()
+            for number in range(300, 500):
+                show(number)
+            self.assertLessEqual(live(), before + 3)
+        self.assertLessEqual(len(adapter._names), adapter.KEPT_NAMES)
+
+
+if __name__ == "__main__":
+    unittest.main()

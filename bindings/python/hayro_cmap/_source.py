@@ -1,0 +1,51 @@
+"""Where CMaps are read from, in a form that can be pickled."""
+
+from typing import NamedTuple, Optional
+
+from ._map import CMap, Salvaged
+from ._predefined import predefined
+from ._reading import Files
+
+#: The predefined CMaps that are no files, and whose files have nothing that isn't known.
+IDENTITIES = {b"Identity-H": False, b"Identity-V": True}
+
+
+class CMapSource(NamedTuple):
+    """Where a CMap is read from: the name of a predefined one, or the bytes of a stream, over the source at its entry
+    UseCMap, as a PDF file has them. Unlike a map it can be pickled and compared."""
+
+    name: Optional[bytes] = None
+    data: Optional[bytes] = None
+    base: Optional["CMapSource"] = None
+    #: The number of the object of a stream.
+    number: int = 0
+    #: Why a stream can't be decoded.
+    unreadable: Optional[str] = None
+
+    def open(self) -> CMap:
+        """The map. Refused where it is malformed or missing; ValueError where the stream can't be decoded."""
+        if self.name is not None:
+            return opened(self.name)
+        return CMap.parse(self._bytes(), self.files, base=None if self.base is None else self.base.open())
+
+    def salvage(self, most_faults: Optional[int] = None) -> Salvaged:
+        """The map of what a stream says past its faults, and these; those of what it is based on aren't given."""
+        if self.name is not None:
+            return Salvaged(opened(self.name), [])
+        base = None if self.base is None else self.base.salvage(0).cmap
+        return CMap.salvage(self._bytes(), self.files, base=base, most_faults=most_faults)
+
+    @property
+    def files(self) -> Optional[Files]:
+        """The files that a stream may use: without the operator none is looked for."""
+        return predefined if self.data is not None and b"usecmap" in self.data else None
+
+    def _bytes(self) -> bytes:
+        if self.data is None:
+            raise ValueError(self.unreadable or "the source has neither a name nor data")
+        return self.data
+
+
+def opened(name: bytes) -> CMap:
+    """The predefined CMap of a name."""
+    return CMap.identity(IDENTITIES[name]) if name in IDENTITIES else CMap.open(name)

@@ -1,0 +1,237 @@
+"""CMaps of fonts for pdfminer.six, and for what is built on it, as pdfplumber.
+
+    import hayro_cmap.pdfminer
+    hayro_cmap.pdfminer.install()
+
+From then on each font that pdfminer makes has its CMaps read by hayro_cmap: the ToUnicode CMap of any font, past its
+faults, and of a composite font its predefined or embedded CMap and the map of its character collection. `uninstall`
+ends this, and `installed` is both as a context manager. Fonts that were made stay as they are.
+
+Without a change of pdfminer for all of a process, give a `ResourceManager` in the place of a PDFResourceManager.
+"""
+
+import contextlib
+import threading
+from typing import Any, Callable, Dict, Iterator, List, Mapping, Optional, Tuple
+
+from pdfminer import cmapdb, pdffont, pdfinterp
+from pdfminer.pdftypes import PDFStream, resolve1
+
+from . import CMapSource
+from ._font_maps import MOST_IN_CHAIN, GivenMaps
+
+__all__ = ["ResourceManager", "install", "installed", "uninstall"]
+
+#: What pdfminer calls encodings that are Identity-H and Identity-V.
+SAME = {"DLIdent-H": "Identity-H", "DLIdent-V": "Identity-V"}
+
+#: Encodings that pdfminer reads itself, and that are no predefined CMaps.
+OF_PDFMINER = ("OneByteIdentityH", "OneByteIdentityV")
+
+CID_FONTS = ("CIDFontType0", "CIDFontType2")
+
+
+class Cid(int):
+    """A CID, as pdfminer takes it for widths, with the text of its code."""
+
+    text: Optional[str] = None
+    is_shown = True
+
+
+class Texts(cmapdb.UnicodeMap):
+    """The texts of codes that are CIDs, or single bytes, each looked up when it is first asked for."""
+
+    def __init__(self, maps: GivenMaps):
+        super().__init__()
+        self._maps = maps
+        self._known: Dict[int, Optional[str]] = {}
+
+    def get_unichr(self, cid: int) -> str:
+        if cid not in self._known:
+            self._known[cid] = self._text(cid)
+        text = self._known[cid]
+        if text is None:
+            raise KeyError(cid)
+        return text
+
+    def _text(self, cid: int) -> Optional[str]:
+        return self._maps.text(cid, 2, cid) if self._maps.is_composite else self._maps.text(cid, 1, None)
+
+    def __reduce__(self) -> Any:
+        return type(self), (self._maps,)
+
+
+class TextsOfCodes(Texts):
+    """The texts of codes that have CIDs."""
+
+    def get_unichr(self, cid: int) -> str:
+        if not isinstance(cid, Cid):
+            # a CID that no string has given: what it stands for in the collection
+            return super().get_unichr(cid)
+        if cid.text is None:
+            raise KeyError(cid)
+        return cid.text
+
+    def _text(self, cid: int) -> Optional[str]:
+        return self._maps.text_of_cid(cid)
+
+
+class Identity(cmapdb.IdentityCMap):
+    """Identity-H and Identity-V, also of a string that ends within a code."""
+
+    def decode(self, code: bytes) -> Tuple[int, ...]:
+        return super().decode(code if len(code) % 2 == 0 else code[:-1])
+
+
+class Encoding(cmapdb.CMapBase):
+    """The CMap of a composite font, which gives CIDs with texts."""
+
+    def __init__(self, maps: GivenMaps):
+        source = maps.encoding_source
+        name = {} if source is None or source.name is None else {"CMapName": source.name.decode("latin-1")}
+        super().__init__(WMode=int(maps.is_vertical), **name)
+        self._maps = maps
+        self._known: Dict[Tuple[int, int], Cid] = {}
+
+    def __repr__(self) -> str:
+        return f"<Encoding: {self.attrs.get('CMapName')}>"
+
+    def decode(self, code: bytes) -> List[Cid]:
+        found = []
+        for it, text in self._maps.codes(code):
+            cid = self._known.get(it[:2])
+            if cid is None:
+                cid = self._known[it[:2]] = Cid(it.cid or 0)
+                cid.text, cid.is_shown = text, it.cid is not None or text is not None
+            # pdfminer has nothing for a code that the CMap gives no CID
+            if cid.is_shown:
+                found.append(cid)
+        return found
+
+    def __reduce__(self) -> Any:
+        return type(self), (self._maps,)
+
+
+class PDFCIDFont(pdffont.PDFCIDFont):
+    """A CIDFont of a composite font, whose CMaps hayro_cmap reads."""
+
+    def __init__(self, rsrcmgr: Any, spec: Mapping[str, Any], *arguments: Any, **options: Any):
+        maps = maps_of(spec)
+        self._cmap = cmap_of(maps, spec)
+        # pdfminer reads a name under ToUnicode itself
+        has_name = maps.to_unicode_source is not None and not maps.has_to_unicode
+        is_ours = not has_name and (maps.has_to_unicode or maps.texts_of_cids is not None)
+        super().__init__(rsrcmgr, without_texts(spec) if is_ours else spec, *arguments, **options)
+        if isinstance(self._cmap, Encoding) and not has_name:
+            self.unicode_map = TextsOfCodes(maps)
+        elif is_ours:
+            self.unicode_map = Texts(maps)
+
+    def get_cmap_from_spec(self, spec: Mapping[str, Any], strict: bool) -> Any:
+        return super().get_cmap_from_spec(spec, strict) if self._cmap is None else self._cmap
+
+
+def maps_of(spec: Mapping[str, Any]) -> GivenMaps:
+    """The CMaps of a CIDFont with the Encoding and the ToUnicode of its composite font."""
+    info, encoding = resolve1(spec.get("CIDSystemInfo")), resolve1(spec.get("Encoding"))
+    names = [resolve1(info.get(key)) for key in ("Registry", "Ordering")] if isinstance(info, dict) else []
+    mode = resolve1(encoding.get("WMode")) if isinstance(encoding, PDFStream) else 0
+    return GivenMaps(
+        True,
+        source_of(encoding),
+        source_of(spec.get("ToUnicode")),
+        b"-".join(names) if names and all(isinstance(it, bytes) for it in names) else None,
+        isinstance(resolve1(spec.get("CIDToGIDMap")), PDFStream),
+        mode if isinstance(mode, int) else 0,
+    )
+
+
+def source_of(value: Any, over: int = 0) -> Optional[CMapSource]:
+    """Where the CMap at an entry is read from."""
+    value = resolve1(value)
+    if isinstance(value, PDFStream):
+        base = source_of(value.get("UseCMap"), over + 1) if over < MOST_IN_CHAIN else None
+        try:
+            return CMapSource(data=bytes(value.get_data()), base=base)
+        except Exception as fault:  # pdfminer has no one exception for what it can't decode
+            return CMapSource(unreadable=str(fault))
+    name = getattr(value, "name", None)
+    return CMapSource(SAME.get(name, name).encode()) if isinstance(name, str) and name not in OF_PDFMINER else None
+
+
+def cmap_of(maps: GivenMaps, spec: Mapping[str, Any]) -> Optional[cmapdb.CMapBase]:
+    """The CMap as pdfminer takes it; None where pdfminer's own is to be taken."""
+    if maps.encoding.lenient is None:
+        name = getattr(resolve1(spec.get("Encoding")), "name", None)
+        return Encoding(maps) if maps.has_to_unicode and name not in OF_PDFMINER else None
+    return Identity(WMode=int(maps.is_vertical)) if maps.is_identity else Encoding(maps)
+
+
+def without_texts(spec: Mapping[str, Any]) -> Dict[str, Any]:
+    """The same with an empty ToUnicode CMap, so that pdfminer reads none, and looks for no collection."""
+    return {**spec, "ToUnicode": PDFStream({}, b"")}
+
+
+def made(manager: Any, objid: Any, spec: Mapping[str, Any], get_font: Callable[..., Any]) -> Any:
+    """The font that a resource manager makes by its own `get_font`."""
+    if objid and objid in manager._cached_fonts:
+        return get_font(manager, objid, spec)
+    subtype = getattr(resolve1(spec.get("Subtype")), "name", None)
+    if subtype in CID_FONTS:
+        font = PDFCIDFont(manager, spec)
+        if objid and manager.caching:
+            manager._cached_fonts[objid] = font
+        return font
+    maps = GivenMaps(False, to_unicode_source=None if subtype == "Type0" else source_of(spec.get("ToUnicode")))
+    if not maps.has_to_unicode:
+        return get_font(manager, objid, spec)
+    font = get_font(manager, objid, without_texts(spec))
+    font.unicode_map = Texts(maps)
+    return font
+
+
+class ResourceManager(pdfinterp.PDFResourceManager):
+    """A PDFResourceManager whose fonts have their CMaps read by hayro_cmap."""
+
+    def get_font(self, objid: Any, spec: Mapping[str, Any]) -> Any:
+        return made(self, objid, spec, pdfinterp.PDFResourceManager.get_font)
+
+
+_lock = threading.Lock()
+#: PDFResourceManager's own `get_font` while another one stands in its place.
+_original: Optional[Callable[..., Any]] = None
+
+
+def _get_font(self: Any, objid: Any, spec: Mapping[str, Any]) -> Any:
+    # a call may have begun before uninstall
+    return made(self, objid, spec, _original or pdfinterp.PDFResourceManager.get_font)
+
+
+def install() -> None:
+    """Has hayro_cmap read the CMaps of all fonts that pdfminer makes from now on."""
+    global _original
+    with _lock:
+        if _original is None:
+            _original = pdfinterp.PDFResourceManager.get_font
+            pdfinterp.PDFResourceManager.get_font = _get_font
+
+
+def uninstall() -> None:
+    """Ends what `install` has begun."""
+    global _original
+    with _lock:
+        if _original is not None:
+            pdfinterp.PDFResourceManager.get_font = _original
+            _original = None
+
+
+@contextlib.contextmanager
+def installed() -> Iterator[None]:
+    """`install` for a block, in all threads; nothing where it is installed already."""
+    was = _original is not None
+    install()
+    try:
+        yield
+    finally:
+        if not was:
+            uninstall()

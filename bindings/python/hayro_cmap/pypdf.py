@@ -1,0 +1,371 @@
+"""CMaps of fonts for pypdf, and for PyPDF2.
+
+    import hayro_cmap.pypdf
+    hayro_cmap.pypdf.install()
+
+It is experimental: pypdf has no public hook, and its private ones may change.
+
+From then on pypdf's `extract_text` has CMaps read by hayro_cmap: the ToUnicode CMap of any font, past its faults, and
+of a composite font its predefined or embedded CMap and the map of its character collection. `uninstall` ends this, and
+`installed` is both as a context manager.
+
+pypdf decodes a string by the name of a codec of Python, and looks up each character of what that gives. So an encoding
+has a codec here, named by what is in it, which gives one character for each code: that of its CID, by which pypdf finds
+widths, or one of a private plane. A codec ends with the fonts that have it.
+"""
+
+import codecs
+import collections
+import contextlib
+import functools
+import hashlib
+import importlib
+import threading
+import weakref
+from typing import Any, Dict, Iterator, List, Optional, Set, Tuple
+
+from . import CMapSource, Code
+from ._font_maps import MOST_IN_CHAIN, GivenMaps
+
+__all__ = ["install", "installed", "uninstall"]
+
+#: The names of codecs begin with this.
+PREFIX = "hayro_cmap_"
+
+#: The first character of codes whose CID another code has, or that have none.
+FIRST_PRIVATE = 0x20000
+
+#: How many encodings are kept that no font has, and how many names of codecs Python may keep.
+KEPT, KEPT_NAMES = 32, 1024
+
+#: How many fonts are kept with what was read of them: pypdf reads a font anew for each page.
+KEPT_FONTS = 256
+
+REPLACEMENT = "\N{REPLACEMENT CHARACTER}"
+
+
+class Encoding:
+    """The CMap of a composite font, as a codec."""
+
+    def __init__(self, maps: GivenMaps):
+        self._maps = maps
+        self._chars: Dict[Tuple[int, int], str] = {}
+        self._codes: Dict[str, Code] = {}
+        self._lock = threading.Lock()
+
+    def decode(self, data: Any, errors: str = "strict") -> Tuple[str, int]:
+        chars, found = self._chars, []
+        for code, _ in self._maps.codes(bytes(data)):
+            char = chars.get(code[:2])
+            found.append(self._char(code) if char is None else char)
+        return "".join(found), len(data)
+
+    def encode(self, text: str, errors: str = "strict") -> Tuple[bytes, int]:
+        try:
+            return b"".join(bytes(self._codes[char]) for char in text), len(text)
+        except KeyError as fault:
+            raise UnicodeEncodeError("hayro_cmap", text, 0, len(text), f"no code for {fault}") from None
+
+    def code(self, char: str) -> Optional[Code]:
+        """The code of a character that `decode` has given, or None."""
+        return self._codes.get(char)
+
+    def _char(self, code: Code) -> str:
+        with self._lock:
+            if code[:2] not in self._chars:
+                char = chr(code.cid) if code.cid is not None and code.cid < FIRST_PRIVATE else None
+                if char is None or char in self._codes:
+                    number = FIRST_PRIVATE + len(self._codes)
+                    if number > 0x10FFFF:
+                        return REPLACEMENT
+                    char = chr(number)
+                self._chars[code[:2]], self._codes[char] = char, code
+            return self._chars[code[:2]]
+
+
+class Characters(dict):
+    """The texts of characters of a codec, of which those that were looked up are there."""
+
+    def __init__(self, maps: GivenMaps, codec: Optional[str], missing: Optional[str]):
+        super().__init__()
+        self._of, self._maps, self._missing = (maps, codec, missing), maps, missing
+        self._encoding = encoding_of(maps) if codec else None
+        self._find_space()
+
+    def _find_space(self) -> None:
+        """pypdf looks for the character whose text is a space."""
+        for code in [code for code, text in self._maps.texts.items() if text == " "][:1]:
+            self._seed(code)
+        if self._maps.texts_of_cids is not None and " " not in self.values():
+            self._seed(0x20 if self._encoding else 1)
+
+    def _seed(self, code: int) -> None:
+        if self._encoding is None:
+            found = chr(code)
+            self.get(found)
+            return
+        for length in (1, 2):
+            if code < 256**length:
+                char, _ = self._encoding.decode(code.to_bytes(length, "big"))
+                found = self._encoding.code(char)
+                if found is not None and found.in_codespace and self.get(char) == " ":
+                    return
+
+    def _text(self, char: str) -> Optional[str]:
+        """The text of a character; the empty one where its code has neither a CID nor a text."""
+        if self._encoding is None:
+            return self._maps.text(ord(char), 2, ord(char))
+        found = self._encoding.code(char)
+        if found is None:
+            return None
+        text = self._maps.text(*found[:3])
+        return "" if text is None and found.cid is None else text
+
+    def __missing__(self, char: Any) -> str:
+        if not isinstance(char, str) or len(char) != 1:
+            raise KeyError(char)
+        text = self._text(char)
+        if text is None:
+            text = self._missing
+        if text is None:
+            raise KeyError(char)
+        self[char] = text
+        return text
+
+    def __contains__(self, char: Any) -> bool:
+        return self.get(char) is not None
+
+    def get(self, char: Any, default: Any = None) -> Any:
+        try:
+            return self[char]
+        except KeyError:
+            return default
+
+    def copy(self) -> "Characters":
+        other = Characters(*self._of)
+        other.update(self)
+        return other
+
+    def __reduce__(self) -> Any:
+        return Characters, self._of
+
+
+_encodings: "weakref.WeakValueDictionary[str, Encoding]" = weakref.WeakValueDictionary()
+_recent: "collections.OrderedDict[str, Encoding]" = collections.OrderedDict()
+_names: Set[str] = set()
+_lock = threading.RLock()
+
+
+def codec_name(maps: GivenMaps) -> str:
+    """The name of the codec of an encoding."""
+    # where there is no encoding, codes are cut by the ToUnicode CMap
+    source = maps.to_unicode_source if maps.encoding.lenient is None else maps.encoding_source
+    digest = hashlib.sha256(repr(source).encode()).hexdigest()[:32]
+    return PREFIX + digest
+
+
+def encoding_of(maps: GivenMaps) -> Encoding:
+    """The encoding of a font; others with the same one share it."""
+    name = codec_name(maps)
+    with _lock:
+        found = _encodings.get(name)
+        if found is None:
+            found = _encodings[name] = Encoding(maps)
+            if name not in _names and len(_names) >= KEPT_NAMES:
+                forget()
+            _names.add(name)
+        _recent[name] = found
+        _recent.move_to_end(name)
+        while len(_recent) > KEPT:
+            _recent.popitem(last=False)
+        return found
+
+
+def search(name: str) -> Optional[codecs.CodecInfo]:
+    """The codec of a name. Python keeps it, so that it doesn't hold the encoding."""
+    if not name.startswith(PREFIX):
+        return None
+
+    def of(call: str) -> Any:
+        def coded(given: Any, errors: str = "strict") -> Any:
+            encoding = _encodings.get(name)
+            if encoding is None:
+                raise LookupError(f"the fonts with the codec {name} are gone")
+            return getattr(encoding, call)(given, errors)
+
+        return coded
+
+    return codecs.CodecInfo(name=name, encode=of("encode"), decode=of("decode"))
+
+
+def forget() -> None:
+    """Has Python forget the codecs that it keeps. Those that are used are found again."""
+    if hasattr(codecs, "unregister"):
+        codecs.unregister(search)
+        codecs.register(search)
+    _names.clear()
+    _names.update(_encodings)
+
+
+codecs.register(search)
+
+
+@functools.lru_cache(maxsize=KEPT_FONTS)
+def kept_maps(*given: Any) -> GivenMaps:
+    """The CMaps of a font of which this is known."""
+    return GivenMaps(*given)
+
+
+def maps_of(font: Any) -> GivenMaps:
+    """The CMaps of a font."""
+    to_unicode = source_of(font.get("/ToUnicode"))
+    if font.get("/Subtype") != "/Type0":
+        return kept_maps(False, None, to_unicode)
+    below, encoding = object_of(font.get("/DescendantFonts")), object_of(font.get("/Encoding"))
+    descendant = object_of(below[0]) if isinstance(below, list) and below else None
+    descendant = descendant if isinstance(descendant, dict) else {}
+    info = object_of(descendant.get("/CIDSystemInfo"))
+    names = [text_of(object_of(info.get(key))) for key in ("/Registry", "/Ordering")] if isinstance(info, dict) else []
+    mode = object_of(encoding.get("/WMode")) if hasattr(encoding, "get_data") else 0
+    return kept_maps(
+        True,
+        source_of(encoding),
+        to_unicode,
+        "-".join(names).encode("latin-1", "replace") if names and None not in names else None,
+        hasattr(object_of(descendant.get("/CIDToGIDMap")), "get_data"),
+        int(mode) if isinstance(mode, int) else 0,
+    )
+
+
+def text_of(value: Any) -> Optional[str]:
+    if isinstance(value, bytes):
+        return value.decode("latin-1")
+    return str(value) if isinstance(value, str) else None
+
+
+def object_of(value: Any) -> Any:
+    return value.get_object() if hasattr(value, "get_object") else value
+
+
+def source_of(value: Any, over: int = 0) -> Optional[CMapSource]:
+    """Where the CMap at an entry is read from."""
+    value = object_of(value)
+    if hasattr(value, "get_data"):
+        base = source_of(value.get("/UseCMap"), over + 1) if over < MOST_IN_CHAIN else None
+        try:
+            data = value.get_data()
+        except Exception as fault:  # pypdf has no one exception for what it can't decode
+            return CMapSource(unreadable=str(fault))
+        return CMapSource(data=data.encode("latin-1") if isinstance(data, str) else bytes(data), base=base)
+    return CMapSource(str(value)[1:].encode()) if isinstance(value, str) and value[:1] == "/" else None
+
+
+class Hook:
+    """The functions of a library that read the CMaps of a font, and those that stand in their places."""
+
+    def __init__(self, module: Any, missing: Optional[str]):
+        self.module, self.missing = module, missing
+        # pypdf 3 and PyPDF2 also have the code of the space among what is given and taken
+        self.is_old = hasattr(module, "parse_to_unicode")
+        self.names = ("parse_encoding", "parse_to_unicode") if self.is_old else ("_parse_encoding", "_parse_to_unicode")
+        self.originals = [getattr(module, name) for name in self.names]
+
+    def put(self) -> None:
+        for name, function in zip(self.names, (self.parse_encoding, self.parse_to_unicode)):
+            setattr(self.module, name, function)
+
+    def take(self) -> None:
+        for name, function in zip(self.names, self.originals):
+            setattr(self.module, name, function)
+
+    def parse_encoding(self, font: Any, *rest: Any) -> Any:
+        if font.get("/Subtype") == "/Type0":
+            name = self.codec(maps_of(font))
+            if name is not None:
+                return (name, *rest) if self.is_old else name
+        return self.originals[0](font, *rest)
+
+    @staticmethod
+    def codec(maps: GivenMaps) -> Optional[str]:
+        """The codec of the encoding; None where pypdf's own one does."""
+        if maps.is_identity or maps.encoding.lenient is None and not maps.has_to_unicode:
+            return None
+        encoding_of(maps)
+        return codec_name(maps)
+
+    def parse_to_unicode(self, font: Any, *rest: Any) -> Any:
+        found = self.read(font)
+        if found is None:
+            return self.originals[1](font, *rest)
+        characters, codes = found
+        if not self.is_old:
+            return characters, codes
+        spaces = [char for char, text in characters.items() if text == " "]
+        return (characters, spaces[-1] if spaces else rest[0], codes)
+
+    def read(self, font: Any) -> Optional[Tuple[Dict[Any, Any], List[int]]]:
+        """The texts of a font by characters, and the codes of a simple one; None where pypdf is to read them."""
+        maps = maps_of(font)
+        if not maps.is_composite:
+            return self.whole(maps, 1) if maps.has_to_unicode else None
+        if maps.to_unicode_source is not None and not maps.has_to_unicode:
+            return None
+        codec = self.codec(maps)
+        if codec is None and maps.texts_of_cids is None and self.missing is None and not maps.has_unicode_codes:
+            return self.whole(maps, 2) if maps.has_to_unicode else None
+        missing = REPLACEMENT if self.missing is None and codec is not None else self.missing
+        characters = Characters(maps, codec, missing)
+        characters.update(self.length(2))
+        return characters, []
+
+    def whole(self, maps: GivenMaps, byte_len: int) -> Tuple[Dict[Any, Any], List[int]]:
+        """All texts of a ToUnicode CMap by the characters of the codes, and the codes."""
+        texts = maps.texts
+        return {**self.length(byte_len), **{chr(code): text for code, text in texts.items()}}, list(texts)
+
+    def length(self, byte_len: int) -> Dict[int, int]:
+        """Up to version 5, -1 stands for the length of codes."""
+        return {-1: byte_len} if self.is_old or hasattr(self.module, "build_char_map") else {}
+
+
+_hooks: List[Hook] = []
+
+
+def install(missing: Optional[str] = None) -> None:
+    """Has hayro_cmap read the CMaps of fonts for pypdf from now on, and for PyPDF2, whichever are there.
+
+    `missing` is the text of a code of a composite font that has none. By default it is what pypdf takes, the character
+    with the code's number, and U+FFFD under encodings that pypdf doesn't read.
+    """
+    with _lock:
+        if _hooks:
+            return
+        for library in ("pypdf", "PyPDF2"):
+            try:
+                module = importlib.import_module(f"{library}._cmap")
+            except ImportError:
+                continue
+            _hooks.append(Hook(module, missing))
+        if not _hooks:
+            raise ImportError("neither pypdf nor PyPDF2 is there")
+        for hook in _hooks:
+            hook.put()
+
+
+def uninstall() -> None:
+    """Ends what `install` has begun."""
+    with _lock:
+        while _hooks:
+            _hooks.pop().take()
+
+
+@contextlib.contextmanager
+def installed(missing: Optional[str] = None) -> Iterator[None]:
+    """`install` for a block, in all threads."""
+    was = bool(_hooks)
+    install(missing)
+    try:
+        yield
+    finally:
+        if not was:
+            uninstall()
