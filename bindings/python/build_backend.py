@@ -176,7 +176,8 @@ def build_sdist(sdist_directory, config_settings=None):
     root = f"{PACKAGE}-{VERSION}"
     here = ["pyproject.toml", "build_backend.py", "README.md"]
     files = {name: (HERE / name).read_bytes() for name in here}
-    tests = [path for folder in ["tests", "pdf_tests", "adapter_tests"] for path in sorted((HERE / folder).glob("*.py"))]
+    folders = [HERE / name for name in ["tests", "pdf_tests", "adapter_tests"]]
+    tests = [path for folder in folders for path in sorted(folder.glob("*.py"))]
     files.update({str(path.relative_to(HERE)): path.read_bytes() for path in [*sources(), *tests]})
     files.update({name: (TOP / name).read_bytes() for name in ["VERSION", *LICENCES]})
     files["PKG-INFO"] = metadata()

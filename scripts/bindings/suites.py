@@ -222,6 +222,6 @@ def test_python_adapters(checks, setting):
     """The tests of the adapters for pdfminer and pypdf, where a Python has one of these."""
     python = python_with("pdfminer") or python_with("pypdf")
     if python is None:
-        print("skipped: the tests of the adapters, for lack of pdfminer and pypdf (Debian's python3-pdfminer)", flush=True)
+        print("skipped: the tests of the adapters, for lack of pdfminer (Debian's python3-pdfminer)", flush=True)
         return
     check_suite(checks, setting, python, "with pdfminer and pypdf", "adapter_tests")

@@ -5,9 +5,12 @@ import gc
 import importlib
 import io
 import pickle
+import sys
 import threading
 import time
+import types
 import unittest
+import unittest.mock
 import warnings
 
 import cases
@@ -101,6 +104,14 @@ class Texts(unittest.TestCase):
             adapter.uninstall()
             adapter.uninstall()
             self.assertEqual(hooked(library), originals)
+
+    def test_a_library_without_the_hooks(self):
+        for library in LIBRARIES:
+            empty = {f"{library.__name__}._cmap": types.ModuleType("_cmap")}
+            with unittest.mock.patch.dict(sys.modules, empty):
+                self.assertRaises(AttributeError, adapter.install)
+            with adapter.installed():
+                self.assertEqual(text(library, composite(OWN, ordering="Japan1"), b"A"), "あ")
 
     def test_threads(self):
         wrong = []

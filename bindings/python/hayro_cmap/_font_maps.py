@@ -246,7 +246,7 @@ class FontMaps:
         return 1 if not self.is_composite else self._kept_extractor(True)._code_length
 
     def text_by_maps(self, row: Row, lenient: bool = True) -> Tuple[Optional[str], Source]:
-        """The text that the CMaps give a code, to which ToUnicode gives the one of this row, and where it comes from."""
+        """The text that the CMaps give a code, to which ToUnicode gives the one of this row, and its source."""
         code, byte_len, cid, text = row
         if text is not None:
             return text, Source.TO_UNICODE

@@ -332,7 +332,8 @@ _hooks: List[Hook] = []
 
 
 def install(missing: Optional[str] = None) -> None:
-    """Has hayro_cmap read the CMaps of fonts for pypdf from now on, and for PyPDF2, whichever are there.
+    """Has hayro_cmap read the CMaps of fonts for pypdf from now on, and for PyPDF2, whichever are there. AttributeError
+    where one of them lacks the functions in whose places others are put; then nothing changes.
 
     `missing` is the text of a code of a composite font that has none. By default it is what pypdf takes, the character
     with the code's number, and U+FFFD under encodings that pypdf doesn't read.
@@ -340,16 +341,18 @@ def install(missing: Optional[str] = None) -> None:
     with _lock:
         if _hooks:
             return
+        found = []
         for library in ("pypdf", "PyPDF2"):
             try:
                 module = importlib.import_module(f"{library}._cmap")
             except ImportError:
                 continue
-            _hooks.append(Hook(module, missing))
-        if not _hooks:
+            found.append(Hook(module, missing))
+        if not found:
             raise ImportError("neither pypdf nor PyPDF2 is there")
-        for hook in _hooks:
+        for hook in found:
             hook.put()
+        _hooks.extend(found)
 
 
 def uninstall() -> None:
