@@ -1,4 +1,4 @@
-/* CMap files: which CID a character code of a composite font stands for, and which Unicode text.
+/* CMap files map the character codes of a composite font to CIDs and to Unicode text.
  *
  *     hayro_cmap map = HAYRO_CMAP_EMPTY;
  *     uint32_t cid;
@@ -8,39 +8,41 @@
  *         printf("%u\n", cid);
  *     hayro_cmap_free(&map);
  *
- * The library is one of two builds of the same sources, and `pkg-config --variable=build hayro_cmap` prints
- * which: `proved`, of which every call is proved to return on any bytes, and docs/PROVED.md says what is
- * proved of its answers; or `plain`, of plain Rust, of which the same is tested.
- * Nothing checks that the caller keeps these rules, but for null pointers in the plain library:
+ * The library is one of two builds of the same sources; `pkg-config --variable=build hayro_cmap` prints
+ * which one. In the build `proved`, every call is proved to return on any bytes, and docs/PROVED.md says
+ * what is proved of its answers. In the build `plain`, of plain Rust, the same is tested.
  *
- * - A handle, of a map, a bundle or an encoder, begins as HAYRO_CMAP_EMPTY. Only the calls below change it.
- *   Other values, as a `full` that is neither 0 nor 1, are undefined behaviour.
- *   It isn't copied: two copies would free one map twice. It may be moved to another place in memory,
- *   between calls, if the old place is never used again, or is set to HAYRO_CMAP_EMPTY.
- * - A handle is used by one call at a time: a lookup in a map, reading a file over a bundle, or encoding a
+ * The caller must keep these rules. Nothing checks them, except null pointers in the plain library:
+ *
+ * - A handle of a map, a bundle or an encoder begins as HAYRO_CMAP_EMPTY, and only the calls below change
+ *   it. Other values, such as a `full` that is neither 0 nor 1, are undefined behaviour. A handle isn't
+ *   copied: two copies would free one map twice. It may be moved to another place in memory, between
+ *   calls, if the old place is never used again, or is set to HAYRO_CMAP_EMPTY.
+ * - One call at a time uses a handle: even a lookup in a map, reading a file over a bundle, or encoding a
  *   text counts as a write to the handle, though not to the map, the bundle or the encoder. Any number of
- *   threads may use one of these at once, each by a handle of its own, which hayro_cmap_share,
- *   hayro_cmap_bundle_share and hayro_cmap_encoder_share make. A handle may go to another thread, where a
+ *   threads may use one of these at once, each through a handle of its own, which hayro_cmap_share,
+ *   hayro_cmap_bundle_share and hayro_cmap_encoder_share make. A handle may move to another thread if a
  *   lock, or the start or the join of a thread, orders the calls.
- * - No pointer is null, not even where its length is 0; nor are those in a hayro_cmap_file, a
- *   hayro_cmap_declaration or a hayro_cmap_facts. Where one may be null, hayro_cmap_bytes,
+ * - No pointer is null, not even with the length 0; this includes pointers in a hayro_cmap_file, a
+ *   hayro_cmap_declaration and a hayro_cmap_facts. If a pointer may be null, hayro_cmap_bytes,
  *   hayro_cmap_files, hayro_cmap_room, hayro_cmap_declarations, hayro_cmap_chosen and hayro_cmap_shown
- *   give one to use in its place.
- *   The plain library looks for null; in the proved one a null pointer is undefined behaviour. With the
- *   length 0 null stands for no items, and in these three structs with any length. Where another pointer is
- *   null, the call writes nothing, and gives HAYRO_CMAP_ABSENT, false, 0 or HAYRO_CMAP_NO_MODE by its type.
- *   Each points to as many items as its length says, aligned as their type requires; together they
- *   have no more than PTRDIFF_MAX bytes.
- * - A room, and what a pointer points to that a call only writes to (`cid`, `supplement`, `needed`,
+ *   replace it.
+ *   In the proved library a null pointer is undefined behaviour; the plain one checks for it. With the
+ *   length 0, and in these three structs with any length, null then stands for no items. For any other
+ *   null pointer the call writes nothing, and gives HAYRO_CMAP_ABSENT, false, 0 or HAYRO_CMAP_NO_MODE by
+ *   its type.
+ *   Each pointer points to as many items as its length says, aligned as their type requires; together
+ *   they have at most PTRDIFF_MAX bytes.
+ * - A buffer, and the target of a pointer to which a call only writes (`cid`, `supplement`, `needed`,
  *   `offset`, `made`, `taken`, `found`, `names`, `extracted`, and `fault` of hayro_cmap_explain), may hold
- *   anything, as an uninitialised variable or a fresh block of malloc does: no answer depends on it. What a
- *   call doesn't write there stays as it is.
- * - What one parameter of a call points to doesn't overlap what another one points to, if the call
- *   writes to one of them. The bytes of a file, of a bundle and of names are read only during the
- *   call, and nobody writes to them meanwhile. They needn't stay after it.
- * - Each handle that isn't empty is freed once, or memory is lost. To free an empty handle does nothing.
+ *   anything, such as an uninitialised variable or a fresh block of malloc: no answer depends on it. What
+ *   a call doesn't write stays as it is.
+ * - If a call writes to the target of one parameter, this doesn't overlap the target of another one. The
+ *   bytes of a file, of a bundle and of names are read only during the call, and nobody writes to them
+ *   meanwhile. They need not stay after it.
+ * - Each handle that isn't empty is freed once, or memory is lost. Freeing an empty handle does nothing.
  * - malloc, realloc and free come from one allocator, which aligns blocks as C requires.
- * - No call from a signal handler, nor from the forked child of a process with threads. */
+ * - No call is made from a signal handler, nor in the forked child of a process with threads. */
 #ifndef HAYRO_CMAP_H
 #define HAYRO_CMAP_H
 
@@ -52,7 +54,7 @@
 extern "C" {
 #endif
 
-/* The version of this header. That of the library: hayro_cmap_version. */
+/* The version of this header; hayro_cmap_version gives the version of the library. */
 #define HAYRO_CMAP_VERSION "1.0.0"
 #define HAYRO_CMAP_VERSION_MAJOR 1
 #define HAYRO_CMAP_VERSION_MINOR 0
@@ -64,8 +66,8 @@ typedef struct hayro_cmap {
     void *map;
 } hayro_cmap;
 
-/* A bundle, or none: predefined CMap files, which files use by their names, and the tables of the
- * binary form. */
+/* A bundle, or none: predefined CMap files, which other files use by name, and the tables of the binary
+ * form. */
 typedef struct hayro_cmap_bundle {
     bool full;
     void *bundle;
@@ -90,20 +92,20 @@ typedef struct hayro_cmap_file {
 
 /* A code of a string, with its CID. */
 typedef struct hayro_cmap_code {
-    uint32_t code;        /* the number that its bytes write, the first one high */
-    uint32_t cid;         /* its CID, or 0 where it has none */
+    uint32_t code;        /* the number of its bytes, big-endian */
+    uint32_t cid;         /* its CID, or 0 if it has none */
     uint8_t byte_len;     /* how many bytes it has, 1 to 4 */
-    uint8_t in_codespace; /* 1 where it lies in a codespace range, else 0 */
-    uint8_t has_cid;      /* 1 where it has a CID, else 0 */
-    uint8_t cut_short;    /* 1 where the string ends before the code does, else 0 */
+    uint8_t in_codespace; /* 1 if it lies in a codespace range, else 0 */
+    uint8_t has_cid;      /* 1 if it has a CID, else 0 */
+    uint8_t cut_short;    /* 1 if the string ends before the code does, else 0 */
 } hayro_cmap_code;
 
 /* A code of a string, with its CID and its text. */
 typedef struct hayro_cmap_character {
     hayro_cmap_code code; /* the code, and the CID that the map declares for it */
-    uint32_t has_text;    /* 1 where it has a text, else 0 */
-    size_t text_start;    /* the offset in the room for texts at which its text begins */
-    size_t text_len;      /* how many bytes its text has in UTF-8; 0 where it has none */
+    uint32_t has_text;    /* 1 if it has a text, else 0 */
+    size_t text_start;    /* the offset of its text in the buffer for texts */
+    size_t text_len;      /* how many bytes its text has in UTF-8; 0 if it has none */
 } hayro_cmap_character;
 
 /* How far a string is extracted. */
@@ -120,14 +122,14 @@ typedef struct hayro_cmap_codespace {
     uint32_t byte_len; /* 1 to 4 */
 } hayro_cmap_codespace;
 
-/* A declaration of CIDs: the codes from `first` to `last`; none where `first` is greater. */
+/* A declaration of CIDs for the codes from `first` to `last`; for none if `first` is greater. */
 typedef struct hayro_cmap_cid_range {
     uint32_t first;
     uint32_t last;
     uint32_t cid; /* the CID of `first` */
 } hayro_cmap_cid_range;
 
-/* A declaration of texts: the codes from `first` to `last`; none where `first` is greater. */
+/* A declaration of texts for the codes from `first` to `last`; for none if `first` is greater. */
 typedef struct hayro_cmap_text_range {
     uint32_t first;
     uint32_t last;
@@ -170,46 +172,46 @@ typedef struct hayro_cmap_codes {
 typedef enum hayro_cmap_kind {
     HAYRO_CMAP_CODESPACE_RANGE = 0, /* they are codes, each byte between those of `first` and `last` */
     HAYRO_CMAP_CID_RANGE = 1,       /* CIDs, which count on from `cid` */
-    HAYRO_CMAP_NOTDEF_RANGE = 2,    /* the CID `cid`, each, where they have no other */
+    HAYRO_CMAP_NOTDEF_RANGE = 2,    /* the CID `cid` for each that has no other */
     HAYRO_CMAP_TEXT_RANGE = 3       /* texts, whose last unit of UTF-16 counts on from that of `text` */
 } hayro_cmap_kind;
 
-/* A declaration of a file that is made: for the codes from `first` to `last`; none where `first` is
+/* A declaration of a file that is made, for the codes from `first` to `last`; for none if `first` is
  * greater. */
 typedef struct hayro_cmap_declaration {
     uint16_t kind;     /* a hayro_cmap_kind */
     uint16_t byte_len; /* how many bytes the codes have, 1 to 4 */
     uint32_t first;
     uint32_t last;
-    uint32_t cid;        /* of CIDs that of `first`, of a notdef that of all; else it isn't looked at */
-    const uint8_t *text; /* the text of `first`, in UTF-8; of other kinds it isn't looked at */
+    uint32_t cid;        /* the CID of `first`, for a notdef of all codes; ignored for other kinds */
+    const uint8_t *text; /* the text of `first`, in UTF-8; ignored for other kinds */
     size_t text_len;
 } hayro_cmap_declaration;
 
-/* What a file that is made says of itself. */
+/* The metadata of a file that is made. */
 typedef struct hayro_cmap_facts {
-    const uint8_t *name; /* its name, as UniJIS-UTF16-H */
+    const uint8_t *name; /* its name, such as UniJIS-UTF16-H */
     size_t name_len;
-    const uint8_t *registry; /* of its character collection, as Adobe */
+    const uint8_t *registry; /* of its character collection, such as Adobe */
     size_t registry_len;
-    const uint8_t *ordering; /* as Japan1 */
+    const uint8_t *ordering; /* such as Japan1 */
     size_t ordering_len;
     int32_t supplement;
-    uint8_t has_name;       /* 0 where it gives no name */
-    uint8_t has_collection; /* 0 where it gives no character collection */
-    uint16_t writing_mode;  /* a hayro_cmap_mode; any other number is as HAYRO_CMAP_NO_MODE */
+    uint8_t has_name;       /* 0 if it has no name */
+    uint8_t has_collection; /* 0 if it has no character collection */
+    uint16_t writing_mode;  /* a hayro_cmap_mode; any other number stands for HAYRO_CMAP_NO_MODE */
 } hayro_cmap_facts;
 
 /* How a call ends. It is an int of 32 bits. */
 typedef enum hayro_cmap_status {
     HAYRO_CMAP_OK = 0,           /* there is an answer, and it is written */
     HAYRO_CMAP_REFUSED = 1,      /* the file, or one that it uses, is outside the grammar or missing;
-                                    or no file says what one is to say; or the text can't be encoded */
+                                    or no file can express the answer; or the text can't be encoded */
     HAYRO_CMAP_NO_MEMORY = 2,    /* out of memory: an allocation failed */
-    HAYRO_CMAP_OVER_BUDGET = 3,  /* the files that are opened have more bytes than the budget */
+    HAYRO_CMAP_OVER_BUDGET = 3,  /* the opened files have more bytes than the budget */
     HAYRO_CMAP_NOT_A_BUNDLE = 4, /* the bundle is invalid */
     HAYRO_CMAP_ABSENT = 5,       /* there is no answer */
-    HAYRO_CMAP_NO_ROOM = 6       /* there is an answer, and it is longer than its room */
+    HAYRO_CMAP_NO_ROOM = 6       /* the answer is longer than its buffer */
 } hayro_cmap_status;
 
 /* The writing mode that a file gives. */
@@ -227,7 +229,7 @@ typedef enum hayro_cmap_cause {
     HAYRO_CMAP_PAST_BUDGET = 4   /* it has more bytes than are left of the budget */
 } hayro_cmap_cause;
 
-/* What is wrong where the reading of a malformed file stopped. No reason has the number 1. */
+/* What is wrong at the place where reading a malformed file stopped. No reason has the number 1. */
 typedef enum hayro_cmap_reason {
     HAYRO_CMAP_NO_REASON = 0,
     HAYRO_CMAP_END_WITHIN_SECTION = 2, /* the file ends within a section */
@@ -267,15 +269,15 @@ typedef enum hayro_cmap_segment {
 /* Why a file gives no map. */
 typedef struct hayro_cmap_fault {
     uint32_t cause;   /* a hayro_cmap_cause */
-    uint16_t reason;  /* of a malformed file a hayro_cmap_reason, else 0 */
+    uint16_t reason;  /* for a malformed file a hayro_cmap_reason, else 0 */
     uint16_t segment; /* with the reasons 13 to 15 a hayro_cmap_segment, else 0 */
-    size_t offset;    /* of a malformed file: where reading stopped, in bytes; else 0 */
+    size_t offset;    /* for a malformed file where reading stopped, in bytes; else 0 */
     size_t names;     /* how many names lead to the file at fault; 0 for the file itself */
     size_t name_lens[HAYRO_CMAP_MOST_NAMES]; /* how many bytes each of them has; the others are 0 */
 } hayro_cmap_fault;
 
-/* What can look wrong in a file that has a map. hayro_cmap_warning_name gives the name of a warning, which
- * is that of `cmap check --lint`. */
+/* What can look wrong in a file that has a map. hayro_cmap_warning_name gives the name of a warning, as in
+ * `cmap check --lint`. */
 typedef enum hayro_cmap_warning {
     HAYRO_CMAP_WARNING_NOTHING_DECLARED = 0,       /* no codespace range, no declaration, no other file */
     HAYRO_CMAP_WARNING_NO_CODESPACE = 1,           /* no layer has a codespace range */
@@ -300,7 +302,7 @@ typedef enum hayro_cmap_warning {
     HAYRO_CMAP_WARNING_ODD_TEXT = 20               /* destinations with an odd number of bytes */
 } hayro_cmap_warning;
 
-/* Where the first of what a warning concerns is. */
+/* The first place that a warning concerns. */
 typedef enum hayro_cmap_place {
     HAYRO_CMAP_IN_FILE = 0,  /* in the file as a whole */
     HAYRO_CMAP_AT_CODE = 1,  /* at the code `first` */
@@ -309,7 +311,7 @@ typedef enum hayro_cmap_place {
     HAYRO_CMAP_AT_OFFSET = 4 /* at the byte at `offset` */
 } hayro_cmap_place;
 
-/* A warning about a file, with what it concerns. */
+/* A warning about a file, with the codes or places that it concerns. */
 typedef struct hayro_cmap_finding {
     uint64_t count;       /* how many codes, declarations, sections or strings; 1 for the file */
     size_t shown;         /* how many of the shown codes */
@@ -319,17 +321,17 @@ typedef struct hayro_cmap_finding {
     uint32_t first;       /* at a code or a range; else 0 */
     uint32_t last;        /* the same; at a code it is `first` */
     uint32_t byte_len;    /* at a code or a range: how many bytes its codes have, 1 to 4; else 0 */
-    uint32_t first_shown; /* the lowest of the shown codes; 0 where `shown` is */
+    uint32_t first_shown; /* the lowest of the shown codes; 0 if `shown` is 0 */
 } hayro_cmap_finding;
 
-/* A pointer as one of this type, so that compilers for C++ don't warn of a cast of C. */
+/* A pointer cast to this type, without a warning of compilers for C++ about a cast of C. */
 #ifdef __cplusplus
 #define HAYRO_CMAP_AS(type, pointer) static_cast<type>(pointer)
 #else
 #define HAYRO_CMAP_AS(type, pointer) ((type)(pointer))
 #endif
 
-/* Pointers that aren't null: the argument, or where that is null, one to use with the length 0. */
+/* The pointer itself, or if it is null another one, for use with the length 0. */
 static inline const uint8_t *hayro_cmap_bytes(const void *bytes) {
     static const uint8_t none = 0;
     return bytes ? HAYRO_CMAP_AS(const uint8_t *, bytes) : &none;
@@ -366,39 +368,37 @@ static inline uint8_t *hayro_cmap_room(void *room) {
 /* No budget. */
 #define HAYRO_CMAP_NO_BUDGET UINT64_MAX
 
-/* Reads the CMap file `data`, a text or, with a bundle, also one in binary form.
+/* Reads the CMap file `data`, a text or, with a bundle, also a binary file.
  *
- * A file that it uses is the first of `files` with the name, else that of the bundle; Identity-H and
- * Identity-V need none. It is refused where it or a file that it uses is outside the grammar, where a
- * use has no file, and where the sixteenth file of a chain uses another one, which would be the
- * seventeenth. A length of 0 means that there is no bundle.
+ * A file that it uses is the first of `files` with the name, otherwise that of the bundle; Identity-H and
+ * Identity-V need none. The file is refused if it or a file that it uses is outside the grammar, if a use
+ * has no file, and if the sixteenth file of a chain uses another one. A bundle of the length 0 is none.
  *
- * The files that are opened may have no more bytes than `budget` together: `data`, and each file that is
- * used, as often as it is used. A file of the bundle that is used counts like any other; what else is in
- * the bundle doesn't count. Where no file has their names, Identity-H and Identity-V count 177 bytes each.
+ * The opened files together may have at most `budget` bytes: `data`, and each file that is used, as often
+ * as it is used. Files of the bundle count only if they are used. If no file has their names, Identity-H
+ * and Identity-V count 177 bytes each.
  *
- * A map that the handle has is freed. With HAYRO_CMAP_OK the handle has the map, else it is empty.
+ * The map that the handle held is freed. With HAYRO_CMAP_OK the handle has the new map, else it is empty.
  * The status is one of the first five. */
 hayro_cmap_status hayro_cmap_parse(hayro_cmap *map, const uint8_t *data, size_t data_len,
                                    const uint8_t *bundle, size_t bundle_len,
                                    const hayro_cmap_file *files, size_t files_len,
                                    uint64_t budget);
 
-/* Reads the CMap file `data` as hayro_cmap_parse does, over a bundle that is open already; an empty
- * handle means that there is none. The status is one of the first four. */
+/* Reads the CMap file `data` as hayro_cmap_parse does, over an open bundle; an empty handle stands for no
+ * bundle. The status is one of the first four. */
 hayro_cmap_status hayro_cmap_parse_over(hayro_cmap *map, const uint8_t *data, size_t data_len,
                                         hayro_cmap_bundle *bundle,
                                         const hayro_cmap_file *files, size_t files_len,
                                         uint64_t budget);
 
-/* Reads the CMap file `data` as hayro_cmap_parse_over does, and says why there is no map.
+/* Reads the CMap file `data` as hayro_cmap_parse_over does, and reports why there is no map.
  *
- * With HAYRO_CMAP_REFUSED and HAYRO_CMAP_OVER_BUDGET `fault` is why. The names that lead to the file
+ * With HAYRO_CMAP_REFUSED and HAYRO_CMAP_OVER_BUDGET `fault` is the reason. The names that lead to the file
  * at fault, each used by the file before it, are written to `room` one after another, whole or not at
- * all; `fault` has their lengths, and `needed` is how many bytes they have together, more than
- * `room_len` where they aren't written. With the other statuses nothing is written. Where a text is
- * malformed before its end, no text that begins with the same bytes, up to and including the one at
- * `offset`, is a CMap file. */
+ * all; `fault` has their lengths, and `needed` is their number of bytes, which exceeds `room_len` if they
+ * aren't written. With other statuses nothing is written. If a text is malformed before its end, no text
+ * that begins with the same bytes, up to and including the one at `offset`, is a CMap file. */
 hayro_cmap_status hayro_cmap_explain(hayro_cmap *map, const uint8_t *data, size_t data_len,
                                      hayro_cmap_bundle *bundle,
                                      const hayro_cmap_file *files, size_t files_len,
@@ -407,12 +407,13 @@ hayro_cmap_status hayro_cmap_explain(hayro_cmap *map, const uint8_t *data, size_
 
 /* Reads the CMap file `data`, and those that it uses, past their faults: the map of what they say, and each
  * fault, those of a file once. Of a file that hayro_cmap_explain accepts it gives the same map and no
- * fault; of another one the first fault is one for which that is refused. docs/FORMATS.md says how reading goes on.
+ * fault; of another one the first fault is one for which that is refused, or in a text in rows one before
+ * it. docs/FORMATS.md says how reading goes on.
  *
- * With HAYRO_CMAP_OK the handle has a map. `found` is how many faults there are, and `faults` begins
- * with them, as many as have room. The names that lead to the files at fault are written to `room`,
- * those of the first fault first, all or none of them; `needed` is how many bytes they have together.
- * With HAYRO_CMAP_NO_MEMORY, the only other status, the handle is empty and nothing is written. */
+ * With HAYRO_CMAP_OK the handle has a map. `found` is the number of faults, and `faults` begins with as
+ * many of them as fit. The names that lead to the files at fault are written to `room`, those of the
+ * first fault first, all or none of them; `needed` is their number of bytes. With HAYRO_CMAP_NO_MEMORY,
+ * the only other status, the handle is empty and nothing is written. */
 hayro_cmap_status hayro_cmap_salvage(hayro_cmap *map, const uint8_t *data, size_t data_len,
                                      hayro_cmap_bundle *bundle,
                                      const hayro_cmap_file *files, size_t files_len,
@@ -420,129 +421,125 @@ hayro_cmap_status hayro_cmap_salvage(hayro_cmap *map, const uint8_t *data, size_
                                      hayro_cmap_fault *faults, size_t faults_len, size_t *found,
                                      uint8_t *room, size_t room_len, size_t *needed);
 
-/* What is wrong, in English, as "byte 27: a CID was expected", written as a text is. It is
- * HAYRO_CMAP_ABSENT where no cause has the numbers of `fault`: those of hayro_cmap_fault, with the
- * fields that the cause doesn't have at 0. The names don't count. */
+/* What is wrong, in English, such as "byte 27: a CID was expected", written like the text of
+ * hayro_cmap_text. HAYRO_CMAP_ABSENT if no cause has the numbers of `fault`; fields that a cause doesn't
+ * have must be 0. The names are ignored. */
 hayro_cmap_status hayro_cmap_message(const hayro_cmap_fault *fault, uint8_t *room, size_t room_len,
                                      size_t *needed);
 
-/* What looks wrong in a file that has a map: the warnings of `cmap check --lint`, in the order of
- * hayro_cmap_warning, each that concerns something once. docs/COMMAND.md says when each comes. `text` is
- * the file, if it is a text: without bytes there is no warning about how a text is written.
- * `to_unicode` is whether the map is meant as one to Unicode, as the one under ToUnicode of a font.
+/* What looks wrong in a file that has a map: the warnings of `cmap check --lint`, each at most once, in
+ * the order of hayro_cmap_warning. docs/COMMAND.md describes them. `text` is the file, if it is a text;
+ * without bytes there is no warning about the spelling of a text. `to_unicode` tells that the map is a
+ * ToUnicode CMap.
  *
- * `shown` are the numbers of codes that are shown with the font, in ascending order, each once. A finding
- * says how many of them it concerns. A declaration concerns the codes between its ends; with
- * HAYRO_CMAP_WARNING_NO_TEXT only those to which it gives none. A string concerns the codes of its entry,
- * and a text in a list only its own.
+ * `shown` has the numbers of the codes that are shown with the font, in ascending order, each once. A
+ * finding counts those that it concerns. A declaration concerns the codes between its ends; with
+ * HAYRO_CMAP_WARNING_NO_TEXT only those that get no text. A string concerns the codes of its entry, and a
+ * text in a list only its own code.
  *
- * With HAYRO_CMAP_OK the findings stand at the head of `findings`, and `needed` is how many they are. With
- * HAYRO_CMAP_NO_ROOM `needed` is how many there are, and `findings` is as it was. An empty handle is
+ * With HAYRO_CMAP_OK the findings are at the head of `findings`, and `needed` is their number. With
+ * HAYRO_CMAP_NO_ROOM `needed` is their number, and `findings` is unchanged. An empty handle gives
  * HAYRO_CMAP_ABSENT; then, and with HAYRO_CMAP_NO_MEMORY, nothing is written. */
 hayro_cmap_status hayro_cmap_lint(hayro_cmap *map, const uint8_t *text, size_t text_len,
                                   bool to_unicode, const uint32_t *shown, size_t shown_len,
                                   hayro_cmap_finding *findings, size_t findings_len, size_t *needed);
 
-/* The name of a hayro_cmap_warning, as no-codespace, written as a text is. HAYRO_CMAP_ABSENT for a number
- * that no warning has. */
+/* The name of a hayro_cmap_warning, such as no-codespace, written like the text of hayro_cmap_text.
+ * HAYRO_CMAP_ABSENT for a number that no warning has. */
 hayro_cmap_status hayro_cmap_warning_name(uint32_t warning, uint8_t *room, size_t room_len,
                                           size_t *needed);
 
-/* Reads the file of this name as hayro_cmap_parse_over does, so that what the file says of itself is
- * what the map says: the first of `files` with the name, else that of the bundle. Where neither has
- * one, Identity-H and Identity-V need none, and any other name is HAYRO_CMAP_ABSENT. */
+/* Reads the file of this name as hayro_cmap_parse_over does, so that the map has its metadata: the first of
+ * `files` with the name, otherwise that of the bundle. If neither has one, Identity-H and Identity-V are
+ * made without a file, and any other name gives HAYRO_CMAP_ABSENT. */
 hayro_cmap_status hayro_cmap_open(hayro_cmap *map, const uint8_t *name, size_t name_len,
                                   hayro_cmap_bundle *bundle,
                                   const hayro_cmap_file *files, size_t files_len,
                                   uint64_t budget);
 
-/* The names of the files that the CMap file `data` uses, in the order of the uses. None of them is
- * asked for. A binary file is read by the tables of the bundle; an empty handle means that there is
- * none.
+/* The names of the files that the CMap file `data` uses, in the order of the uses; the files themselves
+ * aren't needed. A binary file is read by the tables of the bundle; an empty handle stands for no bundle.
  *
- * With HAYRO_CMAP_OK `room` begins with the names, one after another, and `name_lens` with their
- * lengths; `names` is how many they are, and `needed` how many bytes they have together. With
- * HAYRO_CMAP_NO_ROOM one of the two is too short: `names` and `needed` are written, and neither room
- * is. With HAYRO_CMAP_REFUSED, where `data` is outside the grammar, and with HAYRO_CMAP_NO_MEMORY
- * nothing is written. */
+ * With HAYRO_CMAP_OK `room` begins with the names, one after another, and `name_lens` with their lengths;
+ * `names` is their number, and `needed` their number of bytes. With HAYRO_CMAP_NO_ROOM one of the two is
+ * too short: only `names` and `needed` are written. With HAYRO_CMAP_REFUSED (`data` is outside the
+ * grammar) and HAYRO_CMAP_NO_MEMORY nothing is written. */
 hayro_cmap_status hayro_cmap_uses(const uint8_t *data, size_t data_len, hayro_cmap_bundle *bundle,
                                   size_t *name_lens, size_t name_lens_len, size_t *names,
                                   uint8_t *room, size_t room_len, size_t *needed);
 
-/* Opens a bundle, and copies its files, so that its bytes needn't stay. A bundle that the handle has
- * is freed. HAYRO_CMAP_OK; or HAYRO_CMAP_NO_MEMORY or HAYRO_CMAP_NOT_A_BUNDLE, and an empty handle. */
+/* Opens a bundle, and copies its files, so that its bytes need not stay. The bundle that the handle held is
+ * freed. HAYRO_CMAP_OK; or HAYRO_CMAP_NO_MEMORY or HAYRO_CMAP_NOT_A_BUNDLE, and an empty handle. */
 hayro_cmap_status hayro_cmap_bundle_open(hayro_cmap_bundle *bundle, const uint8_t *bytes,
                                          size_t bytes_len);
 
-/* Gives an `other` handle the same bundle, as hayro_cmap_share does with a map. */
+/* Gives the handle `other` the same bundle, as hayro_cmap_share does with a map. */
 hayro_cmap_status hayro_cmap_bundle_share(hayro_cmap_bundle *bundle, hayro_cmap_bundle *other);
 
 /* Empties the handle, and frees the bundle if no other handle has it. Maps that were read over it
  * stay. */
 void hayro_cmap_bundle_free(hayro_cmap_bundle *bundle);
 
-/* The bytes of the file of this name in a bundle, written as a text is. HAYRO_CMAP_ABSENT where the
- * bundle has none, also where ten bytes stand for it, `bcmap`, four zeros and their number; and where
- * the handle is empty. */
+/* The bytes of the file of this name in a bundle, written like the text of hayro_cmap_text.
+ * HAYRO_CMAP_ABSENT if the bundle has none, or only the ten bytes that stand for a missing file, `bcmap`,
+ * four bytes 0 and the byte 10; and if the handle is empty. */
 hayro_cmap_status hayro_cmap_bundle_file(hayro_cmap_bundle *bundle, const uint8_t *name,
                                          size_t name_len, uint8_t *room, size_t room_len,
                                          size_t *needed);
 
-/* Makes the predefined CMap Identity-H, or Identity-V: codes of two bytes are CIDs. A map that the
- * handle has is freed. HAYRO_CMAP_OK, or HAYRO_CMAP_NO_MEMORY and an empty handle. */
+/* Makes the predefined CMap Identity-H, or Identity-V: codes of two bytes are CIDs. The map that the handle
+ * held is freed. HAYRO_CMAP_OK, or HAYRO_CMAP_NO_MEMORY and an empty handle. */
 hayro_cmap_status hayro_cmap_identity(hayro_cmap *map, bool vertical);
 
-/* Gives an `other` handle the same map, as for lookups in another thread: nothing is copied, and the
- * map is freed with its last handle. A map that `other` has is freed; where `map` is empty, `other`
- * is then too. HAYRO_CMAP_OK, or HAYRO_CMAP_NO_MEMORY and an empty `other`. */
+/* Gives the handle `other` the same map, such as for lookups in another thread: nothing is copied, and the
+ * map is freed with its last handle. The map that `other` held is freed; if `map` is empty, `other`
+ * becomes empty. HAYRO_CMAP_OK, or HAYRO_CMAP_NO_MEMORY and an empty `other`. */
 hayro_cmap_status hayro_cmap_share(hayro_cmap *map, hayro_cmap *other);
 
 /* Empties the handle, and frees the map if no other handle has it. */
 void hayro_cmap_free(hayro_cmap *map);
 
-/* The CID of a code of `byte_len` bytes, big-endian: whether there is one, and then `cid` is it.
- * Codespace ranges aren't looked at. An empty handle has no CID. */
+/* Whether a code of `byte_len` bytes, big-endian, has a CID, which is then written to `cid`. Codespace
+ * ranges are ignored. An empty handle has no CID. */
 bool hayro_cmap_cid(hayro_cmap *map, uint32_t code, uint8_t byte_len, uint32_t *cid);
 
-/* The same, where the code lies in a codespace range of its length, byte by byte; else there is
- * none. */
+/* The same for a code in a codespace range of its length, byte by byte; other codes have no CID. */
 bool hayro_cmap_cid_strict(hayro_cmap *map, uint32_t code, uint8_t byte_len, uint32_t *cid);
 
-/* The CIDs of the codes of `byte_len` bytes from `first` on, one after another, as many as there is
- * room for, each as hayro_cmap_cid gives it, with `absent` for a code that has none and for what would
- * come after the code 2^32 - 1: whether the handle has a map. Without one nothing is written. A table of
- * all codes of two bytes takes 256 KB. */
+/* Fills `cids` with the CIDs of the codes of `byte_len` bytes from `first` on, each as hayro_cmap_cid gives
+ * it, with `absent` for a code that has none and for items after the code 2^32 - 1. It returns whether the
+ * handle has a map; without one nothing is written. A table of all codes of two bytes takes 256 KB. */
 bool hayro_cmap_cids(hayro_cmap *map, uint32_t first, uint8_t byte_len, uint32_t absent,
                      uint32_t *cids, size_t cids_len);
 
-/* Cuts a string into codes, one after another, each with the CID that hayro_cmap_cid gives. That of
- * hayro_cmap_cid_strict is the same where `in_codespace` is 1, and else there is none.
+/* Cuts a string into codes, one after another, each with the CID that hayro_cmap_cid gives.
+ * hayro_cmap_cid_strict gives the same if `in_codespace` is 1, otherwise none.
  *
- * As many codes as there is room for stand at the head of `codes`, and the rest of it is as it was;
- * `made` is how many they are, and `taken` how many bytes of the string they have. With HAYRO_CMAP_OK
- * these are all. With HAYRO_CMAP_NO_ROOM the room is full, and a call with the rest of the string goes
- * on. An empty handle has no codes: HAYRO_CMAP_ABSENT, and both are 0. */
+ * As many codes as fit are written to the head of `codes`, and the rest of it is unchanged; `made` is their
+ * number, and `taken` their number of bytes in the string. With HAYRO_CMAP_OK these are all codes. With
+ * HAYRO_CMAP_NO_ROOM the buffer is full, and a call with the rest of the string continues. An empty handle
+ * gives HAYRO_CMAP_ABSENT, and both numbers are 0. */
 hayro_cmap_status hayro_cmap_decode(hayro_cmap *map, const uint8_t *text, size_t text_len,
                                     hayro_cmap_code *codes, size_t codes_len, size_t *made,
                                     size_t *taken);
 
-/* Cuts a string of a font into codes, one after another, each with its CID and its text, as ISO
- * 32000-1, 9.10.2, gives it. `encoding` is the map of the font's CMap. `to_unicode` is that of its
- * ToUnicode CMap, and `collection` one from CIDs to Unicode, as Adobe-Japan1-UCS2; either handle is
- * empty where there is no such map. No two of the three are one handle: where one map serves twice,
- * hayro_cmap_share makes another handle of it.
+/* Cuts a string of a font into codes, one after another, each with its CID and its text, as in ISO
+ * 32000-1, 9.10.2. `encoding` is the map of the font's CMap, `to_unicode` that of its ToUnicode CMap, and
+ * `collection` a map from CIDs to Unicode, such as Adobe-Japan1-UCS2. The last two handles are empty if
+ * there is no such map. The three handles are different: if one map serves twice, hayro_cmap_share makes
+ * another handle of it.
  *
- * The codes are those of hayro_cmap_decode. The CID is the one that the map declares: a character of a
- * text, which hayro_cmap_cid gives for a code that has nothing else, is no CID. The text is that of
- * `to_unicode`, where it has one for the code; else that of the CID in `collection`; else there is none.
+ * The codes are those of hayro_cmap_decode. The CID is the one that the map declares, never the Unicode
+ * number that hayro_cmap_cid gives for a code that has nothing else. The text is that of the code in
+ * `to_unicode`, otherwise that of the CID in `collection`; otherwise there is none.
  *
- * As many codes as there is room for stand at the head of `characters`, and their texts, in UTF-8 and
- * one after another, at the head of `text`; the rest of both is as it was. `extracted` says how far it
- * went, and a call with the rest of the string goes on. With HAYRO_CMAP_OK that is all of the string.
- * With HAYRO_CMAP_NO_ROOM one of the rooms is full: where nothing was made though `characters` has
- * room, `text` is too short for the next text. With HAYRO_CMAP_NO_MEMORY memory ran out for the next
- * code, whose text has more than one character. An empty `encoding` has no codes: HAYRO_CMAP_ABSENT, and
- * the numbers of `extracted` are 0. */
+ * As many codes as fit are written to the head of `characters`, and their texts, in UTF-8 and one after
+ * another, to the head of `text`; the rest of both is unchanged. `extracted` tells how far the call went; a
+ * call with the rest of the string continues. With HAYRO_CMAP_OK the string is finished. With
+ * HAYRO_CMAP_NO_ROOM one of the buffers is full: if nothing was made though `characters` isn't full, `text`
+ * is too short for the next text. With HAYRO_CMAP_NO_MEMORY memory ran out for the next code, whose text
+ * has more than one character. An empty `encoding` gives HAYRO_CMAP_ABSENT, and the numbers of `extracted`
+ * are 0. */
 hayro_cmap_status hayro_cmap_extract(hayro_cmap *encoding, hayro_cmap *to_unicode,
                                      hayro_cmap *collection, const uint8_t *string, size_t string_len,
                                      hayro_cmap_character *characters, size_t characters_len,
@@ -550,38 +547,37 @@ hayro_cmap_status hayro_cmap_extract(hayro_cmap *encoding, hayro_cmap *to_unicod
 
 /* The text of a code, in UTF-8 and without a zero byte at its end.
  *
- * With HAYRO_CMAP_OK its bytes stand at the head of `room`, and `needed` is how many they are. With
- * HAYRO_CMAP_NO_ROOM `needed` is how many it has, and the room is as it was. Else it is
- * HAYRO_CMAP_ABSENT or, only for a text of more than one character, HAYRO_CMAP_NO_MEMORY, and
- * nothing is written. */
+ * With HAYRO_CMAP_OK its bytes are at the head of the buffer `room`, and `needed` is their number. With
+ * HAYRO_CMAP_NO_ROOM `needed` is their number, and the buffer is unchanged. Otherwise the status is
+ * HAYRO_CMAP_ABSENT or, only for a text of more than one character, HAYRO_CMAP_NO_MEMORY, and nothing is
+ * written. */
 hayro_cmap_status hayro_cmap_text(hayro_cmap *map, uint32_t code, uint8_t *room, size_t room_len,
                                   size_t *needed);
 
-/* The name that the file gives itself, written as a text is. */
+/* The name of the file, written like the text of hayro_cmap_text. */
 hayro_cmap_status hayro_cmap_name(hayro_cmap *map, uint8_t *room, size_t room_len,
                                   size_t *needed);
 
-/* The registry of the character collection that the file gives, as Adobe, written as a text is. */
+/* The registry of the file's character collection, such as Adobe, written in the same way. */
 hayro_cmap_status hayro_cmap_registry(hayro_cmap *map, uint8_t *room, size_t room_len,
                                       size_t *needed);
 
-/* The ordering of the character collection that the file gives, as Japan1, written as a text is. */
+/* The ordering of the file's character collection, such as Japan1, written in the same way. */
 hayro_cmap_status hayro_cmap_ordering(hayro_cmap *map, uint8_t *room, size_t room_len,
                                       size_t *needed);
 
-/* The supplement of the character collection that the file gives: whether it gives one, and then
- * `supplement` is it. */
+/* Whether the file has a character collection, whose supplement is then written to `supplement`. */
 bool hayro_cmap_supplement(hayro_cmap *map, int32_t *supplement);
 
-/* The writing mode that the file gives. */
+/* The writing mode of the file. */
 hayro_cmap_mode hayro_cmap_writing_mode(hayro_cmap *map);
 
-/* How many layers the map has, 1 to 16: the file's own, which is layer 0, then that of the file that
- * it is based on, and so on. An empty handle has none. */
+/* The number of layers of the map, 1 to 16: layer 0 is the file itself, layer 1 the file that it is based
+ * on, and so on. An empty handle has none. */
 size_t hayro_cmap_layers(hayro_cmap *map);
 
-/* What the file of a layer gives, as the five calls above say it of layer 0. Where there is no such
- * layer, it gives nothing. */
+/* The metadata of the file of a layer; the five calls above give those of layer 0. A missing layer has
+ * none. */
 hayro_cmap_status hayro_cmap_layer_name(hayro_cmap *map, size_t layer, uint8_t *room,
                                         size_t room_len, size_t *needed);
 hayro_cmap_status hayro_cmap_layer_registry(hayro_cmap *map, size_t layer, uint8_t *room,
@@ -591,8 +587,8 @@ hayro_cmap_status hayro_cmap_layer_ordering(hayro_cmap *map, size_t layer, uint8
 bool hayro_cmap_layer_supplement(hayro_cmap *map, size_t layer, int32_t *supplement);
 hayro_cmap_mode hayro_cmap_layer_writing_mode(hayro_cmap *map, size_t layer);
 
-/* The writing mode of a font's strings: that of the first layer which gives one, else HAYRO_CMAP_HORIZONTAL;
- * HAYRO_CMAP_NO_MODE where there is no map. */
+/* The writing mode of a font's strings: that of the first layer that gives one, otherwise
+ * HAYRO_CMAP_HORIZONTAL; HAYRO_CMAP_NO_MODE if there is no map. */
 static inline hayro_cmap_mode hayro_cmap_effective_writing_mode(hayro_cmap *map) {
     const size_t layers = hayro_cmap_layers(map);
     for (size_t layer = 0; layer < layers; layer++) {
@@ -602,18 +598,17 @@ static inline hayro_cmap_mode hayro_cmap_effective_writing_mode(hayro_cmap *map)
     return layers > 0 ? HAYRO_CMAP_HORIZONTAL : HAYRO_CMAP_NO_MODE;
 }
 
-/* The codespace ranges of a layer, in order. With HAYRO_CMAP_OK they stand at the head of `ranges`,
- * and `needed` is how many they are. With HAYRO_CMAP_NO_ROOM `needed` is how many there are, and
- * `ranges` is as it was. Where there is no such layer it is HAYRO_CMAP_ABSENT, and nothing is
- * written. */
+/* The codespace ranges of a layer, in order. With HAYRO_CMAP_OK they are at the head of `ranges`, and
+ * `needed` is their number. With HAYRO_CMAP_NO_ROOM `needed` is their number, and `ranges` is unchanged. A
+ * missing layer gives HAYRO_CMAP_ABSENT, and nothing is written. */
 hayro_cmap_status hayro_cmap_codespaces(hayro_cmap *map, size_t layer,
                                         hayro_cmap_codespace *ranges, size_t ranges_len,
                                         size_t *needed);
 
-/* The declarations of CIDs of a layer, and those of notdefs, for codes of `byte_len` bytes, in the order
- * of its file; written as codespace ranges are. From code to code the CID of a declaration counts on,
- * and all codes of a notdef have the same one. Where several declarations of a kind contain a code, the
- * last one decides. For a length outside 1 to 4 there are none. */
+/* The declarations of CIDs of a layer, and of notdefs, for codes of `byte_len` bytes, in the order of its
+ * file; written like codespace ranges. From code to code the CID of a declaration counts on, and all codes
+ * of a notdef have the same one. If several declarations of a kind contain a code, the last one decides.
+ * For a length outside 1 to 4 there are none. */
 hayro_cmap_status hayro_cmap_cid_ranges(hayro_cmap *map, size_t layer, uint8_t byte_len,
                                         hayro_cmap_cid_range *ranges, size_t ranges_len,
                                         size_t *needed);
@@ -621,66 +616,64 @@ hayro_cmap_status hayro_cmap_notdef_ranges(hayro_cmap *map, size_t layer, uint8_
                                            hayro_cmap_cid_range *ranges, size_t ranges_len,
                                            size_t *needed);
 
-/* The declarations of texts of a layer, in the order of its file; written as codespace ranges are.
+/* The declarations of texts of a layer, in the order of its file; written like codespace ranges.
  * hayro_cmap_text_units gives the text of each. */
 hayro_cmap_status hayro_cmap_text_ranges(hayro_cmap *map, size_t layer,
                                          hayro_cmap_text_range *ranges, size_t ranges_len,
                                          size_t *needed);
 
 /* The units of UTF-16 that the declaration at this index of hayro_cmap_text_ranges gives to its first
- * code, written as a text is; from code to code the last unit counts on. They are as the file has them,
- * so a surrogate may stand alone. HAYRO_CMAP_ABSENT where there is no such declaration. */
+ * code, written like codespace ranges; from code to code the last unit counts on. They are as the file has
+ * them, so a surrogate may stand alone. HAYRO_CMAP_ABSENT if there is no such declaration. */
 hayro_cmap_status hayro_cmap_text_units(hayro_cmap *map, size_t layer, size_t index,
                                         uint16_t *units, size_t units_len, size_t *needed);
 
-/* All codes that have this CID, as hayro_cmap_cid gives it for codes of `byte_len` bytes: ranges in
- * order, each as long as can be; none for a length outside 1 to 4. Codes that a file declares and that
- * `byte_len` bytes can't write are among them. With HAYRO_CMAP_OK they stand at the head of `ranges`, and
- * `needed` is how many they are, 0 where no code has the CID. With HAYRO_CMAP_NO_ROOM `needed` is how many
- * there are, and `ranges` is as it was. An empty handle is HAYRO_CMAP_ABSENT; then, and with
- * HAYRO_CMAP_NO_MEMORY, nothing is written. */
+/* All codes that have this CID, as hayro_cmap_cid gives it for codes of `byte_len` bytes: ranges in order,
+ * each as long as possible; none for a length outside 1 to 4. They include declared codes that don't fit
+ * in `byte_len` bytes. With HAYRO_CMAP_OK they are at the head of `ranges`, and `needed` is their number, 0
+ * if no code has the CID. With HAYRO_CMAP_NO_ROOM `needed` is their number, and `ranges` is unchanged. An
+ * empty handle gives HAYRO_CMAP_ABSENT; then, and with HAYRO_CMAP_NO_MEMORY, nothing is written. */
 hayro_cmap_status hayro_cmap_codes_of_cid(hayro_cmap *map, uint32_t cid, uint8_t byte_len,
                                           hayro_cmap_code_range *ranges, size_t ranges_len,
                                           size_t *needed);
 
-/* Makes a CMap file of these declarations, in their order, and of what it says of itself: its text, in the
- * fewest declarations that give each code the same. Codes of texts are written with the length of the
- * declarations of texts if that is one; else with the least length of which codespace ranges have codes
- * below and above, or two bytes; and with four bytes where a code has no room in these.
+/* Makes a CMap file from these declarations, in their order, and from its metadata: its text, in the fewest
+ * declarations that give each code the same. Codes of texts are written with the length of the declarations
+ * of texts, if all have one length; otherwise with the least length whose codespace ranges have codes below
+ * and above, or two bytes; and with four bytes if a code doesn't fit in these.
  *
- * With HAYRO_CMAP_OK the text stands at the head of `room`, and `needed` is how many bytes it has. With
- * HAYRO_CMAP_NO_ROOM `needed` is how many it has, and the room is as it was. With HAYRO_CMAP_REFUSED a
- * declaration is of no kind, its codes have no length of 1 to 4 bytes, or its text is empty or isn't
- * UTF-8; or no text says what the file would: its name has a byte that no name has, as a blank, or a code
- * has more bytes than its length. Then, and with HAYRO_CMAP_NO_MEMORY, nothing is written. */
+ * With HAYRO_CMAP_OK the text is at the head of the buffer `room`, and `needed` is its number of bytes. With
+ * HAYRO_CMAP_NO_ROOM `needed` is this number, and the buffer is unchanged. With HAYRO_CMAP_REFUSED a
+ * declaration is of no kind, its codes have no length of 1 to 4 bytes, or its text is empty or isn't UTF-8;
+ * or no text can express the file: its name has a byte that no name has, such as a blank, or a code doesn't
+ * fit in its length. Then, and with HAYRO_CMAP_NO_MEMORY, nothing is written. */
 hayro_cmap_status hayro_cmap_make(const hayro_cmap_facts *facts,
                                   const hayro_cmap_declaration *declarations,
                                   size_t declarations_len, uint8_t *room, size_t room_len,
                                   size_t *needed);
 
-/* Writes the map as one CMap file, which uses no other: its text, which answers each code as the map does.
- * Where there are `codes`, it does so for these alone, and has nothing for others; none stand for all.
- * The text has a line for each row of 256 codes: CIDs for all codes of four bytes are half a gigabyte,
- * whatever the budget of the map was.
+/* Writes the map as one CMap file, which uses no other: its text, with the answers of the map for each code.
+ * With `codes`, it has answers only for these; no `codes` stand for all. The text has a line for each row of
+ * 256 codes: CIDs for all codes of four bytes take half a gigabyte, whatever the budget of the map was.
  *
- * The text is written as that of hayro_cmap_make is. With HAYRO_CMAP_REFUSED no such file answers so, as
- * where in the layers the character of a text stands for a code above a CID for it; or no text says what
- * the file would; or `codes` have a length outside 1 to 4. An empty handle is HAYRO_CMAP_ABSENT. Then, and
- * with HAYRO_CMAP_NO_MEMORY, nothing is written. */
+ * The text is written like that of hayro_cmap_make. With HAYRO_CMAP_REFUSED no single file has these
+ * answers, for example because a layer gives a code a text of one character above a layer that gives it a
+ * CID; or no text can express the file; or `codes` have a length outside 1 to 4. An empty handle gives
+ * HAYRO_CMAP_ABSENT. Then, and with HAYRO_CMAP_NO_MEMORY, nothing is written. */
 hayro_cmap_status hayro_cmap_write(hayro_cmap *map, const hayro_cmap_codes *codes, size_t codes_len,
                                    uint8_t *room, size_t room_len, size_t *needed);
 
-/* Makes the encoder of a font. `encoding`, `to_unicode` and `collection` are the maps of the font, as those of
+/* Makes the encoder of a font. `encoding`, `to_unicode` and `collection` are the maps of the font, as for
  * hayro_cmap_extract; the encoder doesn't keep them. A simple font has codes of one byte: its `encoding` is the
- * map of a file with the codespace range <00> <FF> alone.
+ * map of a file with only the codespace range <00> <FF>.
  *
- * An encoder that the handle has is freed. With HAYRO_CMAP_OK the handle has the encoder, else it is empty. An
- * empty `encoding` is HAYRO_CMAP_ABSENT; the other status is HAYRO_CMAP_NO_MEMORY. */
+ * The encoder that the handle held is freed. With HAYRO_CMAP_OK the handle has the new one, else it is empty. An
+ * empty `encoding` gives HAYRO_CMAP_ABSENT; the other status is HAYRO_CMAP_NO_MEMORY. */
 hayro_cmap_status hayro_cmap_encoder_build(hayro_cmap_encoder *encoder, hayro_cmap *encoding,
                                            hayro_cmap *to_unicode, hayro_cmap *collection);
 
-/* The same with a map from Unicode to CIDs, as UniJIS-UTF16-H, which chooses the glyphs of characters; its handle
- * is empty where there is no such map, and hayro_cmap_unicode_name names it. No two of the four maps are one handle.
+/* The same with a map from Unicode to CIDs, such as UniJIS-UTF16-H, which chooses the glyphs of characters; its
+ * handle is empty if there is no such map. hayro_cmap_unicode_name gives its name. The four handles are different.
  *
  * An `exact` encoder chooses only codes whose text, as hayro_cmap_extract gives it, is the piece for which they
  * stand: no grade is then HAYRO_CMAP_GRADE_ALIKE or HAYRO_CMAP_GRADE_NATIONAL. */
@@ -689,51 +682,52 @@ hayro_cmap_status hayro_cmap_encoder_build_with(hayro_cmap_encoder *encoder, hay
                                                 hayro_cmap *unicode, bool exact);
 
 /* The name of the map from Unicode, in UTF-16, to the CIDs of a character collection, whose registry and ordering
- * are joined as in Adobe-Japan1, which has UniJIS-UTF16-H, and UniJIS-UTF16-V where `mode` is HAYRO_CMAP_VERTICAL.
- * Where the name of the font's CMap begins with Uni, that CMap is such a map itself, and the one to take.
+ * are joined, such as Adobe-Japan1. This one has UniJIS-UTF16-H, and UniJIS-UTF16-V if `mode` is
+ * HAYRO_CMAP_VERTICAL. If the name of the font's CMap begins with Uni, use that CMap itself.
  *
- * It is written as a text is. HAYRO_CMAP_ABSENT but for Japan1, GB1, CNS1, Korea1, KR and Japan2 of Adobe. */
+ * The name is written like the text of hayro_cmap_text. HAYRO_CMAP_ABSENT except for Japan1, GB1, CNS1, Korea1,
+ * KR and Japan2 of Adobe. */
 hayro_cmap_status hayro_cmap_unicode_name(const uint8_t *collection, size_t collection_len, uint32_t mode,
                                           uint8_t *room, size_t room_len, size_t *needed);
 
-/* Gives an `other` handle the same encoder, as hayro_cmap_share does with a map. */
+/* Gives the handle `other` the same encoder, as hayro_cmap_share does with a map. */
 hayro_cmap_status hayro_cmap_encoder_share(hayro_cmap_encoder *encoder, hayro_cmap_encoder *other);
 
 /* Empties the handle, and frees the encoder if no other handle has it. */
 void hayro_cmap_encoder_free(hayro_cmap_encoder *encoder);
 
-/* The string of the font for a text, which is UTF-8: the codes of its pieces. A piece is a letter, a character
- * and the marks after it, if that has a code and the rest can be encoded; else less of the letter, and at last
- * more than it. A piece has the code, in a codespace range and of no notdef, with the best hayro_cmap_grade; of
- * several with a grade up to HAYRO_CMAP_GRADE_COLLECTION the shortest, and of these the least, but of those with
- * HAYRO_CMAP_GRADE_CANONICAL first the character itself in the form of the map from Unicode, and of a glyph that the
- * collection's map reads as another character the last. It takes time by the characters of the text, times at most
- * those of the longest text of a code.
+/* The string of the font for a text in UTF-8: the codes of its pieces. A piece is a letter (a character and the
+ * marks after it), if the letter has a code and the rest can be encoded; otherwise a part of the letter, and as a
+ * last resort more than it. The code of a piece lies in a codespace range, is no notdef, and has the best
+ * hayro_cmap_grade; of several with a grade up to HAYRO_CMAP_GRADE_COLLECTION it is the shortest, and of these the
+ * least, but of those with HAYRO_CMAP_GRADE_CANONICAL first the character itself in the form of the map from
+ * Unicode, and of a glyph that the collection's map reads as another character the last. The time grows with the
+ * characters of the text, times at most those of the longest text of a code.
  *
- * With HAYRO_CMAP_OK the string stands at the head of `room`, and `needed` is how many bytes it has. With
- * HAYRO_CMAP_NO_ROOM `needed` is how many it has, and the room is as it was. With HAYRO_CMAP_REFUSED the text
- * can't be encoded, and only `offset` is written: the longest prefix that can be ends there, in bytes; of a text
- * that isn't UTF-8 the longest prefix that is. An empty handle is HAYRO_CMAP_ABSENT.
- * Then, and with HAYRO_CMAP_NO_MEMORY, nothing is written. */
+ * With HAYRO_CMAP_OK the string is at the head of the buffer `room`, and `needed` is its number of bytes. With
+ * HAYRO_CMAP_NO_ROOM `needed` is this number, and the buffer is unchanged. With HAYRO_CMAP_REFUSED the text can't be
+ * encoded, and only `offset` is written: the end, in bytes, of the longest prefix that can be encoded, or for a text
+ * that isn't UTF-8 of the longest prefix that is. An empty handle gives HAYRO_CMAP_ABSENT. Then, and with
+ * HAYRO_CMAP_NO_MEMORY, nothing is written. */
 hayro_cmap_status hayro_cmap_encode(hayro_cmap_encoder *encoder, const uint8_t *text, size_t text_len,
                                     uint8_t *room, size_t room_len, size_t *needed, size_t *offset);
 
-/* The pieces of a text, one after another, whose codes hayro_cmap_encode gives. The answer is that of
- * hayro_cmap_encode, with pieces in the place of bytes. */
+/* The pieces of a text, one after another, whose codes hayro_cmap_encode gives. The answer is like that of
+ * hayro_cmap_encode, with pieces instead of bytes. */
 hayro_cmap_status hayro_cmap_encode_pieces(hayro_cmap_encoder *encoder, const uint8_t *text,
                                            size_t text_len, hayro_cmap_piece *pieces,
                                            size_t pieces_len, size_t *needed, size_t *offset);
 
-/* The string of a text as far as it can be encoded: its longest prefix that can be, then the bytes of `missing` for
- * the character after it, as 3F for a question mark, then what is left of the text likewise; written as that of
- * hayro_cmap_encode is. `missing` is no bytes or whole codes of the font, one after another: other bytes may change
- * how those after them are read. With HAYRO_CMAP_REFUSED it isn't, or the text isn't UTF-8, and nothing is written;
- * an empty text is only refused for the sake of `missing`. */
+/* The string of a text as far as it can be encoded: the longest prefix that can be, then the bytes of `missing` for
+ * the character after it, such as 3F for a question mark, and so on for the rest of the text; written like that of
+ * hayro_cmap_encode. `missing` must be empty or whole codes of the font, since other bytes may change how those
+ * after them are read. With HAYRO_CMAP_REFUSED it isn't, or the text isn't UTF-8, and nothing is written; an empty
+ * text is refused only for `missing`. */
 hayro_cmap_status hayro_cmap_encode_lossy(hayro_cmap_encoder *encoder, const uint8_t *text,
                                           size_t text_len, const uint8_t *missing, size_t missing_len,
                                           uint8_t *room, size_t room_len, size_t *needed);
 
-/* The version of the library, as 1.0.0, written as a text is. */
+/* The version of the library, such as 1.0.0, written like the text of hayro_cmap_text. */
 hayro_cmap_status hayro_cmap_version(uint8_t *room, size_t room_len, size_t *needed);
 
 #ifdef __cplusplus

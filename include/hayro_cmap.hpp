@@ -1,19 +1,19 @@
-// CMap files in C++17: which CID a character code of a composite font stands for, and which text.
+// CMap files in C++17: they map the character codes of a composite font to CIDs and to Unicode text.
 //
 //     auto map = hayro::Map::parse(data);
 //     if (!map) std::cerr << map.refusal().message() << '\n';
 //     else if (auto cid = map->cid(0x3042, 2)) std::cout << *cid << '\n';
 //
-// It is hayro_cmap.h with classes that free what they own. A refused file is a value; std::bad_alloc is
-// thrown where memory ran out, and predefined_file and encode_lossy say what they throw. Without exceptions,
-// as with -fno-exceptions, the program is aborted there. What is noexcept takes no memory.
+// The classes wrap hayro_cmap.h and free what they own. A refused file is a value. If memory runs out,
+// std::bad_alloc is thrown; predefined_file and encode_lossy say what else they throw. Without exceptions,
+// as with -fno-exceptions, the program is aborted in these cases. What is noexcept allocates nothing.
 //
-// - A Map, a Bundle or an Encoder is moved and not copied. One that was moved from is empty, and answers
-//   nothing.
-// - One thread at a time uses one of these: a lookup isn't const. Other threads take another of the same,
-//   by share(), which copies nothing.
-// - Bytes, Files and Span only show what they were made of, as std::string_view does.
-// - Texts are std::string: in UTF-8 those of codes, of any bytes those of names.
+// - A Map, a Bundle or an Encoder can be moved but not copied. A moved-from one is empty, and has no
+//   answers.
+// - One thread at a time uses one of these: even a lookup isn't const. Other threads use another object of
+//   the same map, from share(), which copies nothing.
+// - Bytes, Files and Span are views of their source, like std::string_view.
+// - Texts of codes are std::string in UTF-8; names are std::string of any bytes.
 #ifndef HAYRO_CMAP_HPP
 #define HAYRO_CMAP_HPP
 
@@ -57,14 +57,14 @@ using Status = hayro_cmap_status;
 // No budget.
 inline constexpr std::uint64_t no_budget = HAYRO_CMAP_NO_BUDGET;
 
-// How many files a chain has at most, the top one included.
+// The most files of a chain, including the top file.
 inline constexpr int most_files = 16;
 
 // What a declaration gives its codes.
 enum class Kind : std::uint16_t {
     codespace_range = HAYRO_CMAP_CODESPACE_RANGE, // they are codes, each byte between those of two
     cid_range = HAYRO_CMAP_CID_RANGE,             // CIDs that count on
-    notdef_range = HAYRO_CMAP_NOTDEF_RANGE,       // one CID for all, where they have no other
+    notdef_range = HAYRO_CMAP_NOTDEF_RANGE,       // one CID for all that have no other
     text_range = HAYRO_CMAP_TEXT_RANGE            // texts whose last unit of UTF-16 counts on
 };
 
@@ -87,7 +87,7 @@ enum class Cause : std::uint32_t {
     past_budget = HAYRO_CMAP_PAST_BUDGET    // it has more bytes than are left of the budget
 };
 
-// What is wrong where the reading of a malformed file stopped.
+// What is wrong at the place where reading a malformed file stopped.
 enum class Reason : std::uint16_t {
     none = HAYRO_CMAP_NO_REASON,
     end_within_section = HAYRO_CMAP_END_WITHIN_SECTION, // the file ends within a section
@@ -121,13 +121,13 @@ enum class Segment : std::uint16_t {
     collection = HAYRO_CMAP_COLLECTION
 };
 
-// Values in a row, which belong to someone else.
+// An array of values that someone else owns.
 template <class T> class Span {
 public:
     constexpr Span() noexcept = default;
     constexpr Span(T *data, std::size_t size) noexcept : data_(data), size_(size) {}
     template <std::size_t Count> constexpr Span(T (&values)[Count]) noexcept : Span(values, Count) {}
-    // Of a container, as std::vector<T> or std::array<T, N>.
+    // Of a container, such as std::vector<T> or std::array<T, N>.
     template <class Container, class = std::enable_if_t<std::is_convertible_v<
                                    decltype(std::declval<Container &>().data()), T *>>>
     constexpr Span(Container &values) noexcept : Span(values.data(), values.size()) {}
@@ -151,7 +151,7 @@ public:
     Bytes(const void *data, std::size_t size) noexcept : data_(data), size_(size) {}
     Bytes(std::string_view text) noexcept : Bytes(text.data(), text.size()) {}
     Bytes(const std::string &text) noexcept : Bytes(text.data(), text.size()) {}
-    // A literal, or another array that doesn't change, by its length without a zero byte at its end.
+    // A literal or another constant array, without a zero byte at its end.
     template <std::size_t Count>
     Bytes(const char (&text)[Count]) noexcept
         : Bytes(text, text[Count - 1] == '\0' ? Count - 1 : Count) {}
@@ -182,8 +182,8 @@ private:
 };
 
 // The bytes of a string of codes, among which zeros are common: a std::string, a std::string_view, a container
-// of bytes, or a pointer with a length. An array or a pointer of char is refused, since its length is uncertain:
-// the string of a literal is "\0A"sv.
+// of bytes, or a pointer with a length. An array or a pointer of char is rejected, since its length is uncertain:
+// write a literal as "\0A"sv.
 class CodeString {
 public:
     CodeString() noexcept = default;
@@ -204,14 +204,14 @@ private:
     Bytes bytes_;
 };
 
-// Files by their names, for those that use them. The first of several with a name counts.
+// Files by name, for files that use them. If several have one name, the first one counts.
 class Files {
 public:
     Files() noexcept = default;
     Files(std::initializer_list<std::pair<Bytes, Bytes>> files) {
         for (const auto &[name, bytes] : files) add(name, bytes);
     }
-    // Of pairs of a name and bytes, as a std::map<std::string, std::string> has them.
+    // Of pairs of a name and bytes, such as those of a std::map<std::string, std::string>.
     template <class Pairs, class = std::enable_if_t<std::is_convertible_v<
                                decltype(std::begin(std::declval<const Pairs &>())->first), Bytes>>>
     Files(const Pairs &files) {
@@ -256,7 +256,7 @@ private:
     Handle handle_ = HAYRO_CMAP_EMPTY;
 };
 
-// Throws a fault, or aborts the program where it is built without exceptions.
+// Throws a fault, or aborts the program if it is built without exceptions.
 template <class Fault> [[noreturn]] void raise(const Fault &fault) {
 #ifdef __cpp_exceptions
     throw fault;
@@ -271,7 +271,7 @@ inline Status with_memory(Status status) {
     return status;
 }
 
-// A pointer that isn't null, also where a span has no values.
+// A pointer that isn't null, even if a span has no values.
 template <class T> T *room_of(Span<T> room) noexcept {
     static T none{};
     return room.data() ? room.data() : &none;
@@ -279,7 +279,7 @@ template <class T> T *room_of(Span<T> room) noexcept {
 
 inline std::uint8_t *room_of(std::string &room) noexcept { return hayro_cmap_room(room.data()); }
 
-// What a call writes to a room, which is asked again where this room is too short.
+// What a call writes to a buffer; it is called again if the first buffer is too short.
 template <class Ask> std::optional<std::string> written_to(std::string room, Ask ask) {
     for (;;) {
         std::size_t needed = 0;
@@ -290,7 +290,7 @@ template <class Ask> std::optional<std::string> written_to(std::string room, Ask
     }
 }
 
-// The same of what is mostly short.
+// The same for what is mostly short.
 template <class Ask> std::optional<std::string> written(Ask ask) {
     std::uint8_t first[64];
     std::size_t needed = 0;
@@ -300,8 +300,8 @@ template <class Ask> std::optional<std::string> written(Ask ask) {
     return written_to(std::string(needed, '\0'), ask);
 }
 
-// The values that a call writes to a room, which is asked again where the first room is too short; none
-// where there is no answer.
+// The values that a call writes to a buffer; it is called again if the first buffer is too short. None if
+// there is no answer.
 template <class T, class Ask>
 std::vector<T> listed(Ask ask, std::vector<T> values = std::vector<T>(8)) {
     for (;;) {
@@ -312,7 +312,7 @@ std::vector<T> listed(Ask ask, std::vector<T> values = std::vector<T>(8)) {
     }
 }
 
-// Names that stand one after another.
+// Names, one after another.
 inline std::vector<std::string> split(std::string_view room, Span<const std::size_t> lens) {
     std::vector<std::string> names;
     for (std::size_t len : lens) {
@@ -329,13 +329,13 @@ inline std::optional<WritingMode> mode_of(hayro_cmap_mode mode) noexcept {
 
 } // namespace detail
 
-// Predefined CMap files, which files use by their names, and the tables of the binary form.
+// Predefined CMap files, which other files use by name, and the tables of the binary form.
 class Bundle {
 public:
     // None.
     Bundle() noexcept = default;
 
-    // The bundle of these bytes, which needn't stay; nothing where they are invalid.
+    // The bundle of these bytes, which need not stay; nothing if they are invalid.
     static std::optional<Bundle> open(Bytes bytes) {
         Bundle bundle;
         Status status = hayro_cmap_bundle_open(bundle.handle(), bytes.data(), bytes.size());
@@ -343,7 +343,7 @@ public:
         return bundle;
     }
 
-    // Another one of the same files, for another thread.
+    // Another object of the same bundle, for another thread.
     Bundle share() {
         Bundle other;
         detail::with_memory(hayro_cmap_bundle_share(handle(), other.handle()));
@@ -359,7 +359,7 @@ public:
 
     bool empty() const noexcept { return !handle_.get()->full; }
 
-    // For the calls of hayro_cmap.h. It stays the bundle's.
+    // For the calls of hayro_cmap.h. The bundle still owns it.
     hayro_cmap_bundle *handle() noexcept { return handle_.get(); }
 
 private:
@@ -374,13 +374,13 @@ public:
 
     Cause cause() const noexcept { return static_cast<Cause>(fault_.cause); }
 
-    // Of a malformed file; else Reason::none.
+    // For a malformed file; otherwise Reason::none.
     Reason reason() const noexcept { return static_cast<Reason>(fault_.reason); }
 
-    // Of a malformed binary file, where the reason speaks of one; else Segment::none.
+    // For a malformed binary file, if the reason concerns a segment; otherwise Segment::none.
     Segment segment() const noexcept { return static_cast<Segment>(fault_.segment); }
 
-    // Where the reading of a malformed file stopped, in bytes.
+    // Where reading a malformed file stopped, in bytes.
     std::optional<std::size_t> offset() const noexcept {
         return cause() == Cause::malformed ? std::optional(fault_.offset) : std::nullopt;
     }
@@ -399,11 +399,11 @@ public:
         return line;
     }
 
-    // The names that lead to the file at fault, each used by the file before it; none where the fault
-    // is in the file itself.
+    // The names that lead to the file at fault, each used by the file before it; none if the fault is in
+    // the file itself.
     const std::vector<std::string> &names() const noexcept { return names_; }
 
-    // What is wrong, in English, as "byte 27: a CID was expected". The names aren't in it.
+    // What is wrong, in English, such as "byte 27: a CID was expected", without the names.
     std::string message() const {
         auto text = detail::written([&](auto room, auto len, auto needed) {
             return hayro_cmap_message(&fault_, room, len, needed);
@@ -416,7 +416,7 @@ private:
     std::vector<std::string> names_;
 };
 
-// The name of a hayro_cmap_warning, as no-codespace; empty for a number that no warning has.
+// The name of a hayro_cmap_warning, such as no-codespace; empty for a number that no warning has.
 inline std::string warning_name(std::uint32_t warning) {
     auto name = detail::written([&](auto room, auto len, auto needed) {
         return hayro_cmap_warning_name(warning, room, len, needed);
@@ -435,7 +435,7 @@ struct Decoded {
     bool whole;        // whether that is the whole string
 };
 
-// What a file says of itself. What it doesn't say is absent.
+// The metadata of a file. What it doesn't give is absent.
 struct Metadata {
     std::optional<std::string> name;
     std::optional<std::string> registry;
@@ -444,63 +444,63 @@ struct Metadata {
     std::optional<WritingMode> writing_mode;
 };
 
-// A declaration of texts: the codes from `first` to `last`; none where `first` is greater.
+// A declaration of texts for the codes from `first` to `last`; for none if `first` is greater.
 struct TextRange {
     std::uint32_t first;
     std::uint32_t last;
-    // The text of `first` as the file has it, so that a surrogate may stand alone. From code to code the
-    // last unit counts on.
+    // The text of `first` as the file has it, so a surrogate may stand alone. From code to code the last
+    // unit counts on.
     std::u16string units;
 };
 
-// A declaration of a file that is made: for the codes of `byte_len` bytes from `first` to `last`.
+// A declaration of a file that is made, for the codes of `byte_len` bytes from `first` to `last`.
 struct Declaration {
     Kind kind;
     std::uint16_t byte_len;
     std::uint32_t first;
     std::uint32_t last;
-    Cid cid = 0;      // that of `first`; of a notdef that of all
-    std::string text; // that of `first`, in UTF-8
+    Cid cid = 0;      // the CID of `first`, for a notdef of all codes
+    std::string text; // the text of `first`, in UTF-8
 };
 
 // What the codes of a font stand for.
 class Map {
 public:
-    // None, which answers nothing.
+    // An empty map, which has no answers.
     Map() noexcept = default;
 
-    // Reads a CMap file over the files that it uses. A name is that of the first of `files` with it,
-    // else of the bundle; Identity-H and Identity-V need no file. The files that are opened may have no
-    // more bytes than the budget together; a file counts as often as it is used, also one of the bundle.
-    // What else is in the bundle doesn't count. Where no file has their names, Identity-H and Identity-V
-    // count 177 bytes each.
+    // Reads a CMap file over the files that it uses. A name stands for the first of `files` with this
+    // name, otherwise for the file of the bundle; Identity-H and Identity-V need no file. The opened files
+    // together may have at most `budget` bytes; a file counts as often as it is used. Files of the bundle
+    // count only if they are used. If no file has their names, Identity-H and Identity-V count 177 bytes
+    // each.
     static Result parse(Bytes data, const Files &files = {}, std::uint64_t budget = no_budget);
     static Result parse(Bytes data, Bundle &bundle, const Files &files = {},
                         std::uint64_t budget = no_budget);
 
-    // Reads the file of a name, so that what the file says of itself is what the map says. There is no
-    // answer where no file has the name.
+    // Reads the file of a name, so that the map has its metadata. There is no answer if no file has the
+    // name.
     static std::optional<Result> open(Bytes name, const Files &files = {},
                                       std::uint64_t budget = no_budget);
     static std::optional<Result> open(Bytes name, Bundle &bundle, const Files &files = {},
                                       std::uint64_t budget = no_budget);
 
-    // Reads a CMap text over a base, as the entry UseCMap of a stream in a PDF file gives it (ISO 32000-1, 9.7.5.3).
-    // Whatever names the text uses, each stands for the base; a text that uses none is over it, too. The base counts
-    // by the one file that write makes of it. There is no answer where write makes none.
+    // Reads a CMap text over a base, such as the one that UseCMap of a stream in a PDF file names (ISO 32000-1,
+    // 9.7.5.3). Each name that the text uses stands for the base, and a text that uses none is over it, too. The
+    // base counts as the one file that write makes of it. There is no answer if write makes none.
     static std::optional<Result> parse_with_base(Bytes data, Map &base, std::uint64_t budget = no_budget);
 
-    // Reads the predefined CMap file of a name, and those that it uses, each as predefined_file finds it.
+    // Reads the predefined CMap file of a name and the files that it uses, as predefined_file finds them.
     static std::optional<Result> open_predefined(const std::string &name);
 
-    // Reads a file and those that it uses past their faults: the map of what they say, and each fault.
-    // Of a file that parse accepts it is the same map, without a fault.
+    // Reads a file and the files that it uses past their faults: the map of what they say, and each fault.
+    // For a file that parse accepts it is the same map, without a fault.
     static Salvaged salvage(Bytes data, const Files &files = {}, std::uint64_t budget = no_budget);
     static Salvaged salvage(Bytes data, Bundle &bundle, const Files &files = {},
                             std::uint64_t budget = no_budget);
 
-    // Reads a file in place of the map, and doesn't say why there is none. The bundle, or no bytes,
-    // serves for this file alone, and nothing of it is copied.
+    // Reads a file into this map, without a reason if there is none. The bytes of the bundle, or no bytes,
+    // serve only for this file, and aren't copied.
     Status read(Bytes data, Bytes bundle = {}, const Files &files = {},
                 std::uint64_t budget = no_budget) {
         return detail::with_memory(hayro_cmap_parse(handle(), data.data(), data.size(),
@@ -521,7 +521,7 @@ public:
         return map;
     }
 
-    // Another one of the same map, for another thread.
+    // Another object of the same map, for another thread.
     Map share() {
         Map other;
         detail::with_memory(hayro_cmap_share(handle(), other.handle()));
@@ -530,28 +530,28 @@ public:
 
     bool empty() const noexcept { return !handle_.get()->full; }
 
-    // The CID of a code of `byte_len` bytes. Codespace ranges aren't looked at.
+    // The CID of a code of `byte_len` bytes. Codespace ranges are ignored.
     std::optional<Cid> cid(std::uint32_t code, std::uint8_t byte_len) noexcept {
         Cid cid;
         return hayro_cmap_cid(handle(), code, byte_len, &cid) ? std::optional(cid) : std::nullopt;
     }
 
-    // The same, where the code lies in a codespace range of its length; else there is none.
+    // The same for a code in a codespace range of its length; other codes have no CID.
     std::optional<Cid> cid_strict(std::uint32_t code, std::uint8_t byte_len) noexcept {
         Cid cid;
         return hayro_cmap_cid_strict(handle(), code, byte_len, &cid) ? std::optional(cid)
                                                                      : std::nullopt;
     }
 
-    // Writes the CIDs of the codes from `first` on, and `absent` for those that have none: whether there
-    // is a map.
+    // Writes the CIDs of the codes from `first` on, and `absent` for codes without one. It returns whether
+    // there is a map.
     bool cids(std::uint32_t first, std::uint8_t byte_len, Cid absent, Span<Cid> cids) noexcept {
         return hayro_cmap_cids(handle(), first, byte_len, absent, detail::room_of(cids),
                                cids.size());
     }
 
-    // Cuts a string into codes, as many as there is room for, each with its CID. To go on, the rest of
-    // the string is handed in.
+    // Cuts a string into as many codes as fit, each with its CID. To continue, pass the rest of the
+    // string.
     Decoded decode(CodeString string, Span<Code> codes) noexcept {
         Decoded decoded{};
         Status status =
@@ -581,7 +581,7 @@ public:
         });
     }
 
-    // What the file says of itself.
+    // The metadata of the file.
     std::optional<std::string> name() { return text_of(hayro_cmap_name); }
     std::optional<std::string> registry() { return text_of(hayro_cmap_registry); }
     std::optional<std::string> ordering() { return text_of(hayro_cmap_ordering); }
@@ -592,18 +592,18 @@ public:
     std::optional<WritingMode> writing_mode() noexcept {
         return detail::mode_of(hayro_cmap_writing_mode(handle()));
     }
-    // That of the first layer which gives one, else horizontal.
+    // The writing mode of the first layer that gives one, otherwise horizontal.
     WritingMode effective_writing_mode() noexcept {
         auto mode = detail::mode_of(hayro_cmap_effective_writing_mode(handle()));
         return mode.value_or(WritingMode::horizontal);
     }
 
-    // The layers: the file's own is layer 0, then that of the file that it is based on, and so on. It is a
-    // view, and also a number: how many there are.
+    // The layers: layer 0 is the file itself, layer 1 the file that it is based on, and so on. It is a view,
+    // and also a number: how many there are.
     Layers layers() & noexcept;
     Layers layers() && = delete;
 
-    // What the file of a layer says of itself.
+    // The metadata of the file of a layer.
     Metadata metadata(std::size_t layer = 0) {
         std::int32_t number;
         bool numbered = hayro_cmap_layer_supplement(handle(), layer, &number);
@@ -613,29 +613,29 @@ public:
                 detail::mode_of(hayro_cmap_layer_writing_mode(handle(), layer))};
     }
 
-    // The codespace ranges of a layer, in order; none where there is no such layer.
+    // The codespace ranges of a layer, in order; none if there is no such layer.
     std::vector<Codespace> codespaces(std::size_t layer = 0) {
         return detail::listed<Codespace>([&](auto room, auto len, auto needed) {
             return hayro_cmap_codespaces(handle(), layer, room, len, needed);
         });
     }
 
-    // The declarations of CIDs of a layer for codes of `byte_len` bytes, in the order of its file; none
-    // where there is no such layer. The CIDs count on from code to code.
+    // The declarations of CIDs of a layer for codes of `byte_len` bytes, in the order of its file; none if
+    // there is no such layer. The CIDs count on from code to code.
     std::vector<CidRange> cid_ranges(std::uint8_t byte_len, std::size_t layer = 0) {
         return detail::listed<CidRange>([&](auto room, auto len, auto needed) {
             return hayro_cmap_cid_ranges(handle(), layer, byte_len, room, len, needed);
         });
     }
 
-    // The same of notdefs. All codes of one have the same CID.
+    // The same for notdefs. All codes of one have the same CID.
     std::vector<CidRange> notdef_ranges(std::uint8_t byte_len, std::size_t layer = 0) {
         return detail::listed<CidRange>([&](auto room, auto len, auto needed) {
             return hayro_cmap_notdef_ranges(handle(), layer, byte_len, room, len, needed);
         });
     }
 
-    // The declarations of texts of a layer, in the order of its file; none where there is no such layer.
+    // The declarations of texts of a layer, in the order of its file; none if there is no such layer.
     std::vector<TextRange> text_ranges(std::size_t layer = 0) {
         auto declared = detail::listed<hayro_cmap_text_range>([&](auto room, auto len, auto needed) {
             return hayro_cmap_text_ranges(handle(), layer, room, len, needed);
@@ -647,16 +647,16 @@ public:
     }
 
     // All codes that have this CID, as cid gives it for codes of `byte_len` bytes: ranges in order, each as
-    // long as can be. Codes that a file declares and that `byte_len` bytes can't write are among them.
+    // long as possible. They include declared codes that don't fit in `byte_len` bytes.
     std::vector<CodeRange> codes_of_cid(Cid cid, std::uint8_t byte_len) {
         return detail::listed<CodeRange>([&](auto room, auto len, auto needed) {
             return hayro_cmap_codes_of_cid(handle(), cid, byte_len, room, len, needed);
         });
     }
 
-    // What looks wrong in the file: the warnings of `cmap check --lint`, each that concerns something once.
-    // `text` is the file, if it is a text: without it there is no warning about how a text is written.
-    // `shown` are codes that are shown with the font, in ascending order, each once.
+    // What looks wrong in the file: the warnings of `cmap check --lint`, each at most once. `text` is the
+    // file, if it is a text: without it there is no warning about the spelling of a text. `shown` has the
+    // codes that are shown with the font, in ascending order, each once.
     std::vector<Finding> lint(Bytes text = {}, bool to_unicode = false,
                               Span<const std::uint32_t> shown = {}) {
         return detail::listed<Finding>([&](auto room, auto len, auto needed) {
@@ -665,7 +665,7 @@ public:
         });
     }
 
-    // For the calls of hayro_cmap.h. It stays the map's.
+    // For the calls of hayro_cmap.h. The map still owns it.
     hayro_cmap *handle() noexcept { return handle_.get(); }
 
 private:
@@ -686,7 +686,7 @@ private:
     detail::Owned<hayro_cmap, hayro_cmap_free> handle_;
 };
 
-// What one file of a map gives. It asks the map, and owns nothing.
+// What one file of a map declares. It is a view of the map, and owns nothing.
 class Layer {
 public:
     Layer(Map &map, std::size_t index) noexcept : map_(&map), index_(index) {}
@@ -706,7 +706,7 @@ private:
     std::size_t index_;
 };
 
-// The layers of a map, which has to stay.
+// The layers of a map, which must stay.
 class Layers {
 public:
     explicit Layers(Map &map) noexcept : map_(&map), size_(hayro_cmap_layers(map.handle())) {}
@@ -750,10 +750,10 @@ private:
 
 inline Layers Map::layers() & noexcept { return Layers(*this); }
 
-// The text of a CMap file of these declarations, in the fewest that give each code the same, and of what it
-// says of itself; a registry without an ordering is left out, as is an ordering without a registry. Nothing where
-// no file says so: a length of codes outside 1 to 4, a text that is empty or isn't UTF-8, a code with more bytes
-// than its length, a name that has a byte which no name has.
+// The text of a CMap file with these declarations, in the fewest that give each code the same, and with this
+// metadata; a registry without an ordering is left out, and so is an ordering without a registry. Nothing if no
+// file can express it: a code length outside 1 to 4, a text that is empty or isn't UTF-8, a code that doesn't fit
+// in its length, or a name with a byte that no name has.
 inline std::optional<std::string> make(const Metadata &metadata,
                                        const std::vector<Declaration> &declarations) {
     const std::string none;
@@ -779,8 +779,8 @@ inline std::optional<std::string> make(const Metadata &metadata,
     });
 }
 
-// The text of one CMap file that answers each code as the map does, or only these codes, where there are some.
-// Nothing where no one file answers so, and of an empty map.
+// The text of one CMap file that answers each code as the map does, or if `codes` has some only these. Nothing if
+// no single file has these answers, or the map is empty.
 inline std::optional<std::string> write(Map &map, const std::vector<Codes> &codes = {}) {
     return detail::written([&](auto room, auto len, auto needed) {
         return hayro_cmap_write(map.handle(), hayro_cmap_chosen(codes.data()), codes.size(), room, len,
@@ -790,14 +790,14 @@ inline std::optional<std::string> write(Map &map, const std::vector<Codes> &code
 
 // A code of a string of a font.
 struct Character {
-    // The code, and the CID that the font's CMap declares for it: a character of a text is no CID.
+    // The code, and the CID that the font's CMap declares for it, never a Unicode number.
     Code code;
     // Its text, in UTF-8.
     std::optional<std::string> text;
 };
 
-// The name of the map from Unicode, in UTF-16, to the CIDs of a character collection: of Adobe-Japan1
-// UniJIS-UTF16-H, and UniJIS-UTF16-V for vertical writing. Nothing where the collection has none.
+// The name of the map from Unicode, in UTF-16, to the CIDs of a character collection: for Adobe-Japan1
+// UniJIS-UTF16-H, and UniJIS-UTF16-V for vertical writing. Nothing if the collection has none.
 inline std::optional<std::string> unicode_name(Bytes collection,
                                                WritingMode mode = WritingMode::horizontal) {
     return detail::written([&](auto room, auto len, auto needed) {
@@ -808,15 +808,15 @@ inline std::optional<std::string> unicode_name(Bytes collection,
 
 // Which maps of a character collection were found.
 struct FoundCollection {
-    bool to_unicode = false;        // the one to Unicode
-    bool from_unicode = false;      // the one from Unicode
+    bool to_unicode = false;        // the map to Unicode
+    bool from_unicode = false;      // the map from Unicode
     std::optional<Refusal> refusal; // of the first file that is refused
 };
 
-// The maps of a font, by which the texts of its strings are found (ISO 32000-1, 9.10.2): that of its CMap,
-// that of its ToUnicode CMap, and one from the CIDs of its character collection to Unicode. Of the fourth, one
-// from Unicode to CIDs, an Encoder takes the glyphs of characters. An empty map stands for one that there
-// isn't. Where one map serves twice, share() gives another one of it.
+// The maps of a font, by which the texts of its strings are found (ISO 32000-1, 9.10.2): its CMap, its ToUnicode
+// CMap, and a map from the CIDs of its character collection to Unicode. From the fourth map, one from Unicode to
+// CIDs, an Encoder takes the glyphs of characters. An empty map stands for a missing one. If one map serves twice,
+// share() gives another object of it.
 class Extractor {
 public:
     explicit Extractor(Map encoding, Map to_unicode = {}, Map collection = {},
@@ -824,27 +824,27 @@ public:
         : encoding_(std::move(encoding)), to_unicode_(std::move(to_unicode)),
           collection_(std::move(collection)), unicode_(std::move(unicode)) {}
 
-    // Of a simple font, which has no CMap: its codes are bytes (ISO 32000-1, 9.6).
+    // For a simple font, which has no CMap: its codes are bytes (ISO 32000-1, 9.6).
     static Extractor simple(Map to_unicode = {});
 
-    // Takes the two maps of a character collection, as Adobe-Japan1, by default the one that the encoding
-    // names: the map to Unicode, as Adobe-Japan1-UCS2, and the one from Unicode that unicode_name names, but an
-    // encoding itself whose name begins with Uni. Each is that of its file, as Map::open finds it. Without such
-    // a file the map stays. The answer says which maps were taken, and has the first refusal.
+    // Takes the two maps of a character collection, such as Adobe-Japan1, by default the one that the encoding
+    // names: the map to Unicode, such as Adobe-Japan1-UCS2, and the map from Unicode that unicode_name names, or
+    // the encoding itself if its name begins with Uni. Map::open reads each. If there is no such file, the
+    // present map stays. The answer tells which maps were taken, and has the first refusal.
     FoundCollection find_collection(const Files &files, const std::string &collection = {});
     FoundCollection find_collection(Bundle &bundle, const Files &files = {},
                                     const std::string &collection = {});
 
-    // The same of the predefined CMap files, as Map::open_predefined reads them.
+    // The same with the predefined CMap files, as Map::open_predefined reads them.
     FoundCollection find_predefined_collection(const std::string &collection = {});
 
-    // Another one of the same maps, for another thread.
+    // Another object of the same maps, for another thread.
     Extractor share() {
         return Extractor(encoding_.share(), to_unicode_.share(), collection_.share(), unicode_.share());
     }
 
-    // All codes of a string. The text of one is that of the ToUnicode CMap, where it has one for the code;
-    // else that of its CID in the map of the collection.
+    // All codes of a string. The text of a code is that of the ToUnicode CMap, if this has one for it;
+    // otherwise that of its CID in the map of the collection.
     std::vector<Character> characters(CodeString string) {
         std::vector<Character> characters;
         hayro_cmap_character room[64];
@@ -862,8 +862,8 @@ public:
         }
     }
 
-    // The text of a string in UTF-8: the texts of its codes, one after another, and for each that has none
-    // `missing`, by default U+FFFD.
+    // The text of a string in UTF-8: the texts of its codes, one after another, with `missing`, by default
+    // U+FFFD, for each code that has none.
     std::string text(CodeString string, std::string_view missing = "\xEF\xBF\xBD") {
         std::string text;
         for (const auto &it : characters(string)) text += it.text ? std::string_view(*it.text) : missing;
@@ -873,7 +873,7 @@ public:
 private:
     friend class Encoder;
 
-    // The character collection of this name, else that of the first file of the encoding that names one.
+    // The character collection of this name, otherwise that of the first file of the encoding that has one.
     std::optional<std::string> collection_of(const std::string &name) {
         if (!name.empty()) return name;
         for (const auto &layer : encoding_.layers())
@@ -906,7 +906,7 @@ struct Piece {
     Grade grade;
 };
 
-// What a text has, or where the text is refused. As with std::optional, what isn't there isn't asked for.
+// The answer for a text, or the offset where the text is refused. As with std::optional, check before access.
 template <class Value> class OfText {
 public:
     OfText(Value value) noexcept : either_(std::move(value)) {}
@@ -918,23 +918,22 @@ public:
     Value operator*() && noexcept { return std::move(*std::get_if<Value>(&either_)); }
     const Value *operator->() const noexcept { return std::get_if<Value>(&either_); }
 
-    // In bytes: the longest prefix of the text that can be encoded ends there; of a text that isn't UTF-8,
-    // the longest prefix that is.
+    // The end, in bytes, of the longest prefix of the text that can be encoded, or for a text that isn't
+    // UTF-8 of the longest prefix that is.
     std::size_t offset() const noexcept { return *std::get_if<std::size_t>(&either_); }
 
 private:
     std::variant<Value, std::size_t> either_;
 };
 
-// The string that shows a text; and the pieces of a text.
+// The string of a text; and the pieces of a text.
 using Encoded = OfText<std::string>;
 using Pieces = OfText<std::vector<Piece>>;
 
-// Finds the strings of a font that show texts: what an Extractor reads, the other way round. It keeps no maps
-// of the font.
+// Finds the strings of texts in a font: the other direction of an Extractor. It keeps no maps of the font.
 class Encoder {
 public:
-    // None, which refuses all texts.
+    // An empty encoder, which refuses all texts.
     Encoder() noexcept = default;
 
     // An exact one chooses only codes whose texts are the pieces for which they stand.
@@ -944,7 +943,7 @@ public:
             font.unicode_.handle(), exact));
     }
 
-    // Another one of the same font, for another thread.
+    // Another object of the same encoder, for another thread.
     Encoder share() {
         Encoder other;
         detail::with_memory(hayro_cmap_encoder_share(handle(), other.handle()));
@@ -978,9 +977,9 @@ public:
         return pieces;
     }
 
-    // The same as far as the text can be encoded: its longest prefix that can be, `missing` for the
-    // character after it, then what is left likewise. Nothing where the text isn't UTF-8.
-    // std::invalid_argument where `missing` isn't whole codes of the font, or no bytes.
+    // The same as far as the text can be encoded: the longest prefix that can be, `missing` for the
+    // character after it, and so on for the rest. Nothing if the text isn't UTF-8. Throws
+    // std::invalid_argument unless `missing` is empty or whole codes of the font.
     std::optional<std::string> encode_lossy(Bytes text, CodeString missing) {
         auto string = detail::written_to(room_for(text), [&](auto room, auto len, auto needed) {
             return lossy(text, missing, room, len, needed);
@@ -994,7 +993,7 @@ public:
 
     bool empty() const noexcept { return !handle_.get()->full; }
 
-    // For the calls of hayro_cmap.h. It stays the encoder's.
+    // For the calls of hayro_cmap.h. The encoder still owns it.
     hayro_cmap_encoder *handle() noexcept { return handle_.get(); }
 
 private:
@@ -1003,13 +1002,13 @@ private:
                                        missing.size(), room, len, needed);
     }
 
-    // Enough where codes have one or two bytes.
+    // Enough for codes of one or two bytes.
     static std::string room_for(Bytes text) { return std::string(2 * text.size(), '\0'); }
 
     detail::Owned<hayro_cmap_encoder, hayro_cmap_encoder_free> handle_;
 };
 
-// A map, or why there is none. As with std::optional, what isn't there isn't asked for.
+// A map, or the reason why there is none. As with std::optional, check before access.
 class Result {
 public:
     Result(Map map) noexcept : either_(std::move(map)) {}
@@ -1025,8 +1024,8 @@ private:
     std::variant<Map, Refusal> either_;
 };
 
-// A map, and the faults past which its files were read, those of a file once. Those of one file are in the
-// order of their offsets, before those of the files that it uses.
+// A map, and the faults past which its files were read, the faults of each file once. The faults of a file are in
+// the order of their offsets, before those of the files that it uses.
 struct Salvaged {
     Map map;
     std::vector<Refusal> faults;
@@ -1141,8 +1140,7 @@ inline std::optional<Result> Map::open(Bytes name, const Files &files, std::uint
     return open(name, none, files, budget);
 }
 
-// The names of the files that a file uses, in the order of the uses; nothing where it is outside the
-// grammar.
+// The names of the files that a file uses, in the order of the uses; nothing if it is outside the grammar.
 inline std::optional<std::vector<std::string>> uses(Bytes data, Bundle &bundle) {
     std::vector<std::size_t> lens(4);
     std::string room(64, '\0');
@@ -1180,9 +1178,9 @@ inline std::optional<Result> Map::parse_with_base(Bytes data, Map &base, std::ui
     return parse(use + std::string(data.text()), files, budget + std::min<std::uint64_t>(use.size(), left));
 }
 
-// The files that a file uses, and those that they use, each asked for once: `get` answers a name, a
-// std::string, by std::optional<std::string>, the bytes of its file. What a file of the bundle uses is
-// asked for too.
+// The files that a file uses, and the files that these use, each requested once: `get` takes a name, a
+// std::string, and returns the bytes of its file as a std::optional<std::string>. Files that a file of the
+// bundle uses are requested too.
 template <class Get>
 std::map<std::string, std::string> used_files(Bytes data, Bundle &bundle, Get get) {
     std::map<std::string, std::string> found, of_bundle;
@@ -1211,7 +1209,7 @@ template <class Get> std::map<std::string, std::string> used_files(Bytes data, G
 
 namespace detail {
 
-// The bytes of a file, where there is one.
+// The bytes of a file, if there is one.
 inline std::optional<std::string> bytes_of(const std::filesystem::path &path) {
     std::error_code fault;
     if (!std::filesystem::is_regular_file(path, fault)) return std::nullopt;
@@ -1229,7 +1227,7 @@ inline std::optional<std::string> bytes_of(const std::filesystem::path &path) {
     return bytes;
 }
 
-// The folders in a folder that aren't hidden, in order; none where it can't be read.
+// The visible folders in a folder, in order; none if it can't be read.
 inline std::vector<std::filesystem::path> subfolders(const std::filesystem::path &folder) {
     std::vector<std::filesystem::path> found;
     std::error_code fault;
@@ -1256,11 +1254,11 @@ inline std::vector<std::string> predefined_folders() {
 
 } // namespace detail
 
-// The predefined CMap file of a name, as 90ms-RKSJ-H; nothing where the system has none. It is looked up
-// in the folders of the environment variable CMAP_PATH, with colons between them, and without the
-// variable where packages of Linux put these files; in each folder first, and then in its subfolders. A
-// name stands for nothing outside of them, and for no hidden file and none of a hidden subfolder.
-// std::filesystem::filesystem_error where a file can't be read.
+// The predefined CMap file of a name, such as 90ms-RKSJ-H; nothing if the system has none. It is looked up
+// in the folders of the environment variable CMAP_PATH, separated by colons, or without the variable where
+// packages of Linux put these files; in each folder first, then in its subfolders. No name leads out of these
+// folders, to a hidden file, or into a hidden subfolder. Throws std::filesystem::filesystem_error if a file
+// can't be read.
 inline std::optional<std::string> predefined_file(const std::string &name) {
     if (name.empty() || name[0] == '.' || name.find('/') != std::string::npos ||
         name.find('\0') != std::string::npos)

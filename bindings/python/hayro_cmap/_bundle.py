@@ -10,9 +10,9 @@ from ._values import Buffer, Name, bytes_of, name_of
 
 
 class Bundle(Owned):
-    """A bundle, opened once for any number of maps. It is freed by `close`, by `with`, or with its last reference.
+    """A bundle, opened once for any number of maps. `close`, the end of `with`, or of the last reference frees it.
 
-    Several threads may use one bundle, one at a time. `share` gives a thread a bundle of its own.
+    Several threads may use one bundle, one at a time. With `share` each thread has a bundle of its own.
     """
 
     _what = "the bundle"
@@ -22,7 +22,7 @@ class Bundle(Owned):
 
     @classmethod
     def open(cls, data: Buffer) -> "Bundle":
-        """Opens a bundle, and copies its files. NotABundle where the bytes are none."""
+        """Opens a bundle, and copies its files. Raises NotABundle if the bytes are no bundle."""
         data, handle = bytes_of(data), Handle()
         if checked(library.hayro_cmap_bundle_open(handle, data, len(data))) == NOT_A_BUNDLE:
             raise NotABundle("the bytes are no bundle")

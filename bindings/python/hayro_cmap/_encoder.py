@@ -41,7 +41,7 @@ class Piece(NamedTuple):
 
 
 class Encoder(Owned):
-    """Finds the strings of a font that show texts. It keeps none of the maps."""
+    """Finds the strings of texts in a font. It keeps none of the maps."""
 
     _what = "the extractor"
     _free = staticmethod(library.hayro_cmap_encoder_free)
@@ -55,7 +55,7 @@ class Encoder(Owned):
         super().__init__(encoder)
 
     def encode(self, text: str) -> bytes:
-        """The string that shows a text."""
+        """The string of a text."""
         data, offset = utf8_of(text), c_size_t()
         with self._held() as encoder:
             string = put(
@@ -67,7 +67,7 @@ class Encoder(Owned):
         return string
 
     def encode_lossy(self, text: str, missing: bytes) -> bytes:
-        """The same with `missing` for each character that no string shows."""
+        """The same with `missing` for each character that can't be encoded."""
         data = utf8_of(text)
         arguments = (data, len(data), missing, len(missing))
         with self._held() as encoder:

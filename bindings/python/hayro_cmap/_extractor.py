@@ -38,17 +38,16 @@ class Character(NamedTuple):
 class Extractor:
     """The maps of a font, by which the texts of its strings are found (ISO 32000-1, 9.10.2), and the strings of texts.
 
-    `encoding` is the font's CMap, `to_unicode` its ToUnicode CMap, `collection` a map from the CIDs of its character
-    collection to Unicode, as Adobe-Japan1-UCS2, and `unicode` one from Unicode to them, as UniJIS-UTF16-H, by which
-    `encode` has the glyphs that the collection means. Without the last two they are looked for in `files` and the
-    `bundle`, as `CMap.collection` and `CMap.unicode` of the encoding do, and without these among the system's
-    predefined CMaps; in no file with `files={}`. In place of a map `collection` may be the name of the collection, as
-    "Adobe-Japan1": Identity-H names none, and an embedded CMap may name another than the font does.
+    `encoding` is the font's CMap, or None for a simple font, whose codes have one byte. `to_unicode` is its ToUnicode
+    CMap, `collection` a map from the CIDs of its character collection to Unicode, such as Adobe-Japan1-UCS2, and
+    `unicode` one from Unicode to CIDs, such as UniJIS-UTF16-H, by which `encode` finds the glyphs that the collection
+    means. If the last two aren't given, they are looked up in `files` and the `bundle`, as `CMap.collection` and
+    `CMap.unicode` of the encoding do, by default among the system's predefined CMaps, and nowhere with `files={}`.
+    Instead of a map, `collection` may be the name of the collection, such as "Adobe-Japan1": Identity-H names none, and
+    an embedded CMap may name another one than the font does.
 
-    A simple font has no CMap, and codes of one byte: of it `encoding` is None.
-
-    The maps are shared, so that they may be closed or used elsewhere; they are freed by `close`, by `with`, or with the
-    last reference. Several threads may use one extractor at the same time.
+    The maps are shared, so that they may be closed or used elsewhere; `close`, the end of `with`, or of the last
+    reference frees them. Several threads may use one extractor at the same time.
     """
 
     def __init__(
@@ -88,8 +87,8 @@ class Extractor:
     def characters(self, string: Buffer) -> List[Character]:
         """The codes of a string, one after another, each with its CID and its text.
 
-        The text is that of the ToUnicode CMap, where it has one for the code; else that of the CID in the map of the
-        collection. Codes in no codespace range are looked up too.
+        The text is that of the ToUnicode CMap, if this has one for the code; otherwise that of the CID in the map of
+        the collection. Codes in no codespace range are looked up too.
         """
         return list(itertools.chain.from_iterable(self._parts(string, self._characters_in)))
 
@@ -135,26 +134,25 @@ class Extractor:
         ]
 
     def encode(self, text: str, missing: Optional[Buffer] = None, exact: bool = False) -> bytes:
-        """The string of a text: the codes of its pieces. A piece is a letter, a character and the marks after it, if
-        that has a code and the rest can be encoded; else less of the letter, and at last more than it. The code of a
-        piece lies in a codespace range, has no notdef, and is the first one by its `Grade`; of several that of the
-        character itself in the form of the map from Unicode, then the shortest, then the least; of a glyph that the
-        collection's map reads as another character the last. With `exact` only those codes stand for a piece whose text
-        is the piece, so that the string is read back as the text, and nothing stands for a variation selector.
+        """The string of a text: the codes of its pieces. A piece is a letter (a character and the marks after it), if
+        the letter has a code and the rest can be encoded; otherwise a part of the letter, and as a last resort more
+        than it. The code of a piece lies in a codespace range, has no notdef, and has the best `Grade`; of several it
+        is that of the character itself in the form of the map from Unicode, then the shortest, then the least; the code
+        of a glyph that the collection's map reads as another character comes last. With `exact`, only codes whose text
+        is the piece stand for it, so that the string is read back as the text, and every variation selector needs a
+        code.
 
-        A text that has no such pieces is Unencodable. But where `missing` is given, as b"\\x00\\x3f" for a question
-        mark, the string is that of the longest prefix that has them, then these bytes for the character after it, then
-        what is left of the text likewise. ValueError where they aren't whole codes of the font: the bytes after them
-        would be other codes.
+        Raises Unencodable for a text without such pieces. But with `missing`, such as b"\\x00\\x3f" for a question
+        mark, these bytes replace the character after the longest prefix that has them, and so on for the rest. Raises
+        ValueError if they aren't whole codes of the font: the bytes after them would be other codes.
 
-        What is needed for it is made of all codes of the font when it is first called, and kept.
+        The first call builds what is needed from all codes of the font, and the extractor keeps it.
         """
         encoder = self._encoder(text, exact)
         return encoder.encode(text) if missing is None else encoder.encode_lossy(text, bytes_of(missing))
 
     def pieces(self, text: str, exact: bool = False) -> List[Piece]:
-        """The pieces of a text, whose codes `encode` gives one after another, each with its code and how well that
-        stands for it."""
+        """The pieces of a text, whose codes `encode` gives one after another, each with its code and its grade."""
         return self._encoder(text, exact).pieces(text)
 
     def _encoder(self, text, exact):
@@ -170,11 +168,11 @@ class Extractor:
         return Encoder(*self._maps[:3], self._maps[3] if found is None else found, exact)
 
     def items(self) -> Iterator[Tuple[bytes, str]]:
-        """Each code in a codespace range that has a text: its bytes, and the text that `characters` gives. So
+        """Each code in a codespace range that has a text: its bytes, and the text that `characters` gives.
         `dict(font.items())` has all texts of a font.
 
-        They come in the order of their lengths, then of their bytes, and are looked for one after another: of a font
-        with 2^32 codes `itertools.islice` takes some.
+        They come in the order of their lengths, then of their bytes, and are found one after another: for a font with
+        2^32 codes, `itertools.islice` takes some.
         """
         codes = candidates(*self._maps[:3])
         for chunk in iter(lambda: list(itertools.islice(codes, CHUNK)), []):
@@ -184,7 +182,7 @@ class Extractor:
                     yield code, found[0].text
 
     def characters_of(self, strings: Iterable[Buffer]) -> List[List[Character]]:
-        """What `characters` gives for each of many strings, which takes less time than to ask for each."""
+        """What `characters` gives for each of many strings, in less time."""
         asked, length = [bytes_of(string) for string in strings], self._code_length
         # where all codes have one length, strings of whole codes may stand one after another
         together = [length is not None and len(string) % length == 0 for string in asked]
@@ -201,7 +199,7 @@ class Extractor:
         return lengths.pop() if len(lengths) == 1 else None
 
     def close(self):
-        """Frees the maps, unless others share them. Each later use is a ValueError, but for a second `close`."""
+        """Frees the maps, unless others share them. Each later use raises ValueError, except a second `close`."""
         for cmap in self._maps:
             cmap.close()
         # no room is made any more, and those in use are freed when their calls end

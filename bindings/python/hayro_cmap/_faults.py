@@ -22,7 +22,7 @@ class Cause(enum.IntEnum):
 
 
 class Reason(enum.IntEnum):
-    """What is wrong where the reading of a malformed file stopped."""
+    """What is wrong at the place where reading a malformed file stopped."""
 
     END_WITHIN_SECTION = 2
     CODE_EXPECTED = 3
@@ -71,7 +71,7 @@ class Lines:
 
 
 class Refused(ValueError):
-    """A file, or one that it uses, is malformed or missing, or passes a limit. Its text says which and why."""
+    """A file, or one that it uses, is malformed or missing, or exceeds a limit. The text says which and why."""
 
     def __init__(
         self,
@@ -101,7 +101,7 @@ class Refused(ValueError):
 
     @property
     def words(self) -> str:
-        """What is wrong, without the offset that the message begins with."""
+        """What is wrong, without the offset at the beginning of the message."""
         start = f"byte {self.offset}: "
         return self.message[len(start) :] if self.message.startswith(start) else self.message
 
@@ -122,7 +122,7 @@ class NotABundle(ValueError):
 
 
 class Unencodable(ValueError):
-    """A text that no string of a font shows."""
+    """A text that can't be encoded in a font."""
 
     def __init__(self, text: str, offset: int):
         super().__init__(text, offset)
@@ -136,4 +136,4 @@ class Unencodable(ValueError):
 
 
 class NotWritable(ValueError):
-    """No CMap file says what one is to say."""
+    """No CMap file can express the answers."""

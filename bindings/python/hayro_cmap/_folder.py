@@ -9,11 +9,11 @@ Path = Union[str, "os.PathLike[str]"]
 
 
 def folder(*paths: Path) -> Callable[[Name], Optional[bytes]]:
-    """Gives the files in these folders and their subfolders, each when it is asked for by its name.
+    """Gives the files in these folders and their subfolders, each read when it is requested by name.
 
-    A name stands for a file that was there when the folders were gone through, and for nothing outside of them. Files
-    and subfolders that are hidden, whose names begin with a dot, are passed over. The first folder that has a name
-    counts, and in a folder the first path. OSError where a folder can't be read.
+    A name stands for a file that existed when the folders were listed, and never for one outside of them. Hidden files
+    and subfolders, whose names begin with a dot, are skipped. The first folder that has a name counts, and in a folder
+    the first path. Raises OSError if a folder can't be read.
     """
     found: Dict[bytes, bytes] = {}
     for path in paths:

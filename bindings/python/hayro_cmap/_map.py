@@ -98,7 +98,7 @@ class Codespace(NamedTuple):
 
 
 class Metadata(NamedTuple):
-    """What a file says of itself; None for what it doesn't say."""
+    """The metadata of a file; None for what it doesn't give."""
 
     #: The name that it gives itself.
     name: Optional[bytes]
@@ -112,7 +112,7 @@ class Metadata(NamedTuple):
 
 
 class CidRange(NamedTuple):
-    """A declaration of CIDs: the codes of `byte_len` bytes from `first` to `last`; none where `first` is greater."""
+    """A declaration of CIDs for codes of `byte_len` bytes, from `first` to `last`; for none if `first` is greater."""
 
     first: int
     last: int
@@ -122,7 +122,7 @@ class CidRange(NamedTuple):
 
 
 class TextRange(NamedTuple):
-    """A declaration of texts: the codes from `first` to `last`; none where `first` is greater."""
+    """A declaration of texts for the codes from `first` to `last`; for none if `first` is greater."""
 
     first: int
     last: int
@@ -139,7 +139,7 @@ class CodeRange(NamedTuple):
 
 
 class Layer:
-    """What one file of a map gives. What it declares is read when it is first asked for, while the map is open."""
+    """What one file of a map declares. Its declarations are read when they are first used, while the map is open."""
 
     def __init__(self, cmap: "CMap", index: int):
         self._cmap, self._index = cmap, index
@@ -190,10 +190,10 @@ class Layer:
 
 
 class CMap(Owned):
-    """The map of a CMap file and the files that it uses. It is freed by `close`, by `with`, or with its last reference.
+    """The map of a CMap file and the files that it uses. `close`, the end of `with`, or of the last reference frees it.
 
-    Several threads may use one map, one at a time. `share` gives a thread a map of its own, so that both look up at
-    the same time. The bytes of names are not decoded; where a call takes a name, a str stands for its UTF-8.
+    Several threads may use one map, one at a time. With `share` each thread has a map of its own, so that they look up
+    at the same time. Names are bytes; a call that takes a name also takes a str, which stands for its UTF-8.
     """
 
     _what = "the map"
@@ -213,19 +213,19 @@ class CMap(Owned):
         budget: Optional[int] = None,
         base: Union["CMap", Buffer, None] = None,
     ) -> "CMap":
-        """Reads a CMap file: a text or, with a bundle, also one in binary form.
+        """Reads a CMap file: a text or, with a bundle, also a binary file.
 
-        A file that it uses is that of `files` with the name, else that of the bundle. `files` is a mapping, or a
-        callable that is asked for the file of a name, once for each name, and gives None where there is none. The
-        files that are read may have no more bytes than `budget` together, and no callable is asked for more than one
-        file past it. Files of the bundle count where they are read, and the bundle itself doesn't.
+        A file that it uses is that of `files` with the name, otherwise that of the bundle. `files` is a mapping, or a
+        callable that is called once for each name and returns the file, or None. All files that are read may have at
+        most `budget` bytes together, and a callable is called for at most one file past it. Files of the bundle count
+        if they are read; the bundle itself doesn't.
 
-        `base` is what the file is based on, whatever name it uses, and also where it uses none, as the entry UseCMap of
-        a stream in a PDF file says: a map, or the bytes of a file, which itself may use those of `files`. Its name in
-        a fault is that which the file uses, or UseCMap.
+        `base` is the base of the file, whatever name the file uses, and even if it uses none, such as the entry UseCMap
+        of a stream in a PDF file gives it: a map, or the bytes of a file, which itself may use files of `files`. In a
+        fault it has the name that the file uses, or UseCMap.
 
-        Refused where the file, or one that it uses, is malformed, missing or past a limit. NotWritable where the base
-        is no one file, as `write` has it.
+        Raises Refused if the file, or one that it uses, is malformed, missing or past a limit; NotWritable if no single
+        file can express the base, as in `write`.
         """
         if base is not None:
             return _based.parsed(cls, data, base, files, bundle, budget)
@@ -242,13 +242,13 @@ class CMap(Owned):
         base: Union["CMap", Buffer, None] = None,
         most_faults: Optional[int] = None,
     ) -> "Salvaged":
-        """Reads a CMap file, and those that it uses, past their faults: the map of what they say, and each fault.
+        """Reads a CMap file and the files that it uses past their faults: the map of what they say, and each fault.
 
-        The faults of a file come once, however often it is used. Of a file that `parse` reads it gives the same map,
-        and no fault; of another one the first fault is one for which it is refused. The parameters are those of
-        `parse`; a callable isn't asked for a name that only a file at fault uses, where the bundle has it
-        or it needs no file. The faults of a `base` come last. With `most_faults` only the first ones are given, up to
-        this number of the file and those that it uses, and of a `base`: a file of a megabyte may have a million.
+        The faults of a file are listed once, however often it is used. For a file that `parse` accepts it gives the
+        same map and no fault; for any other the first fault is one for which it is refused, or in a text in rows one
+        before it. The parameters are those of `parse`; a callable isn't called for a name that only a file at fault
+        uses, if the bundle has it or it needs no file. The faults of a `base` come last. `most_faults` limits the list,
+        for the file with the files that it uses, and for a `base`: a file of a megabyte may have a million faults.
         """
         if most_faults is not None:
             most_faults = number(most_faults, 0, 2**32, "most_faults")
@@ -266,13 +266,13 @@ class CMap(Owned):
         bundle: Optional[Bundle] = None,
         budget: Optional[int] = None,
     ) -> "CMap":
-        """Reads the file of a name, as `parse` does: that of `files`, else that of the bundle.
+        """Reads the file of a name, as `parse` does: that of `files`, otherwise that of the bundle.
 
-        Where neither has one, Identity-H and Identity-V are made, and any other name is Refused. Without `files` the
-        system's predefined CMaps serve for names that the bundle doesn't have, as `predefined` finds them. With the
-        name alone, the last maps that were read are kept while their files stay as they are.
+        If neither has one, Identity-H and Identity-V are made, and any other name is Refused. Without `files`, the
+        system's predefined CMaps are used for names that the bundle doesn't have, as `predefined` finds them. If only a
+        name is given, the last maps that were read are cached while their files stay unchanged.
 
-        A path, as a pathlib.Path, stands for its file: OSError where that can't be read.
+        A path, such as a pathlib.Path, names a file directly: OSError if that can't be read.
         """
         if isinstance(name, os.PathLike):
             with open(name, "rb") as opened:
@@ -310,7 +310,7 @@ class CMap(Owned):
         return list(itertools.starmap(code_of_fields, CODE.iter_unpack(found)))
 
     def cid(self, code: int, byte_len: int) -> Optional[int]:
-        """The CID of a code of `byte_len` bytes, or None. Codespace ranges aren't looked at."""
+        """The CID of a code of `byte_len` bytes, or None. Codespace ranges are ignored."""
         return self._cid(library.hayro_cmap_cid, code, byte_len)
 
     def cid_strict(self, code: int, byte_len: int) -> Optional[int]:
@@ -323,7 +323,7 @@ class CMap(Owned):
         return cid.value if has_cid else None
 
     def cids(self, first: int, count: int, byte_len: int) -> List[Optional[int]]:
-        """What `cid` gives for `count` codes in a row, of which `first` is the first."""
+        """What `cid` gives for `count` consecutive codes from `first` on."""
         first, byte_len = code_number(first), code_length(byte_len)
         count = number(count, 0, 2**32 - first, "the number of codes")
         one, other = (self._row(first, count, byte_len, absent) for absent in (0, 1))
@@ -342,32 +342,31 @@ class CMap(Owned):
 
     def codes_of_cid(self, cid: int, byte_len: int) -> List[CodeRange]:
         """All codes that have this CID, as `cid` gives it for codes of `byte_len` bytes: ranges in order, each as long
-        as can be. Codes that a file declares and that `byte_len` bytes can't write are among them."""
+        as possible. They include declared codes that don't fit in `byte_len` bytes."""
         codes = self._listed(library.hayro_cmap_codes_of_cid, CodesInRow, cid_number(cid), code_length(byte_len))
         return [CodeRange(it.first, it.last) for it in codes]
 
     def lint(self, text: Buffer = b"", to_unicode: bool = False, shown: Iterable[int] = ()) -> List[Finding]:
-        """What looks wrong in the file of the map: the warnings of `cmap check --lint`, in its order, each that concerns
-        something once. That of the name of the file is never among them.
+        """What looks wrong in the file of the map: the warnings of `cmap check --lint`, in its order, each at most
+        once, except the one about the name of the file.
 
-        `text` is the file, if it is a text; without it there are no warnings about how a text is written. `to_unicode`
-        is whether the map is meant as one to Unicode, as that under ToUnicode of a font. `shown` are the numbers of
-        codes that are shown with the font: a finding says how many of these it concerns. A declaration concerns the
-        codes between its ends (`no-text` those without a text), a string those of its entry.
+        `text` is the file, if it is a text; without it there are no warnings about the spelling of a text. `to_unicode`
+        tells that the map is a ToUnicode CMap. `shown` has the numbers of the codes that are shown with the font: a
+        finding counts those that it concerns. A declaration concerns the codes between its ends (`no-text` only those
+        without a text), a string the codes of its entry.
         """
         text, (codes, count) = bytes_of(text), shown_codes(shown)
         found = self._listed(library.hayro_cmap_lint, Found, text, len(text), bool(to_unicode), codes, count)
         return [finding_of(it) for it in found]
 
     def write(self, codes: Optional[Iterable[Union[Buffer, Code]]] = None) -> bytes:
-        """One CMap file, which uses no other and answers each code as the map does: its text.
+        """One CMap file, which uses no other and has the answers of the map for each code: its text.
 
-        With `codes` it does so for these alone, and has nothing for others. Each is a bytes object of one to four
-        bytes, or a code of `decode`: `cmap.write(cmap.decode(string))` is for the codes of a string. Codespace ranges
-        stay.
+        With `codes` it has answers only for these. Each is a bytes object of one to four bytes, or a code of `decode`:
+        `cmap.write(cmap.decode(string))` is for the codes of a string. Codespace ranges stay.
 
-        NotWritable where no one file answers so, as where a code has no CID but a text in one layer, and a CID in a
-        lower one.
+        Raises NotWritable if no single file has these answers, for example if a code has no CID but a text in one
+        layer, and a CID in a lower one.
         """
         table = chosen(() if codes is None else codes)
         count = 0 if codes is None else len(table)
@@ -379,21 +378,24 @@ class CMap(Owned):
     def collection(
         self, files: Optional[Files] = None, bundle: Optional[Bundle] = None, name: Optional[Name] = None
     ) -> Optional["CMap"]:
-        """The map from the CIDs of the character collection to Unicode, as Adobe-Japan1-UCS2 (ISO 32000-1, 9.10.2).
+        """The map from the CIDs of the character collection to Unicode, such as Adobe-Japan1-UCS2 (ISO 32000-1,
+        9.10.2).
 
-        `name` is that of the collection, as Adobe-Japan1; by default it is that of the first layer that gives one. None
-        where no layer does, or no file has the name of the map; `files` and `bundle` are those of `open`."""
+        `name` is the collection, such as Adobe-Japan1; by default it is that of the first layer that gives one. None if
+        no layer does, or no file has the name of the map; `files` and `bundle` are those of `open`.
+        """
         named = self._collection_name(name)
         return None if named is None else opened_or_none(named + b"-UCS2", files, bundle)
 
     def unicode(
         self, files: Optional[Files] = None, bundle: Optional[Bundle] = None, name: Optional[Name] = None
     ) -> Optional["CMap"]:
-        """The map from Unicode to the CIDs of the character collection, as UniJIS-UTF16-H, or UniJIS-UTF16-V where the
-        file gives vertical writing. Another handle of this map, if the file's own name begins with Uni.
+        """The map from Unicode to the CIDs of the character collection, such as UniJIS-UTF16-H, or UniJIS-UTF16-V if
+        the file gives vertical writing. Another handle of this map, if the file's own name begins with Uni.
 
-        None where the collection has none: only Japan1, GB1, CNS1, Korea1, KR and Japan2 of Adobe have one. The
-        parameters are those of `collection`."""
+        None if the collection has none: only Japan1, GB1, CNS1, Korea1, KR and Japan2 of Adobe have one. The parameters
+        are those of `collection`.
+        """
         it = self.metadata
         if it.name is not None and it.name.startswith(b"Uni"):
             return self.share()
@@ -411,12 +413,12 @@ class CMap(Owned):
 
     @property
     def metadata(self) -> Metadata:
-        """What the file says of itself: that of layer 0."""
+        """The metadata of the file, which is layer 0."""
         return self._metadata(0)
 
     @property
     def effective_writing_mode(self) -> WritingMode:
-        """The writing mode of a font's strings: that of the first layer which gives one, else horizontal."""
+        """The writing mode of a font's strings: that of the first layer that gives one, otherwise horizontal."""
         return self._first_writing_mode() or WritingMode.HORIZONTAL
 
     def __repr__(self) -> str:
@@ -426,21 +428,21 @@ class CMap(Owned):
 
     @property
     def layers(self) -> List[Layer]:
-        """The layers, 1 to 16: the file's own, then that of the file that it is based on, and so on."""
+        """The layers, 1 to 16: the file itself, then the file that it is based on, and so on."""
         count = self._ask(library.hayro_cmap_layers)
         return [Layer(self, index) for index in range(count)]
 
     def texts(self, codespaces: Optional[Iterable[Codespace]] = None) -> List[TextRun]:
         """The texts of all codes that have one, over all layers: what `text` gives, as runs in the order of the codes.
 
-        No two runs have a code in common. A text belongs to the number of a code; how many bytes the code has, say
-        `codespaces`, by default all codespace ranges of the map: as many as in the shortest range that has it, else
-        the fewest that write it, and no fewer than the shortest codes have.
+        No two runs have a code in common. A text belongs to the number of a code; `codespaces`, by default all
+        codespace ranges of the map, give the number of bytes: that of the shortest range that contains the code,
+        otherwise the fewest bytes in which it fits, but at least as many as the shortest codes have.
         """
         return list(self._text_runs(codespaces))
 
     def items(self, codespaces: Optional[Iterable[Codespace]] = None) -> Iterator[Tuple[bytes, str]]:
-        """Each code that has a text: its bytes, by `texts` of these codespace ranges, and the text. So
+        """Each code that has a text: its bytes, by `texts` of these codespace ranges, and the text.
         `dict(cmap.items())` has all texts of a map."""
         return (
             (code.to_bytes(run.byte_len, "big"), text_at(run.text, code - run.first))
@@ -539,7 +541,7 @@ def chosen(codes):
 
 
 class Salvaged(NamedTuple):
-    """What is read of a file past its faults."""
+    """What is read from a file past its faults."""
 
     cmap: CMap
     #: Those of one file are in the order of their offsets, before those of the files that it uses.

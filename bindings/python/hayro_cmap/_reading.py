@@ -198,8 +198,6 @@ def uses(data: Buffer, bundle: Optional[Bundle] = None) -> List[bytes]:
 
 def gathered(files: Optional[Mapping]) -> Dict[bytes, bytes]:
     """All files of a mapping; none without one. TypeError for what is no mapping."""
-    if not hasattr(files, "items") and files is not None:
-        raise TypeError(f"files are a mapping from names or a callable, and not a {type(files).__name__}")
     found: Dict[bytes, bytes] = {}
     if files is not None and not hasattr(files, "items"):
         raise TypeError(f"files are a mapping from names or a callable, and not {type(files).__name__}")

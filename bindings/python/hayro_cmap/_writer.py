@@ -20,18 +20,18 @@ ROOM, ROOM_EACH = 1024, 32
 
 
 class CMapWriter:
-    """Makes a CMap file of declarations.
+    """Makes a CMap file from declarations.
 
         writer = CMapWriter("Sample-H", collection=("Adobe", "Japan1", 6), writing_mode=WritingMode.HORIZONTAL)
         writer.codespace(b"\\x00", b"\\x80")
         writer.cid(b"\\x20", b"\\x7e", 1)
         data = writer.write()
 
-    A declaration is for the codes from a first to a last one. A code is a bytes object of one to four bytes, or the
-    number that they write, which then are `code_len` bytes. Where several declarations of a kind contain a code, the
-    last one decides. ValueError where the two codes have unequal lengths, or the last one comes before the first.
+    A declaration is for the codes from a first to a last one. A code is a bytes object of one to four bytes, or its
+    number, for codes of `code_len` bytes. If several declarations of a kind contain a code, the last one decides.
+    Raises ValueError if the two codes have unequal lengths, or the last one precedes the first.
 
-    The name, the registry and the ordering are bytes, or a str, which stands for its UTF-8. What is None isn't said.
+    The name, the registry and the ordering are bytes, or a str, which stands for its UTF-8. What is None isn't written.
     """
 
     def __init__(
@@ -64,7 +64,7 @@ class CMapWriter:
     def text(self, first: CodeOf, last: CodeOf, text: str) -> None:
         """Texts: the first code has this one, whose last unit of UTF-16 counts on from code to code.
 
-        ValueError where it is empty, has a surrogate that stands alone, or counts on to units that are no text.
+        Raises ValueError if it is empty, has a lone surrogate, or counts on to units that are no text.
         """
         data = str.encode(text)
         if not data:
@@ -80,7 +80,7 @@ class CMapWriter:
     def write(self) -> bytes:
         """The text of the file, in the fewest declarations that give each code the same.
 
-        NotWritable where its name has a byte that no name has, as a blank.
+        Raises NotWritable if its name has a byte that no name has, such as a blank.
         """
         table, count = (Declaration * (len(self._declarations) + 1))(*self._declarations), len(self._declarations)
         data = put(library.hayro_cmap_make, self._facts, table, count, room_len=ROOM + count * ROOM_EACH)
@@ -130,10 +130,10 @@ def to_unicode(
 
         to_unicode({1: "A", 2: "ffi"})
 
-    A code is a number, of `code_len` bytes, or a bytes object of one to four bytes. Without `codespaces`, pairs of the
-    first and the last code of a range, one range has all codes of the length. ValueError where codes have several
-    lengths and there are no `codespaces`; where a code lies in none of these; where two codes write the same number,
-    since a text belongs to that; and as CMapWriter has it.
+    A code is a number, for codes of `code_len` bytes, or a bytes object of one to four bytes. Without `codespaces`,
+    pairs of the first and the last code of a range, one range has all codes of the length. Raises ValueError if codes
+    have several lengths and there are no `codespaces`; if a code lies in none of these; if two codes have the same
+    number, since a text belongs to the number; and as CMapWriter does.
     """
     writer, codes = CMapWriter(name, collection, code_len=code_len), {}
     for code, text in texts.items():

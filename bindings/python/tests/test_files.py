@@ -100,9 +100,9 @@ class NoFiles(unittest.TestCase):
 
     def test_what_are_no_files(self):
         for call in [CMap.parse, CMap.salvage]:
-            with self.assertRaisesRegex(TypeError, "not a list"):
+            with self.assertRaisesRegex(TypeError, "not list$"):
                 call(SMALL, [SMALL])
-        with self.assertRaisesRegex(TypeError, "not a list"):
+        with self.assertRaisesRegex(TypeError, "not list$"):
             CMap.open("Small-H", [SMALL])
 
 

@@ -57,7 +57,7 @@ impl CMap {
 
     /// Reads a file, and those that it uses, past their faults: the map of what they say, and each
     /// fault, those of a file once. Of a file that [`CMap::parse`] accepts it gives the same map, and no fault; of another
-    /// one the first fault is one for which that is refused.
+    /// one the first fault is one for which that is refused, or in a text in rows one before it.
     ///
     /// ```
     /// let file = b"begincidchar <41> 5 <42> /x <43> 7 endcidchar";

@@ -29,7 +29,8 @@ module _ (tables : Option PrefixTables) (answers : List ℕ → Option (List ℕ
   -- a file for which the budget suffices isn't refused for the budget
   goes_over : (fault cause : Cause) (left : Option ℕ) → IsRefusedFor fault cause → cause ≡ OverBudget → Fails (of_file (Means tables) answers 16) bytes budget left fault → FitsBudget tables answers bytes budget → ⊥
   goes_over fault cause left (inl same) over fails (trail, only, within) = within ((subst (λ c. Fails (of_file (Means tables) answers 16) bytes budget left c) (sym same ∙ over) fails) trail only.holds)
-  goes_over fault cause left (inr (start, end, less, fault_is, cause_is)) over fails fits = absurd (cc)
+  goes_over fault cause left (inr (inl (start, end, less, fault_is, cause_is))) over fails fits = absurd (cc)
+  goes_over fault cause left (inr (inr (first, stop, less, fault_is, cause_is))) over fails fits = absurd (cc)
 
   module _ (by_name : IsByName answers) (layers : List Layer) (faults : List NamedFault) where
     abbrev EndsSo : List Reading → Opening → Type 0

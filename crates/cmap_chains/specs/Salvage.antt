@@ -126,9 +126,10 @@ list_each listed (reading ∷ readings) = list_each (list_causes listed reading.
 abbrev pub unclosed_at : ℕ → Cause
 unclosed_at offset = Malformed (record { offset = offset; reason = UnclosedString })
 
--- for this fault a file is refused, and this is the cause: the fault itself; but only the end of a text shows that a string isn't closed
+-- for this fault a file is refused, and this is the cause: the fault itself; but only the end of a text shows that a string isn't closed, and in rows a fault may come before that for which the text is refused
 abbrev pub IsRefusedFor : Cause → Cause → Type 0
 IsRefusedFor fault cause = (cause ≡ fault) ⊎ ((start : ℕ) × (end : ℕ) × (start ≤ end) × (fault ≡ unclosed_at start) × (cause ≡ unclosed_at end))
+    ⊎ ((first : Stop) × (stop : Stop) × (first.offset ≤ stop.offset) × (fault ≡ Malformed first) × (cause ≡ Malformed stop))
 
 -- the tables are those of a bundle, if there are any
 abbrev pub AreOfBundle : Option PrefixTables → Type 0

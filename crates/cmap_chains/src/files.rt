@@ -51,7 +51,8 @@ pub fn read_layers<'a, S: Source>(
         LeadsToFault (tables_given bundle.entry) (S.answers source.now) «data».now budget
         (names_seen refusal.names.items) refusal.cause)) }
 
-    // Unless the budget is passed, it is the first fault that is read past.
+    // Unless the budget is passed, it is the first fault that is read past, or in a text in rows one
+    // after it.
     ensures first { IfErr result (RefusesWith (λ refusal. refusal.cause ≢ Cause.OverBudget
         → AreOfBundle (tables_given bundle.entry)
         → IsFirstPastFaults (tables_given bundle.entry) (S.answers source.now) «data».now budget

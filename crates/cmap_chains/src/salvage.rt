@@ -42,7 +42,7 @@ pub struct SalvagedLayers<'a> {
 
 /// What the CMap file `data` says over the files that it uses, apart from their faults, and the
 /// faults. Of a file that `read_layers` accepts it is those layers, and there is no fault; of another
-/// one, the first fault is one for which it is refused.
+/// one, the first fault is one for which it is refused, or in a text in rows one before it.
 ///
 /// A file is read past its faults, which are listed once, however often it is used. A use without a
 /// file, or for which the chain has no room, is a fault too, and gives no layers. After a chain that
@@ -68,7 +68,8 @@ pub fn salvaged_layers<'a, S: Source>(
         GivesMap (tables_given bundle.entry) (S.answers source.now) «data».now budget
         found.layers (faults_seen found.faults.items)) }
 
-    // Of another one, the first fault is one for which it is refused.
+    // Of another one, the first fault is one for which it is refused, or in a text in rows one before
+    // it.
     ensures wrong { IfOk result (λ found.
         HasNoMap (tables_given bundle.entry) (S.answers source.now) «data».now
         ⊎ ExceedsBudget (tables_given bundle.entry) (S.answers source.now) «data».now budget

@@ -9,6 +9,6 @@ pub struct Source<'s, 'd> {
     pub name: CMapName<'s>,
     pub file: &'s File<'d>,
     /// The text that the file was read from, where there is one. It stands in the bundle as it is where
-    /// the binary form can't say what the file says.
+    /// the file has an obstacle.
     pub text: Option<&'s [u8]>,
 }

@@ -1,6 +1,6 @@
 -- Each fault that a piece adds stands at the piece's place, so the faults come in order.
-use Rattle.std.proofs.Common.{◌≡◌, ◌∙◌, ℕ, Bool, true, false, List, [], ◌∷◌, ◌++◌, ◌≤◌, length, refl, sym, arith}
-use Rattle.std.specs.Prelude.{◌&&◌, nat_le, Option, Some, None, Result, Ok, Err}
+use Rattle.std.proofs.Common.{◌≡◌, ◌∙◌, ℕ, Bool, true, false, List, [], ◌∷◌, ◌++◌, ◌≤◌, length, refl, sym, subst, arith}
+use Rattle.std.specs.Prelude.{◌&&◌, nat_le, Option, Some, None, Result, Ok, Err, if◌then◌else◌}
 use Rattle.cmap_tokens.specs.Pieces.{Piece, Wrong, pieces_left}
 use Rattle.cmap_tokens.specs.Tokens.{Token}
 use Rattle.cmap_tokens.specs.TokensLeft.{start_of}
@@ -9,9 +9,11 @@ use Rattle.cmap_values.specs.Faults.{Ascend}
 use Rattle.cmap_values.specs.declared.fault.Reason.{Reason}
 use Rattle.cmap_values.specs.declared.fault.Reason.TheVariants.{BracketExpected, TextExpected}
 use Rattle.cmap_values.specs.declared.fault.Stop.{Stop}
+use Rattle.cmap_text.specs.Rows.{parts_on, rows_at, rows_of}
+use Rattle.cmap_text.specs.declared.salvage.rows.Row.{Row}
 use Rattle.cmap_text.specs.TextFiles.{Section, bf_range, use_word}
 use Rattle.cmap_text.specs.TextReading.{is_executable, key_in, opened_by, with_other}
-use Rattle.cmap_text.specs.Salvage.{Entry, Filled, Rest, Salvaged, State, Texts, at_fault, begin_item, class_of, empty_text_in, end_list, entry_fault, fault_of, fill, finished, in_brackets, in_entry, in_line, in_list, is_closer, is_nominal, item, lacks_bracket, losing, mend, new_entry, no_parts, no_text, nothing_salvaged, own_fault, pass_in_entry, pass_in_line, pass_in_list, past_texts, rest_of, salvaged, saying, take_after_texts, take_all, take_in_entry, take_in_list, take_item, take_part, take_piece, take_text, take_use, take_value, taken, text_in, value, with_fault, with_piece}
+use Rattle.cmap_text.specs.Salvage.{Entry, Filled, Rest, Salvaged, State, Texts, at_fault, begin_item, begin_line, class_of, empty_text_in, end_list, entry_fault, fault_of, fill, finished, in_brackets, in_entry, in_line, in_list, is_closer, is_nominal, is_short, is_stray, item, lacks_bracket, losing, mend, missing, new_entry, no_parts, no_text, nothing_salvaged, own_fault, pass_in_entry, pass_in_line, pass_in_list, past_texts, first_read, is_read_in_rows, read_in_rows, rest_of, salvaged, saying, take_after_texts, take_all, take_in_entry, take_in_list, take_in_row, take_item, take_part, take_piece, take_rows, take_text, take_unless_stray, take_use, take_value, taken, text_in, value, with_fault, with_piece}
 use Rattle.cmap_text.proofs.FaultsAdded.{by_bool, by_class, by_option}
 
 module _ (P : List Stop → Type 0) (at : ℕ) (add : (fs : List Stop) (fault : Stop) → fault.offset ≡ at → P fs → P (fs ++ fault ∷ [])) where
@@ -116,6 +118,29 @@ module _ (P : List Stop → Type 0) (at : ℕ) (add : (fs : List Stop) (fault : 
   piece_keeps (in_line section, old) piece here holds = line_passed old section piece here holds
   piece_keeps (in_list list, old) piece here holds = list_keeps old list piece here holds
 
+  line_keeps : (parts : ℕ) (now : State × Salvaged) (piece : Piece) → place piece ≡ at → P now.1.faults → Keeps (begin_line parts now piece)
+  line_keeps parts (item, old) piece here holds = kept holds
+  line_keeps parts (value k, old) piece here holds = kept holds
+  line_keeps parts (in_entry entry, old) piece here holds = by_bool Keeps (kept (add old.faults _ here holds)) (kept holds) (is_short parts entry piece)
+  line_keeps parts (at_fault rest, old) piece here holds = kept holds
+  line_keeps parts (in_brackets rest, old) piece here holds = kept holds
+  line_keeps parts (in_line section, old) piece here holds = kept holds
+  line_keeps parts (in_list list, old) piece here holds = kept holds
+
+  stray_keeps : (now : State × Salvaged) (piece : Piece) → place piece ≡ at → P now.1.faults → Keeps (take_unless_stray now piece)
+  stray_keeps (item, old) piece here holds = item_keeps old piece here holds
+  stray_keeps (value k, old) piece here holds = value_keeps old k piece here holds
+  stray_keeps (in_entry entry, old) piece here holds = by_bool Keeps (kept (add old.faults _ (of_piece (missing entry) piece here) holds)) (entry_keeps old entry piece here holds) (is_stray piece)
+  stray_keeps (at_fault rest, old) piece here holds = entry_passed old rest piece here holds
+  stray_keeps (in_brackets rest, old) piece here holds = list_passed old rest piece here holds
+  stray_keeps (in_line section, old) piece here holds = line_passed old section piece here holds
+  stray_keeps (in_list list, old) piece here holds = list_keeps old list piece here holds
+
+  row_keeps : (parts : ℕ) (now : State × Salvaged) (piece : Piece) → place piece ≡ at → P now.1.faults → Keeps (take_in_row parts now piece)
+  row_keeps parts now piece here holds =
+      let begun : Keeps (if piece.begins_line then begin_line parts now piece else now) = by_bool Keeps (line_keeps parts now piece here holds) (kept holds) piece.begins_line in
+      stray_keeps (if piece.begins_line then begin_line parts now piece else now) piece here begun.keeps
+
   finish_keeps : (now : State × Salvaged) → P now.1.faults → P (finished at now).faults
   finish_keeps (item, old) holds = holds
   finish_keeps (value k, old) holds = holds
@@ -139,17 +164,49 @@ pub ascend_within : (low high : ℕ) (fs : List Stop) → Ascend low fs high →
 ascend_within low high [] least = least
 ascend_within low high (f ∷ fs) (least, more) = omega (arith, least, ascend_within f.offset high fs more)
 
-module _ (len : ℕ) where
-  all_ascend : (low : ℕ) (now : State × Salvaged) (pieces : List Piece) → ArePlaced len low pieces → Ascend 0 now.1.faults low → Ascend 0 (take_all now pieces).1.faults len
+-- a fault of this piece is at its place
+pub of_place : (reason : Reason) (piece : Piece) → (fault_of reason piece).offset ≡ place piece
+of_place reason piece = by piece.token refl
+  where
+    by : (r : Result Token Wrong) → piece.token ≡ r → (fault_of reason piece).offset ≡ place piece
+    by (Ok t) is = rw (is, fault_of, place) refl
+    by (Err w) is = rw (is, fault_of, place) refl
+
+-- the first faults are those of the piece
+pub first_places : (now : State × Salvaged) (piece : Piece) → now.1.faults ≡ [] → Ascend (place piece) (take_piece now piece).1.faults (place piece)
+first_places now piece none =
+    let at = place piece in
+    let least : Ascend at [] at = omega arith in
+    (piece_keeps (λ fs. Ascend at fs at) at (ascend_more at at) now piece refl (subst (λ fs. Ascend at fs at) (sym none) least)).keeps
+
+module _ (len least : ℕ) where
+  all_ascend : (low : ℕ) (now : State × Salvaged) (pieces : List Piece) → ArePlaced len low pieces → Ascend least now.1.faults low → Ascend least (take_all now pieces).1.faults len
   unfolding take_all
-  all_ascend low now [] least ascend = ascend_on 0 low len now.1.faults least ascend
-  all_ascend low now (piece ∷ pieces) (least, places) ascend =
+  all_ascend low now [] last ascend = ascend_on least low len now.1.faults last ascend
+  all_ascend low now (piece ∷ pieces) (before, places) ascend =
       let at = place piece in
-      all_ascend at (take_piece now piece) pieces places (piece_keeps (λ fs. Ascend 0 fs at) at (ascend_more 0 at) now piece refl (ascend_on 0 low at now.1.faults least ascend)).keeps
+      all_ascend at (take_piece now piece) pieces places (piece_keeps (λ fs. Ascend least fs at) at (ascend_more least at) now piece refl (ascend_on least low at now.1.faults before ascend)).keeps
+
+  pub rest_ascends : (low : ℕ) (now : State × Salvaged) (pieces : List Piece) → ArePlaced len low pieces → Ascend least now.1.faults low → Ascend least (finished len (take_all now pieces)).faults len
+  rest_ascends low now pieces places ascend = finish_keeps (λ fs. Ascend least fs len) len (ascend_more least len) (take_all now pieces) (all_ascend low now pieces places ascend)
+
+  rows_ascend : (low : ℕ) (rows : List Row) (now : State × Salvaged) (pieces : List Piece) → ArePlaced len low pieces → Ascend least now.1.faults low → Ascend least (take_rows rows now pieces).1.faults len
+  unfolding take_rows
+  rows_ascend low rows now [] last ascend = ascend_on least low len now.1.faults last ascend
+  rows_ascend low rows now (piece ∷ pieces) (before, places) ascend =
+      let at = place piece in
+      let here = rows_at rows piece in
+      rows_ascend at here (take_in_row (parts_on here) now piece) pieces places (row_keeps (λ fs. Ascend least fs at) at (ascend_more least at) (parts_on here) now piece refl (ascend_on least low at now.1.faults before ascend)).keeps
 
 -- of a text
-pub salvaged_ascends : (text : List ℕ) → Ascend 0 (salvaged text).faults (length text)
-salvaged_ascends text =
+pub first_ascends : (text : List ℕ) → Ascend 0 (first_read text).faults (length text)
+first_ascends text = rest_ascends (length text) 0 0 (item, nothing_salvaged) (pieces_left (start_of text)) (places_ascend text) (omega arith)
+
+pub read_ascends : (rows : List Row) (text : List ℕ) → Ascend 0 (read_in_rows rows text).faults (length text)
+read_ascends rows text =
     let len = length text in
-    let now = take_all (item, nothing_salvaged) (pieces_left (start_of text)) in
-    finish_keeps (λ fs. Ascend 0 fs len) len (ascend_more 0 len) now (all_ascend len 0 (item, nothing_salvaged) (pieces_left (start_of text)) (places_ascend text) (omega arith))
+    let now = take_rows rows (item, nothing_salvaged) (pieces_left (start_of text)) in
+    finish_keeps (λ fs. Ascend 0 fs len) len (ascend_more 0 len) now (rows_ascend len 0 0 rows (item, nothing_salvaged) (pieces_left (start_of text)) (places_ascend text) (omega arith))
+
+pub salvaged_ascends : (text : List ℕ) → Ascend 0 (salvaged text).faults (length text)
+salvaged_ascends text = by_bool (λ (found : Salvaged). Ascend 0 found.faults (length text)) (read_ascends (rows_of text) text) (first_ascends text) (is_read_in_rows text)

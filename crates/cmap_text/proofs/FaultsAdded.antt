@@ -5,9 +5,11 @@ use Rattle.cmap_tokens.specs.Pieces.{Piece}
 use Rattle.cmap_tokens.specs.Tokens.{Token}
 use Rattle.cmap_values.specs.declared.fault.Reason.TheVariants.{BracketExpected}
 use Rattle.cmap_values.specs.declared.fault.Stop.{Stop}
+use Rattle.cmap_text.specs.Rows.{parts_on, rows_at}
+use Rattle.cmap_text.specs.declared.salvage.rows.Row.{Row}
 use Rattle.cmap_text.specs.TextFiles.{Section, bf_range, use_word}
 use Rattle.cmap_text.specs.TextReading.{is_executable, key_in, opened_by, with_other}
-use Rattle.cmap_text.specs.Salvage.{Class, Entry, Rest, Salvaged, State, Texts, Filled, alone, at_fault, begin_item, class_of, close_bracket, empty_text_in, end_list, entry_fault, fault_of, fill, finished, in_brackets, in_entry, in_line, in_list, is_closer, is_nominal, item, known, lacks_bracket, losing, mend, new_entry, no_parts, no_text, open_bracket, own_fault, part, pass_in_entry, pass_in_line, pass_in_list, passed_over, past_texts, rest_of, saying, take_after_texts, take_all, take_in_entry, take_in_list, take_item, take_part, take_piece, take_text, take_use, take_value, taken, text_in, value, with_fault, with_piece}
+use Rattle.cmap_text.specs.Salvage.{Class, Entry, Rest, Salvaged, State, Texts, Filled, alone, at_fault, begin_item, class_of, close_bracket, empty_text_in, end_list, begin_line, entry_fault, fault_of, fill, finished, in_brackets, in_entry, in_line, in_list, is_closer, is_nominal, is_short, is_stray, item, known, lacks_bracket, losing, mend, missing, new_entry, no_parts, no_text, open_bracket, own_fault, part, pass_in_entry, pass_in_line, pass_in_list, passed_over, past_texts, rest_of, saying, take_after_texts, take_all, take_in_entry, take_in_list, take_in_row, take_item, take_part, take_piece, take_rows, take_text, take_unless_stray, take_use, take_value, taken, text_in, value, with_fault, with_piece}
 
 -- ---- some more faults
 pub record Adds (old new : Salvaged) : Type 0 where
@@ -154,3 +156,37 @@ finish_adds len (in_list list, old) = adds_fault old _
 -- from here to the end
 pub rest_adds : (len : ℕ) (now : State × Salvaged) (pieces : List Piece) → Adds now.1 (finished len (take_all now pieces))
 rest_adds len now pieces = adds_on (all_add now pieces).adds (finish_adds len (take_all now pieces))
+
+-- ---- in rows
+line_adds : (parts : ℕ) (now : State × Salvaged) (piece : Piece) → AddsTo now.1 (begin_line parts now piece)
+line_adds parts (item, old) piece = none refl
+line_adds parts (value k, old) piece = none refl
+line_adds parts (in_entry entry, old) piece = by_bool (AddsTo old) (to (adds_fault old _)) (none refl) (is_short parts entry piece)
+line_adds parts (at_fault rest, old) piece = none refl
+line_adds parts (in_brackets rest, old) piece = none refl
+line_adds parts (in_line section, old) piece = none refl
+line_adds parts (in_list list, old) piece = none refl
+
+pub stray_adds : (now : State × Salvaged) (piece : Piece) → AddsTo now.1 (take_unless_stray now piece)
+stray_adds (item, old) piece = item_adds old piece
+stray_adds (value k, old) piece = value_adds old k piece
+stray_adds (in_entry entry, old) piece = by_bool (AddsTo old) (to (adds_fault old _)) (entry_adds old entry piece) (is_stray piece)
+stray_adds (at_fault rest, old) piece = entry_passed old rest piece
+stray_adds (in_brackets rest, old) piece = list_passed old rest piece
+stray_adds (in_line section, old) piece = line_passed old section piece
+stray_adds (in_list list, old) piece = list_adds old list piece
+
+row_adds : (parts : ℕ) (now : State × Salvaged) (piece : Piece) → AddsTo now.1 (take_in_row parts now piece)
+row_adds parts now piece =
+    let begun : AddsTo now.1 (if piece.begins_line then begin_line parts now piece else now) = by_bool (AddsTo now.1) (line_adds parts now piece) (none refl) piece.begins_line in
+    after begun.adds (stray_adds (if piece.begins_line then begin_line parts now piece else now) piece)
+
+rows_add : (rows : List Row) (now : State × Salvaged) (pieces : List Piece) → AddsTo now.1 (take_rows rows now pieces)
+unfolding take_rows
+rows_add rows now [] = none refl
+rows_add rows now (piece ∷ pieces) =
+    let here = rows_at rows piece in
+    after (row_adds (parts_on here) now piece).adds (rows_add here (take_in_row (parts_on here) now piece) pieces)
+
+pub rows_rest_add : (len : ℕ) (rows : List Row) (now : State × Salvaged) (pieces : List Piece) → Adds now.1 (finished len (take_rows rows now pieces))
+rows_rest_add len rows now pieces = adds_on (rows_add rows now pieces).adds (finish_adds len (take_rows rows now pieces))

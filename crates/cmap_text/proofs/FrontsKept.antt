@@ -1,18 +1,18 @@
 -- What a text says before its first fault is a front of what is read past its faults.
 use Rattle.std.proofs.Common.{◌≡◌, ◌∙◌, ℕ, false, List, [], ◌∷◌, ◌++◌, length, ap, refl, sym, subst, inl, inr}
-use Rattle.std.specs.Prelude.{◌⊎◌, Some, None, flat_map, option_map}
+use Rattle.std.specs.Prelude.{◌⊎◌, Some, None, flat_map, map, option_map}
 use Rattle.std.proofs.lemmas.Option.{same_Some}
 use Rattle.cmap_tokens.specs.Pieces.{Piece, pieces_left}
 use Rattle.cmap_tokens.specs.Tokens.{Token}
 use Rattle.cmap_tokens.specs.TokensLeft.{Left, start_of, tokens_of}
 use Rattle.cmap_tokens.proofs.PiecesTokens.{Cut, pieces_cut}
 use Rattle.cmap_values.proofs.ListsMade.{added_more, append_lists-none}
-use Rattle.cmap_values.specs.Files.{Declaration}
+use Rattle.cmap_values.specs.Files.{Declaration, lists_of}
 use Rattle.cmap_values.specs.ListsAppended.{no_lists}
-use Rattle.cmap_text.specs.TextFiles.{Item, Section, closer, key, opener, declared_by, IsItem}
+use Rattle.cmap_text.specs.TextFiles.{Item, Section, closer, key, opener, declared_by, IsItem, names_used}
 use Rattle.cmap_text.specs.TextReading.{Said, adding, code_fault, code_or_closer, entry_after, is_executable, item_said, nothing_said, opened_by, with_key, with_other}
 use Rattle.cmap_text.specs.TokenParsers.{after, head}
-use Rattle.cmap_text.specs.Salvage.{AreFirstEntries, BeginWithItems, KeepsFronts, OpenSection, Salvaged, begin_item, having_lists, in_entry, item, new_entry, nothing_salvaged, salvaged, saying, take_all}
+use Rattle.cmap_text.specs.Salvage.{AreFirstEntries, BeginWithItems, KeepsFronts, OpenSection, Salvaged, begin_item, having_lists, in_entry, item, new_entry, first_read, nothing_salvaged, salvaged, saying, take_all}
 use Rattle.cmap_text.proofs.EntriesRead.{entry_found}
 use Rattle.cmap_text.proofs.ItemsRead.{no_item, one_found, opened_by-own}
 use Rattle.cmap_text.proofs.ItemsSaid.{all_says, said_after, says, says_all}
@@ -111,14 +111,18 @@ module _ (len : ℕ) where
               let (c, rest_pieces, cut_rest, same) = subst (λ f. Sim len f (begin_item old p.token p.end) more (item_ends len old)) found.is (item_sim len old none p others left more cut_more p.token) in
               rw is (subst (BeginsSo (adding said.lists (flat_map (λ ds. ds) each)) said.uses) (sym same) (later found.next rest_pieces cut_rest (subst (λ ts. BeginWithItems ts items each) (sym found.whole) are)))
 
--- of a text
-pub fronts_kept : (text : List ℕ) → KeepsFronts text (salvaged text).said.lists (salvaged text).said.uses
+-- of a text, in its first reading
+fronts_first : (text : List ℕ) (items : List Item) (each : List (List Declaration)) (names : List (List ℕ)) → BeginWithItems (map (λ p. p.token) (tokens_of (start_of text)).tokens) items each → names_used None items ≡ Some names
+    → BeginsSo (lists_of (flat_map declared_by items ++ flat_map (λ ds. ds) each)) names (first_read text)
 unfolding said_after
-fronts_kept text items each names begin used =
+fronts_first text items each names begin used =
     let said = said_after nothing_said items names in
     let sayings : says_all nothing_said items ≡ Some said = all_says items nothing_said.values nothing_said.lists nothing_said.uses None ∙ ap (option_map (said_after nothing_said items)) used in
     let all = items_kept (length text) items each nothing_salvaged refl (tokens_of (start_of text)) (pieces_left (start_of text)) said (pieces_cut text) begin sayings in
     let declared = flat_map declared_by items in
     let entries = flat_map (λ ds. ds) each in
     let same : adding (adding no_lists declared) entries ≡ adding no_lists (declared ++ entries) = added_more no_lists (adding no_lists declared) (adding (adding no_lists declared) entries) declared entries refl refl in
-    subst (λ l. BeginsSo l names (salvaged text)) same all
+    subst (λ l. BeginsSo l names (first_read text)) same all
+
+pub fronts_kept : (text : List ℕ) → KeepsFronts text (salvaged text).said.lists (salvaged text).said.uses
+fronts_kept text not_in_rows = rw not_in_rows (fronts_first text)

@@ -16,6 +16,7 @@ mod FaultsAdded
 mod FaultPlaces
 mod ListsKept
 mod WholeRead
+mod RowsRead
 mod FrontsKept
 pub mod TextFaults
 mod Declared

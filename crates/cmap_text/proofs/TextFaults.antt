@@ -1,6 +1,6 @@
 -- What the faults of a text say of it: without one it is a file; else the first is the one for which it is refused.
-use Rattle.std.proofs.Common.{◌≡◌, ◌≤◌, ◌∙◌, ◌∷◌, ℕ, List, [], length, refl, sym, ap, subst, arith}
-use Rattle.std.specs.Prelude.{Ok, Err}
+use Rattle.std.proofs.Common.{◌≡◌, ◌≤◌, ◌∙◌, ◌∷◌, ℕ, Bool, true, false, List, [], length, refl, sym, ap, subst, arith, inl, inr}
+use Rattle.std.specs.Prelude.{◌⊎◌, Ok, Err}
 use Rattle.cmap_values.specs.Faults.{Ascend}
 use Rattle.cmap_values.specs.Files.{File, FileMetadata}
 use Rattle.cmap_values.specs.Only.{HoldsOfNone, IsOnly}
@@ -9,12 +9,14 @@ use Rattle.cmap_values.specs.declared.fault.Reason.{Reason}
 use Rattle.cmap_values.specs.declared.fault.Reason.TheVariants.{UnclosedString}
 use Rattle.cmap_values.specs.declared.fault.Stop.{Stop}
 use Rattle.cmap_tokens.proofs.Fronts.{has_tokens}
-use Rattle.cmap_tokens.specs.TokensLeft.{start_of, tokens_of}
-use Rattle.cmap_text.specs.Salvage.{BeginsRefused, SalvagesFile, refusal_of, refused_at, salvaged}
+use Rattle.cmap_tokens.specs.TokensLeft.{Left, start_of, tokens_of}
+use Rattle.cmap_text.specs.Rows.{rows_of}
+use Rattle.cmap_text.specs.Salvage.{BeginsRefused, SalvagesFile, Salvaged, first_read, is_read_in_rows, read_in_rows, refusal_of, refused_at, salvaged}
 use Rattle.cmap_text.specs.TextFiles.{IsMetadata, IsTextFile}
 use Rattle.cmap_text.specs.TextReading.{Said, StopsText, all_said, nothing_said}
 use Rattle.cmap_text.specs.TokenParsers.{Found, Refused}
-use Rattle.cmap_text.proofs.FaultPlaces.{ascend_within, salvaged_ascends}
+use Rattle.cmap_text.proofs.FaultPlaces.{ascend_within, first_ascends, salvaged_ascends}
+use Rattle.cmap_text.proofs.RowsRead.{NoLater, read_no_later}
 use Rattle.cmap_text.proofs.Stops.{decided_text, refused_text}
 use Rattle.cmap_text.proofs.TextRead.{said_file, text_file}
 use Rattle.cmap_text.proofs.WholeRead.{Stops, whole_of}
@@ -22,18 +24,54 @@ use Rattle.cmap_text.proofs.WholeRead.{Stops, whole_of}
 refused_within : (len : ℕ) (reason : Reason) (offset : ℕ) → offset ≤ len → refused_at len reason offset ≤ len
 refused_within len reason offset within = elim reason as (λ r. refused_at len r offset ≤ len) [ UnclosedString ↦ omega arith | _ ↦ within ]
 
+-- the faults of a text that is refused: the first one, and the one for which it is refused, which isn't before it
+record Refusal (text : List ℕ) (faults : List Stop) : Type 0 where
+  fault : Stop
+  more : List Stop
+  stop : Stop
+  is : faults ≡ fault ∷ more
+  stops : StopsText text (refusal_of (length text) stop)
+  inside : stop.offset ≤ length text
+  sooner : (fault ≡ stop) ⊎ ((is_read_in_rows text ≡ true) × (fault.offset ≤ stop.offset))
+
 module _ (text : List ℕ) where
-  abbrev Reads : Found Said → Type 0
+  abbrev pub Reads : Found Said → Type 0
   Reads found = all_said nothing_said (tokens_of (start_of text)) ≡ found
 
   -- ---- what stops the one reading is the first fault of the other
-  stops_refused : (e : Refused) → Reads (Err e) → Stops (length text) e (salvaged text) → BeginsRefused text (salvaged text).faults
-  stops_refused e none stops =
-      let fault = stops.fault in
-      let ascend : Ascend 0 (fault ∷ stops.more) (length text) = subst (λ fs. Ascend 0 fs (length text)) stops.is (salvaged_ascends text) in
-      let inside = ascend_within fault.offset (length text) stops.more ascend.1 in
-      let within : refused_at (length text) fault.reason fault.offset ≤ length text = refused_within (length text) fault.reason fault.offset inside in
-      (fault, stops.more, stops.is, (e, none, omega (arith, within, stops.of.offset), stops.of.reason))
+  refusal_from : (e : Refused) → Reads (Err e) → Stops (length text) e (first_read text) → Refusal text (salvaged text).faults
+  refusal_from e none stops = by (is_read_in_rows text) refl
+    where
+      stop : Stop
+      stop = stops.fault
+
+      ascend : Ascend 0 (stop ∷ stops.more) (length text)
+      ascend = subst (λ fs. Ascend 0 fs (length text)) stops.is (first_ascends text)
+
+      within_text : stop.offset ≤ length text
+      within_text = ascend_within stop.offset (length text) stops.more ascend.1
+
+      within : refused_at (length text) stop.reason stop.offset ≤ length text
+      within = refused_within (length text) stop.reason stop.offset within_text
+
+      refused : StopsText text (refusal_of (length text) stop)
+      refused = (e, none, omega (arith, within, stops.of.offset), stops.of.reason)
+
+      by : (rows : Bool) → is_read_in_rows text ≡ rows → Refusal text (salvaged text).faults
+      by false is = record { fault = stop; more = stops.more; stop = stop; is = rw is stops.is; stops = refused; inside = within_text; sooner = inl refl }
+      by true is =
+          let found : NoLater (stop ∷ stops.more) (read_in_rows (rows_of text) text).faults = subst (λ fs. NoLater fs (read_in_rows (rows_of text) text).faults) stops.is (read_no_later (rows_of text) text) in
+          record { fault = found.0; more = found.1; stop = stop; is = rw is found.2; stops = refused; inside = within_text; sooner = inr (is, found.3) }
+
+  refused : (e : Refused) → Reads (Err e) → Refusal text (salvaged text).faults
+  refused e none = refusal_from e none (whole_of text (Err e) none)
+
+  -- a text without a fault is read once
+  read_once : (said : Said) → first_read text ≡ record { said = said; faults = [] } → salvaged text ≡ record { said = said; faults = [] }
+  read_once said whole = rw (ap (λ s. s.faults) whole) whole
+
+  whole : (p : Said × Left) → Reads (Ok p) → salvaged text ≡ record { said = p.0; faults = [] }
+  whole p is = read_once p.0 (whole_of text (Ok p) is)
 
   module _ (file : File) where
     -- without a fault it is a file
@@ -42,31 +80,34 @@ module _ (text : List ℕ) where
       where
         by : (r : Found Said) → Reads r → IsTextFile text file
         by (Ok p) is =
-            let whole : salvaged text ≡ record { said = p.0; faults = [] } = whole_of text (Ok p) is in
-            let values : IsMetadata p.0.values file.metadata = subst (λ s. IsMetadata s.said.values file.metadata) whole metadata_is in
+            let values : IsMetadata p.0.values file.metadata = subst (λ s. IsMetadata s.said.values file.metadata) (whole p is) metadata_is in
             let read = said_file text (tokens_of (start_of text)) (has_tokens text) p.0 p.1 file.metadata is values in
-            let same_lists : file.lists ≡ p.0.lists = lists ∙ ap (λ s. s.said.lists) whole in
-            let same_uses : file.uses ≡ p.0.uses = uses ∙ ap (λ s. s.said.uses) whole in
+            let same_lists : file.lists ≡ p.0.lists = lists ∙ ap (λ s. s.said.lists) (whole p is) in
+            let same_uses : file.uses ≡ p.0.uses = uses ∙ ap (λ s. s.said.uses) (whole p is) in
             let file_is : file ≡ record { metadata = file.metadata; lists = file.lists; uses = file.uses } = refl in
             subst (IsTextFile text) (sym (file_is ∙ rw (same_lists, same_uses) refl)) read
-        by (Err e) is = let stops : Stops (length text) e (salvaged text) = whole_of text (Err e) is in let wrong = none ∙ stops.is in absurd (cc)
+        by (Err e) is = let wrong = none ∙ (refused e is).is in absurd (cc)
 
-    -- the first fault is the one for which it is refused
-    pub first_fault : (stop : Stop) (more : List Stop) → SalvagesFile text file (stop ∷ more) → let refusal = refusal_of (length text) stop in HoldsOfNone (IsTextFile text) × (refusal.offset ≤ length text) × DecidedBy IsTextFile text refusal × StopsText text refusal × (stop.offset ≤ length text)
-    first_fault stop more (metadata_is, lists, uses, faults) = by (all_said nothing_said (tokens_of (start_of text))) refl
+    -- the first fault is the one for which it is refused, or in rows one before it
+    pub first_fault : (fault : Stop) (more : List Stop) → SalvagesFile text file (fault ∷ more) → (stop : Stop) × (let refusal = refusal_of (length text) stop in HoldsOfNone (IsTextFile text) × (refusal.offset ≤ length text) × DecidedBy IsTextFile text refusal × StopsText text refusal)
+        × (stop.offset ≤ length text) × ((fault ≡ stop) ⊎ (fault.offset ≤ stop.offset))
+    first_fault fault more (metadata_is, lists, uses, faults) = by (all_said nothing_said (tokens_of (start_of text))) refl
       where
         Goal : Type 0
-        Goal = let refusal = refusal_of (length text) stop in HoldsOfNone (IsTextFile text) × (refusal.offset ≤ length text) × DecidedBy IsTextFile text refusal × StopsText text refusal × (stop.offset ≤ length text)
+        Goal = (stop : Stop) × (let refusal = refusal_of (length text) stop in HoldsOfNone (IsTextFile text) × (refusal.offset ≤ length text) × DecidedBy IsTextFile text refusal × StopsText text refusal) × (stop.offset ≤ length text) × ((fault ≡ stop) ⊎ (fault.offset ≤ stop.offset))
 
         by : (r : Found Said) → Reads r → Goal
-        by (Ok p) is = let whole : salvaged text ≡ record { said = p.0; faults = [] } = whole_of text (Ok p) is in let wrong = faults ∙ ap (λ s. s.faults) whole in absurd (cc)
+        by (Ok p) is = let wrong = faults ∙ ap (λ s. s.faults) (whole p is) in absurd (cc)
         by (Err e) is =
-            let begins = stops_refused e is (whole_of text (Err e) is) in
-            let same : begins.0 ≡ stop = let heads = faults ∙ begins.2 in cc in
-            let stops : StopsText text (refusal_of (length text) stop) = subst (λ s. StopsText text (refusal_of (length text) s)) same begins.3 in
-            let (none, within) = refused_text text (refusal_of (length text) stop) stops in
-            let ascend : Ascend 0 (stop ∷ more) (length text) = subst (λ fs. Ascend 0 fs (length text)) (sym faults) (salvaged_ascends text) in
-            (none, within, decided_text text (refusal_of (length text) stop) stops, stops, ascend_within stop.offset (length text) more ascend.1)
+            let begins = refused e is in
+            let same : begins.fault ≡ fault = let heads = faults ∙ begins.is in cc in
+            let stop = begins.stop in
+            let (none, within) = refused_text text (refusal_of (length text) stop) begins.stops in
+            let sooner : (fault ≡ stop) ⊎ (fault.offset ≤ stop.offset) = elim begins.sooner [
+              | inl first ↦ inl (sym same ∙ first)
+              | inr (in_rows, before) ↦ inr (subst (λ (f : Stop). f.offset ≤ stop.offset) same before)
+            ] in
+            (stop, (none, within, decided_text text (refusal_of (length text) stop) begins.stops, begins.stops), begins.inside, sooner)
 
   -- ---- what is given
   -- of a file, just that
@@ -76,22 +117,21 @@ module _ (text : List ℕ) where
     where
       by : (r : Found Said) → Reads r → (record { metadata = metadata; lists = (salvaged text).said.lists; uses = (salvaged text).said.uses } ≡ file) × ((salvaged text).faults ≡ [])
       by (Ok p) is =
-          let whole : salvaged text ≡ record { said = p.0; faults = [] } = whole_of text (Ok p) is in
-          let values : IsOnly (IsMetadata p.0.values) metadata = subst (λ s. IsOnly (IsMetadata s.said.values) metadata) whole only in
+          let values : IsOnly (IsMetadata p.0.values) metadata = subst (λ s. IsOnly (IsMetadata s.said.values) metadata) (whole p is) only in
           let read = text_file text (tokens_of (start_of text)) (has_tokens text) p.0 p.1 metadata is values in
-          rw whole (sym (read.alone file is_file), refl)
+          let Gives : Salvaged → Type 0 = λ s. (record { metadata = metadata; lists = s.said.lists; uses = s.said.uses } ≡ file) × (s.faults ≡ []) in
+          subst Gives (sym (whole p is)) (sym (read.alone file is_file), refl)
       by (Err e) is =
-          let begins = stops_refused e is (whole_of text (Err e) is) in
-          absurd ((refused_text text (refusal_of (length text) begins.0) begins.3).0 file is_file)
+          let begins = refused e is in
+          absurd ((refused_text text (refusal_of (length text) begins.stop) begins.stops).0 file is_file)
 
-  -- of another text, first the fault for which it is refused
+  -- of another text, first the fault for which it is refused, or in rows one before it
   pub salvage_first : (metadata : FileMetadata) → IsOnly (IsMetadata (salvaged text).said.values) metadata → HoldsOfNone (IsTextFile text) → BeginsRefused text (salvaged text).faults
   salvage_first metadata only no_file = by (all_said nothing_said (tokens_of (start_of text))) refl
     where
       by : (r : Found Said) → Reads r → BeginsRefused text (salvaged text).faults
       by (Ok p) is =
-          let whole : salvaged text ≡ record { said = p.0; faults = [] } = whole_of text (Ok p) is in
-          let values : IsOnly (IsMetadata p.0.values) metadata = subst (λ s. IsOnly (IsMetadata s.said.values) metadata) whole only in
+          let values : IsOnly (IsMetadata p.0.values) metadata = subst (λ s. IsOnly (IsMetadata s.said.values) metadata) (whole p is) only in
           let read = text_file text (tokens_of (start_of text)) (has_tokens text) p.0 p.1 metadata is values in
           absurd (no_file _ read.holds)
-      by (Err e) is = stops_refused e is (whole_of text (Err e) is)
+      by (Err e) is = let begins = refused e is in (begins.fault, begins.more, begins.stop, begins.is, begins.stops, begins.sooner)

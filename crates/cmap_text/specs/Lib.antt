@@ -3,6 +3,8 @@ pub mod TextReading
 pub mod TextSeen
 pub mod EntriesSeen
 pub mod TokenParsers
+pub mod Classes
+pub mod Rows
 pub mod Salvage
 pub mod SalvageSeen
 pub mod Standing

@@ -1,5 +1,5 @@
 -- What a text says apart from its faults, piece by piece.
-use Rattle.std.specs.Prelude.{◌≡◌, ℕ, ◌+◌, ◌-◌, ◌&&◌, ◌||◌, ◌==◌, not, nat_le, nat_lt, Bool, true, false, List, [], ◌∷◌, ◌++◌, ◌⊎◌, flat_map, length, take, codes, bytes_eq, map, Option, Some, None, option_and_then, option_map, Result, Ok, Err, if◌then◌else◌}
+use Rattle.std.specs.Prelude.{◌≡◌, ℕ, ◌+◌, ◌-◌, ◌≤◌, ◌&&◌, ◌||◌, ◌==◌, not, nat_le, nat_lt, Bool, true, false, List, [], ◌∷◌, ◌++◌, ◌⊎◌, flat_map, length, take, codes, bytes_eq, map, Option, Some, None, option_and_then, option_map, Result, Ok, Err, if◌then◌else◌}
 use Rattle.std.specs.List.{list_any}
 use Rattle.cmap_tokens.specs.Malformed as malformed
 use Rattle.cmap_tokens.specs.Malformed.{Malformed}
@@ -9,60 +9,14 @@ use Rattle.cmap_tokens.specs.TokensLeft.{start_of, tokens_of}
 use Rattle.cmap_values.specs.Files.{Declaration, File, Lists, lists_of}
 use Rattle.cmap_values.specs.ListsAppended.{append_lists}
 use Rattle.cmap_values.specs.declared.fault.Reason.{Reason}
-use Rattle.cmap_values.specs.declared.fault.Reason.TheVariants.{BracketExpected, CidExpected, EndWithinSection, TextExpected, UnclosedString, UnequalLengths, UseWithoutName}
+use Rattle.cmap_values.specs.declared.fault.Reason.TheVariants.{BracketExpected, CidExpected, CodeExpected, EndWithinSection, TextExpected, UnclosedString, UnequalLengths, UseWithoutName}
 use Rattle.cmap_values.specs.declared.fault.Stop.{Stop}
+pub use Rattle.cmap_text.specs.Classes.{Class, alone, class_of, class_of_malformed, class_of_name, class_of_token, close_bracket, is_name, is_name_piece, is_string, is_string_piece, known, known_words, lone_brackets, open_bracket, part, places_of}
+pub use Rattle.cmap_text.specs.Rows.{are_rows, parts_on, rows_at, rows_of}
+use Rattle.cmap_text.specs.declared.salvage.rows.Row.{Row}
 use Rattle.cmap_text.specs.TextFiles.{CidKind, IsEntry, IsItem, IsMetadata, Item, Section, declared_by, names_used, bf_char, bf_range, cids, closer, codespace_range, opener, range, single, use_word, declares_cid}
 use Rattle.cmap_text.specs.TextReading.{Code, Said, StopsText, adding, cid_in, code_fault, code_in, codespace, destination_in, filed, is_executable, key_in, nothing_said, opened_by, sections, text_of, value_in, with_other, with_value}
 use Rattle.cmap_text.specs.TokenParsers.{malformed_reason}
-
--- ---- pieces in a section
-pub data Class : Type 0 where
-  -- an executable name that ends a section
-  known : Class
-  -- it takes no place of an entry
-  alone : Class
-  open_bracket : Class
-  close_bracket : Class
-  -- it may be a part of an entry
-  part : Class
-
-abbrev pub known_words : List (List ℕ)
-known_words =
-    map opener sections
-    ++ map closer sections
-    ++ codes "begincmap" ∷ codes "endcmap" ∷ codes "usecmap" ∷ codes "begin" ∷ codes "end" ∷ codes "def" ∷ codes "dict" ∷ codes "dup" ∷ codes "pop" ∷ codes "currentdict" ∷ codes "defineresource" ∷ codes "findresource" ∷ codes "endstream" ∷ codes "endobj" ∷ []
-
-abbrev pub lone_brackets : List (List ℕ)
-lone_brackets = codes "{" ∷ codes "}" ∷ codes "<<" ∷ codes ">>" ∷ []
-
-abbrev pub class_of_name : List ℕ → Class
-class_of_name name =
-    if bytes_eq name (codes "[") then open_bracket
-    else if bytes_eq name (codes "]") then close_bracket
-    else if list_any (bytes_eq name) lone_brackets then alone
-    else if list_any (bytes_eq name) known_words then known
-    else part
-
-abbrev pub class_of_token : Token → Class
-class_of_token (Token.Name false name) = class_of_name name
-class_of_token _ = part
-
-abbrev pub class_of_malformed : Malformed → Class
-class_of_malformed malformed.unclosed_text = alone
-class_of_malformed malformed.stray = alone
-class_of_malformed malformed.unclosed_hexadecimal = part
-class_of_malformed malformed.wrong_digit = part
-
-abbrev pub class_of : Piece → Class
-class_of piece = elim piece.token [ Ok t ↦ class_of_token t | Err w ↦ class_of_malformed w.kind ]
-
-abbrev pub is_string : Token → Bool
-is_string (Token.String raw) = true
-is_string _ = false
-
--- a string, of any value
-abbrev pub is_string_piece : Piece → Bool
-is_string_piece piece = elim piece.token [ Ok t ↦ is_string t | Err w ↦ false ]
 
 -- ---- faults
 abbrev pub own_fault : Wrong → Stop
@@ -148,13 +102,6 @@ with_parts entry parts = record { section = entry.section; parts = parts; begins
 
 abbrev pub with_piece : Entry → Piece → Entry
 with_piece entry piece = record { section = entry.section; parts = entry.parts; begins_line = entry.begins_line || (no_parts entry.parts && piece.begins_line) }
-
-abbrev pub places_of : Section → ℕ
-places_of codespace_range = 2
-places_of (cids kind range) = 3
-places_of (cids kind single) = 2
-places_of bf_range = 3
-places_of bf_char = 2
 
 abbrev pub count_of : Parts → ℕ
 count_of none = 0
@@ -445,8 +392,76 @@ finished len (in_list list, old) = with_fault old (record { offset = len; reason
 abbrev pub nothing_salvaged : Salvaged
 nothing_salvaged = record { said = nothing_said; faults = [] }
 
+abbrev pub first_read : List ℕ → Salvaged
+first_read text = finished (length text) (take_all (item, nothing_salvaged) (pieces_left (start_of text)))
+
+-- ---- a text in rows
+-- why the next place isn't filled
+abbrev pub second_missing : Section → Reason
+second_missing (cids kind single) = CidExpected
+second_missing bf_char = TextExpected
+second_missing _ = CodeExpected
+
+abbrev pub third_missing : Section → Reason
+third_missing (cids kind extent) = CidExpected
+third_missing _ = TextExpected
+
+abbrev pub missing : Entry → Reason
+missing entry = elim entry.parts [ none ↦ CodeExpected | one start ↦ second_missing entry.section | two start end ↦ third_missing entry.section ]
+
+abbrev pub is_known : Class → Bool
+is_known known = true
+is_known _ = false
+
+-- a line with so many parts begins within an entry, which it doesn't end
+abbrev pub is_short : ℕ → Entry → Piece → Bool
+is_short parts entry piece = not (no_parts entry.parts) && (not (is_known (class_of piece)) && not (parts == (rest_of entry).places))
+
+-- a short entry is at fault at the piece that comes in its place
+abbrev pub fault_offset : Piece → ℕ
+fault_offset piece = elim piece.token [ Ok t ↦ piece.end | Err w ↦ w.offset ]
+
+abbrev pub short_fault : Entry → Piece → Stop
+short_fault entry piece = record { offset = fault_offset piece; reason = missing entry }
+
+-- an entry ends where a line begins, unless the line holds just the parts that it lacks
+abbrev pub begin_line : ℕ → State × Salvaged → Piece → State × Salvaged
+begin_line parts (in_entry entry, old) piece = if is_short parts entry piece then (in_entry (new_entry entry.section), with_fault old (short_fault entry piece)) else (in_entry entry, old)
+begin_line parts (at_fault rest, old) piece = (in_entry (new_entry rest.section), old)
+begin_line parts (in_line section, old) piece = (in_entry (new_entry section), old)
+begin_line parts now piece = now
+
+abbrev pub is_part : Class → Bool
+is_part part = true
+is_part _ = false
+
+-- a name that isn't known leaves the place to be filled
+abbrev pub is_stray : Piece → Bool
+is_stray piece = is_name_piece piece && is_part (class_of piece)
+
+abbrev pub take_unless_stray : State × Salvaged → Piece → State × Salvaged
+take_unless_stray (in_entry entry, old) piece = if is_stray piece then (in_entry (with_piece entry piece), with_fault old (fault_of (missing entry) piece)) else take_in_entry old entry piece
+take_unless_stray now piece = take_piece now piece
+
+-- a piece on a line with so many parts
+abbrev pub take_in_row : ℕ → State × Salvaged → Piece → State × Salvaged
+take_in_row parts now piece = take_unless_stray (if piece.begins_line then begin_line parts now piece else now) piece
+
+-- pieces from the first of these rows on
+unfoldable pub take_rows : List Row → State × Salvaged → List Piece → State × Salvaged
+take_rows rows now [] = now
+take_rows rows now (piece ∷ pieces) = let here = rows_at rows piece in take_rows here (take_in_row (parts_on here) now piece) pieces
+
+abbrev pub read_in_rows : List Row → List ℕ → Salvaged
+read_in_rows rows text = finished (length text) (take_rows rows (item, nothing_salvaged) (pieces_left (start_of text)))
+
+-- ---- both readings
+abbrev pub is_read_in_rows : List ℕ → Bool
+is_read_in_rows text = not (length (first_read text).faults == 0) && are_rows (rows_of text)
+
+-- a text with a fault is read in rows, if its lines are rows
 abbrev pub salvaged : List ℕ → Salvaged
-salvaged text = finished (length text) (take_all (item, nothing_salvaged) (pieces_left (start_of text)))
+salvaged text = if is_read_in_rows text then read_in_rows (rows_of text) text else first_read text
 
 -- ---- the whole text
 abbrev pub SalvagesFile : List ℕ → File → List Stop → Type 0
@@ -461,9 +476,10 @@ refused_at len _ offset = offset
 abbrev pub refusal_of : ℕ → Stop → Stop
 refusal_of len fault = record { offset = refused_at len fault.reason fault.offset; reason = fault.reason }
 
--- the first is the fault for which a text is refused that is read up to its first one
+-- the first is the fault for which a text is refused that is read up to its first one; in rows a short entry may come before it
 abbrev pub BeginsRefused : List ℕ → List Stop → Type 0
-BeginsRefused text faults = (fault : Stop) × (more : List Stop) × (faults ≡ fault ∷ more) × StopsText text (refusal_of (length text) fault)
+BeginsRefused text faults = (fault : Stop) × (more : List Stop) × (stop : Stop) × (faults ≡ fault ∷ more) × StopsText text (refusal_of (length text) stop)
+    × ((fault ≡ stop) ⊎ ((is_read_in_rows text ≡ true) × (fault.offset ≤ stop.offset)))
 
 -- ---- what comes before the first fault
 -- the first entries of a section, and what each declares
@@ -484,7 +500,7 @@ BeginWithItems tokens (first ∷ items) each = (rest : List Token) × IsItem tok
 abbrev pub BeginWithLists : Lists → Lists → Type 0
 BeginWithLists front lists = (more : Lists) × (lists ≡ append_lists front more)
 
--- whatever items and entries the tokens of a text begin with, the lists begin with what these declare, and the uses with the names that they use. So it is with all that stands before the first fault
+-- of a text that isn't read in rows: whatever items and entries its tokens begin with, the lists begin with what these declare, and the uses with the names that they use. So it is with all that stands before the first fault
 abbrev pub KeepsFronts : List ℕ → Lists → List (List ℕ) → Type 0
-KeepsFronts text lists uses = (items : List Item) (each : List (List Declaration)) (names : List (List ℕ)) → BeginWithItems (map (λ p. p.token) (tokens_of (start_of text)).tokens) items each → names_used None items ≡ Some names
+KeepsFronts text lists uses = is_read_in_rows text ≡ false → (items : List Item) (each : List (List Declaration)) (names : List (List ℕ)) → BeginWithItems (map (λ p. p.token) (tokens_of (start_of text)).tokens) items each → names_used None items ≡ Some names
     → BeginWithLists (lists_of (flat_map declared_by items ++ flat_map (λ ds. ds) each)) lists × ((more : List (List ℕ)) × (uses ≡ names ++ more))

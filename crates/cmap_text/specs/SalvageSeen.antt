@@ -1,10 +1,11 @@
 -- Private aid: what contracts see of a text that is read past its faults.
-use Rattle.std.specs.Prelude.{◌≡◌, List, MatchOption, Option, Some, None, Result, Ok, Err}
+use Rattle.std.specs.Prelude.{◌≡◌, List, MatchOption, Option, Some, None, option_map, Result, Ok, Err}
 use Rattle.cmap_values.specs.DeclarationsSeen.{lists_seen}
 use Rattle.cmap_values.specs.Files.{Declaration, Lists}
 use Rattle.cmap_values.specs.Outcomes.{Outcome}
 use Rattle.cmap_values.specs.declared.fault.Fault.{Fault}
 use Rattle.cmap_values.specs.declared.fault.Reason.{Reason}
+use Rattle.cmap_text.specs.Rows as rows
 use Rattle.cmap_text.specs.Salvage as salvage
 use Rattle.cmap_text.specs.Salvage.{Filled, Mended, having_lists}
 use Rattle.cmap_text.specs.TextReading.{adding}
@@ -12,6 +13,7 @@ use Rattle.cmap_text.specs.TextSeen.{code_seen, key_name, said_seen, section_see
 use Rattle.cmap_text.specs.declared.salvage.Found.{Found}
 use Rattle.cmap_text.specs.declared.salvage.pieces.Class.{Class}
 use Rattle.cmap_text.specs.declared.salvage.pieces.Class.TheVariants as class
+use Rattle.cmap_text.specs.declared.salvage.rows.Lines.{Lines}
 use Rattle.cmap_text.specs.declared.salvage.states.AtFault.{AtFault}
 use Rattle.cmap_text.specs.declared.salvage.states.Entry.{Entry}
 use Rattle.cmap_text.specs.declared.salvage.states.TextList.{TextList}
@@ -52,6 +54,9 @@ state_seen (state.List list) = salvage.in_list (texts_seen list)
 
 abbrev pub found_seen : Found → salvage.Salvaged
 found_seen found = record { said = said_seen found.said; faults = found.faults.items }
+
+abbrev pub lines_seen : Lines → rows.Lines
+lines_seen lines = record { done = lines.rows.items; row = lines.row; section = option_map section_seen lines.section; in_brackets = lines.is_in_brackets }
 
 -- the lists have these declarations more, and nothing else changes
 abbrev pub AddsLists : List Declaration → Found → Found → Type 0

@@ -1,5 +1,5 @@
 -- Where the declarations that are read past faults stand in the pieces of a text.
-use Rattle.std.specs.Prelude.{◌≡◌, ℕ, ◌+◌, ◌-◌, ◌<◌, ◌≤◌, ◌⊎◌, false, List, [], ◌∷◌, ◌++◌, codes, length, Some, None, Ok}
+use Rattle.std.specs.Prelude.{◌≡◌, ℕ, ◌+◌, ◌-◌, ◌<◌, ◌≤◌, ◌⊎◌, Bool, true, false, List, [], ◌∷◌, ◌++◌, codes, length, Some, None, Ok}
 use Rattle.cmap_tokens.specs.Pieces.{Piece, pieces_left}
 use Rattle.cmap_tokens.specs.Strings.{IsValue}
 use Rattle.cmap_tokens.specs.Tokens.{Token}
@@ -8,13 +8,14 @@ use Rattle.cmap_values.specs.BigEndian.{big_endian}
 use Rattle.cmap_values.specs.Files.{Declaration, Lists, lists_of}
 use Rattle.cmap_text.specs.TextFiles.{IsCode, IsEntry, Section}
 use Rattle.cmap_text.specs.TextReading.{text_of}
-use Rattle.cmap_text.specs.Salvage.{alone, class_of, open_bracket, part, text_in}
+use Rattle.cmap_text.specs.Salvage.{alone, class_of, is_read_in_rows, is_stray, open_bracket, part, text_in}
 
--- pieces are these tokens, but for those that take no place
-pub data AreParts : List Piece → List Token → Type 0 where
-  no_part : AreParts [] []
-  lone_piece : {pieces : List Piece} {tokens : List Token} → AreParts pieces tokens → (piece : Piece) → class_of piece ≡ alone → AreParts (pieces ++ piece ∷ []) tokens
-  next_part : {pieces : List Piece} {tokens : List Token} → AreParts pieces tokens → (piece : Piece) (t : Token) → piece.token ≡ Ok t → AreParts (pieces ++ piece ∷ []) (tokens ++ t ∷ [])
+-- pieces are these tokens, but for those that take no place: those that are alone and, in rows, names that aren't known
+pub data AreParts (rows : Bool) : List Piece → List Token → Type 0 where
+  no_part : AreParts rows [] []
+  lone_piece : {pieces : List Piece} {tokens : List Token} → AreParts rows pieces tokens → (piece : Piece) → class_of piece ≡ alone → AreParts rows (pieces ++ piece ∷ []) tokens
+  stray_name : {pieces : List Piece} {tokens : List Token} → AreParts rows pieces tokens → (piece : Piece) → rows ≡ true → is_stray piece ≡ true → AreParts rows (pieces ++ piece ∷ []) tokens
+  next_part : {pieces : List Piece} {tokens : List Token} → AreParts rows pieces tokens → (piece : Piece) (t : Token) → piece.token ≡ Ok t → AreParts rows (pieces ++ piece ∷ []) (tokens ++ t ∷ [])
 
 -- a string without bytes
 abbrev pub IsEmptyString : Token → Type 0
@@ -29,19 +30,19 @@ pub data AreTexts (start : ℕ) : List Piece → ℕ → List Declaration → Ty
   empty_text : {pieces : List Piece} {n : ℕ} {declared : List Declaration} → AreTexts start pieces n declared → (piece : Piece) (t : Token) → piece.token ≡ Ok t → IsEmptyString t → AreTexts start (pieces ++ piece ∷ []) (n + 1) (declared ++ text_of (start + n) (start + n) [])
 
 -- pieces are an entry that declares this, or the beginning of one with a list; or they show what was meant, by an empty string in the place of a text, or by a longer second code of a codespace range, the first with bytes 0 before it
-pub data StandsAs : List Piece → List Declaration → Type 0 where
-  an_entry : {pieces : List Piece} {tokens : List Token} {declared : List Declaration} → AreParts pieces tokens → (section : Section) → IsEntry section tokens declared [] → StandsAs pieces declared
-  a_list : {opening others : List Piece} {a b : Token} {first last : List ℕ} {n : ℕ} {declared : List Declaration} → AreParts opening (a ∷ b ∷ Token.Name false (codes "[") ∷ []) → IsCode a first → IsCode b last → AreTexts (big_endian first) others n declared → n ≤ big_endian last + 1 - big_endian first → StandsAs (opening ++ others) declared
-  an_empty_text : {pieces : List Piece} {a d : Token} {code : List ℕ} → AreParts pieces (a ∷ d ∷ []) → IsCode a code → IsEmptyString d → StandsAs pieces (text_of (big_endian code) (big_endian code) [])
-  empty_texts : {pieces : List Piece} {a b d : Token} {first last : List ℕ} → AreParts pieces (a ∷ b ∷ d ∷ []) → IsCode a first → IsCode b last → IsEmptyString d → StandsAs pieces (text_of (big_endian first) (big_endian last) [])
-  a_longer_end : {pieces : List Piece} {a b : Token} {low high : List ℕ} → AreParts pieces (a ∷ b ∷ []) → IsCode a low → IsCode b high → length low < length high → StandsAs pieces (Declaration.codespace (record { len = length high; low = big_endian low; high = big_endian high }) ∷ [])
+pub data StandsAs (rows : Bool) : List Piece → List Declaration → Type 0 where
+  an_entry : {pieces : List Piece} {tokens : List Token} {declared : List Declaration} → AreParts rows pieces tokens → (section : Section) → IsEntry section tokens declared [] → StandsAs rows pieces declared
+  a_list : {opening others : List Piece} {a b : Token} {first last : List ℕ} {n : ℕ} {declared : List Declaration} → AreParts rows opening (a ∷ b ∷ Token.Name false (codes "[") ∷ []) → IsCode a first → IsCode b last → AreTexts (big_endian first) others n declared → n ≤ big_endian last + 1 - big_endian first → StandsAs rows (opening ++ others) declared
+  an_empty_text : {pieces : List Piece} {a d : Token} {code : List ℕ} → AreParts rows pieces (a ∷ d ∷ []) → IsCode a code → IsEmptyString d → StandsAs rows pieces (text_of (big_endian code) (big_endian code) [])
+  empty_texts : {pieces : List Piece} {a b d : Token} {first last : List ℕ} → AreParts rows pieces (a ∷ b ∷ d ∷ []) → IsCode a first → IsCode b last → IsEmptyString d → StandsAs rows pieces (text_of (big_endian first) (big_endian last) [])
+  a_longer_end : {pieces : List Piece} {a b : Token} {low high : List ℕ} → AreParts rows pieces (a ∷ b ∷ []) → IsCode a low → IsCode b high → length low < length high → StandsAs rows pieces (Declaration.codespace (record { len = length high; low = big_endian low; high = big_endian high }) ∷ [])
 
 -- what pieces declare, each declaration at an entry of its own, in order
-pub data Stands : List Piece → List Declaration → Type 0 where
-  nothing : Stands [] []
-  passed : {pieces : List Piece} {declared : List Declaration} → Stands pieces declared → (piece : Piece) → Stands (pieces ++ piece ∷ []) declared
-  entered : {pieces others : List Piece} {declared more : List Declaration} → Stands pieces declared → StandsAs others more → Stands (pieces ++ others) (declared ++ more)
+pub data Stands (rows : Bool) : List Piece → List Declaration → Type 0 where
+  nothing : Stands rows [] []
+  passed : {pieces : List Piece} {declared : List Declaration} → Stands rows pieces declared → (piece : Piece) → Stands rows (pieces ++ piece ∷ []) declared
+  entered : {pieces others : List Piece} {declared more : List Declaration} → Stands rows pieces declared → StandsAs rows others more → Stands rows (pieces ++ others) (declared ++ more)
 
 -- the lists hold what stands so in the text
 abbrev pub AreDeclared : List ℕ → Lists → Type 0
-AreDeclared text lists = (declared : List Declaration) × Stands (pieces_left (start_of text)) declared × (lists ≡ lists_of declared)
+AreDeclared text lists = (declared : List Declaration) × Stands (is_read_in_rows text) (pieces_left (start_of text)) declared × (lists ≡ lists_of declared)

@@ -21,9 +21,11 @@ mod entries;
 mod known_words;
 mod lists;
 mod pieces;
+mod rows;
 mod states;
 
-use self::pieces::{Class, class_of, own_fault};
+use self::pieces::{Class, class_of, fault_of, fault_offset, is_stray, own_fault};
+use self::rows::{Row, are_rows, parts_on, rows_at, rows_of};
 use self::states::{AtFault, Entry, State};
 use crate::items::Said;
 use crate::keys::Key;
@@ -46,11 +48,12 @@ pub fn salvage_text<'d>(alloc: Global, text: &'d [u8]) -> Result<Salvaged<'d>, A
     ensures file { IfOk result (λ found. (file : files.File) → IsTextFile text.now file
         → (file_seen found.file ≡ file) × (found.faults.items ≡ [])) }
 
-    // The first fault of another text is the one that `read_text` reports.
+    // The first fault of another text is the one that `read_text` reports, or one before it if the text is
+    // in rows.
     ensures first { IfOk result (λ found. HoldsOfNone (IsTextFile text.now)
         → BeginsRefused text.now found.faults.items) }
 
-    // What is said before the first fault is a front of what is given.
+    // Unless it is in rows, what is said before the first fault is a front of what is given.
     ensures kept { IfOk result
         (λ found. KeepsFronts text.now (lists_seen found.file.lists) (file_seen found.file).uses) }
 
@@ -60,8 +63,8 @@ pub fn salvage_text<'d>(alloc: Global, text: &'d [u8]) -> Result<Salvaged<'d>, A
     // The faults are in order, and in the text.
     ensures ascend { IfOk result (λ found. Ascend 0 found.faults.items (length text.now)) }
 {
-    let mut found = Found::new(alloc);
-    let metadata = found.read(alloc, text)?;
+    let found = Found::of(alloc, text)?;
+    let metadata = found.said.values.metadata(alloc)?;
     Ok(Salvaged {
         file: File {
             metadata,
@@ -91,27 +94,117 @@ impl<'d> Found<'d> {
         }
     }
 
-    /// Reads all the pieces of a text, and gives what its keys say of the file.
-    fn read(&mut self, alloc: Global, text: &'d [u8]) -> Result<Metadata, AllocError>
-        ensures { IfOk result (λ metadata. found_seen self.old ≡ nothing_salvaged
-            → (found_seen self.new ≡ salvage.salvaged text.now)
-            × IsOnly (IsMetadata (values_seen self.new.said.values)) (metadata_seen metadata)) }
+    /// What is found in a text, which is read once more if it has a fault and its lines are rows.
+    fn of(alloc: Global, text: &'d [u8]) -> Result<Self, AllocError>
+        ensures { IfOk result (λ found. found_seen found ≡ salvage.salvaged text.now) }
     {
-        self.read_pieces(alloc, text)?;
-        self.said.values.metadata(alloc)
+        let found = Found::first(alloc, text)?;
+        if found.faults.is_empty() {
+            return Ok(found);
+        }
+        let rows = rows_of(alloc, text)?;
+        if are_rows(&rows) {
+            Found::in_rows(alloc, text, &rows)
+        } else {
+            Ok(found)
+        }
     }
 
     /// Reads all the pieces of a text.
-    fn read_pieces(&mut self, alloc: Global, text: &'d [u8]) -> Result<(), AllocError>
-        ensures { OnOk result (found_seen self.old ≡ nothing_salvaged
-            → found_seen self.new ≡ salvage.salvaged text.now) }
+    fn first(alloc: Global, text: &'d [u8]) -> Result<Self, AllocError>
+        ensures { IfOk result (λ found. found_seen found ≡ salvage.first_read text.now) }
     {
+        let mut found = Found::new(alloc);
         let mut reader = PieceReader::new(alloc, text);
         let mut state = State::Item;
         while let Some(piece) = reader.next_piece()? {
-            state = self.take(&piece, state)?;
+            state = found.take(&piece, state)?;
         }
-        self.finish(text.len(), state)
+        found.finish(text.len(), state)?;
+        Ok(found)
+    }
+
+    /// Reads all the pieces of a text whose lines hold these parts.
+    fn in_rows(alloc: Global, text: &'d [u8], rows: &[Row]) -> Result<Self, AllocError>
+        ensures { IfOk result (λ found. found_seen found ≡ salvage.read_in_rows rows.now text.now) }
+    {
+        let mut found = Found::new(alloc);
+        let mut reader = PieceReader::new(alloc, text);
+        let mut rows = rows;
+        let mut state = State::Item;
+        while let Some(piece) = reader.next_piece()? {
+            rows = rows_at(rows, &piece);
+            state = found.take_in_row(&piece, state, parts_on(rows))?;
+        }
+        found.finish(text.len(), state)?;
+        Ok(found)
+    }
+
+    /// Takes a piece on a line of so many parts.
+    fn take_in_row(
+        &mut self,
+        piece: &Piece<'d>,
+        state: State,
+        parts: u8,
+    ) -> Result<State, AllocError>
+        ensures { IfOk result (λ then. (state_seen then, found_seen self.new)
+            ≡ salvage.take_in_row parts (state_seen state, found_seen self.old) (piece_seen piece.now)) }
+    {
+        let state = if piece.begins_line {
+            self.begin_line(piece, state, parts)?
+        } else {
+            state
+        };
+        match state {
+            State::Entry(entry) => self.take_unless_stray(piece, entry),
+            _ => self.take(piece, state),
+        }
+    }
+
+    /// At a line of so many parts, which begins with this piece. It begins the next entry too, unless it holds
+    /// just the parts that the entry lacks.
+    fn begin_line(
+        &mut self,
+        piece: &Piece<'d>,
+        state: State,
+        parts: u8,
+    ) -> Result<State, AllocError>
+        ensures { IfOk result (λ then. (state_seen then, found_seen self.new)
+            ≡ salvage.begin_line parts (state_seen state, found_seen self.old) (piece_seen piece.now)) }
+    {
+        match state {
+            State::Entry(entry) => self.end_short(piece, entry, parts),
+            State::AtFault(rest) => Ok(State::entry(rest.section)),
+            State::PassingLine(section) => Ok(State::entry(section)),
+            _ => Ok(state),
+        }
+    }
+
+    /// Ends an entry that is short before this piece, with which a line of so many parts begins.
+    fn end_short(&mut self, piece: &Piece<'d>, entry: Entry, parts: u8) -> Result<State, AllocError>
+        ensures { IfOk result (λ then. (state_seen then, found_seen self.new)
+            ≡ salvage.begin_line parts (salvage.in_entry (entry_seen entry), found_seen self.old) (piece_seen piece.now)) }
+    {
+        if !entry.is_short(piece, parts) {
+            return Ok(State::Entry(entry));
+        }
+        self.faults.push(Stop {
+            offset: fault_offset(piece),
+            reason: entry.missing(),
+        })?;
+        Ok(State::entry(entry.section))
+    }
+
+    /// Takes a piece of an entry. A name that isn't known leaves the place to be filled.
+    fn take_unless_stray(&mut self, piece: &Piece<'d>, entry: Entry) -> Result<State, AllocError>
+        ensures { IfOk result (λ then. (state_seen then, found_seen self.new)
+            ≡ salvage.take_unless_stray (salvage.in_entry (entry_seen entry), found_seen self.old) (piece_seen piece.now)) }
+    {
+        if !is_stray(piece) {
+            return self.take_in_entry(piece, entry);
+        }
+        self.faults.push(fault_of(piece, entry.missing()))?;
+        Ok(State::Entry(entry.with_piece(piece)))
     }
 
     /// Takes a piece, and gives the state after it.

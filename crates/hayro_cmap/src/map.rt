@@ -171,7 +171,8 @@ impl CMap {
             LeadsToFault (tables_given bundle.entry) (S.answers source.now) «data».now budget
             (names_seen refusal.names.items) refusal.cause)) }
 
-        // Unless the budget is passed, it is the first fault that `salvage` gives.
+        // Unless the budget is passed, it is the first fault that `salvage` gives, or in a text in rows
+        // one after it.
         ensures first { IfErr result (RefusesWith (λ refusal. refusal.cause ≢ Cause.OverBudget
             → AreOfBundle (tables_given bundle.entry)
             → IsFirstPastFaults (tables_given bundle.entry) (S.answers source.now) «data».now budget
@@ -222,7 +223,7 @@ impl CMap {
 
     /// What the CMap file `data` says over the files that it uses, apart from their faults, and the
     /// faults. Of a file that `parse_from` accepts it is that map, and there is no fault; of another
-    /// one, the first fault is one for which it is refused.
+    /// one, the first fault is one for which it is refused, or in a text in rows one before it.
     ///
     /// A file is read past its faults, which are listed once, however often it is used. A use without
     /// a file, or for which the chain has no room, is a fault too, and gives no layers. After a chain
@@ -248,7 +249,8 @@ impl CMap {
             GivesMap (tables_given bundle.entry) (S.answers source.now) «data».now budget
             found.map (faults_seen found.faults.items)) }
 
-        // Of another one, the first fault is one for which it is refused.
+        // Of another one, the first fault is one for which it is refused, or in a text in rows one before
+        // it.
         ensures wrong { IfOk result (λ found.
             HasNoMap (tables_given bundle.entry) (S.answers source.now) «data».now
             ⊎ ExceedsBudget (tables_given bundle.entry) (S.answers source.now) «data».now budget

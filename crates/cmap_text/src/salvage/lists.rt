@@ -72,7 +72,7 @@ impl<'d> Found<'d> {
             }
             Class::Alone | Class::OpenBracket => Ok(list.after_piece(piece)),
             Class::CloseBracket => {
-                self.end_short(list);
+                self.end_short_list(list);
                 Ok(list.at_fault().after_entry())
             }
             Class::Word => {
@@ -93,7 +93,7 @@ impl<'d> Found<'d> {
     }
 
     /// Takes away the texts of a list that is too short, unless its range is nominal.
-    fn end_short(&mut self, list: TextList)
+    fn end_short_list(&mut self, list: TextList)
         ensures { found_seen self.new ≡ salvage.short_list (found_seen self.old) (texts_seen list) }
     {
         if !list.is_nominal() {

@@ -50,6 +50,23 @@ pub(super) fn is_string(piece: &Piece<'_>) -> bool
     matches!(piece.token, Ok(Token::String(_)))
 }
 
+/// Whether a piece is an executable name.
+pub(super) fn is_name(piece: &Piece<'_>) -> bool
+    ensures { result ≡ salvage.is_name_piece (piece_seen piece.now) }
+{
+    match &piece.token {
+        Ok(Token::Name(name)) => !name.is_literal(),
+        _ => false,
+    }
+}
+
+/// Whether a piece is an executable name that isn't known.
+pub(super) fn is_stray(piece: &Piece<'_>) -> bool
+    ensures { result ≡ salvage.is_stray (piece_seen piece.now) }
+{
+    is_name(piece) && class_of(piece) == Class::Part
+}
+
 /// The fault of a piece that is no token.
 pub(super) fn own_fault(malformed: MalformedPiece) -> Stop
     ensures { result ≡ salvage.own_fault (wrong_seen malformed) }
@@ -70,5 +87,15 @@ pub(super) fn fault_of(piece: &Piece<'_>, reason: Reason) -> Stop
             reason,
         },
         Err(malformed) => own_fault(malformed),
+    }
+}
+
+/// Where a piece is at fault: a token at its end.
+pub(super) fn fault_offset(piece: &Piece<'_>) -> usize
+    ensures { result ≡ salvage.fault_offset (piece_seen piece.now) }
+{
+    match piece.token {
+        Ok(_) => piece.end,
+        Err(malformed) => malformed.offset,
     }
 }

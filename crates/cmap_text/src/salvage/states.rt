@@ -7,12 +7,13 @@ ghost use Rattle.cmap_text.specs.Salvage.{list_after};
 ghost use Rattle.cmap_text.specs.SalvageSeen.{entry_seen, rest_seen, state_seen, texts_seen};
 ghost use Rattle.cmap_text.specs.TextSeen.{code_seen, section_seen};
 
-use super::pieces::is_string;
+use super::pieces::{Class, class_of, is_string};
 use crate::entries::Extent;
 use crate::keys::Key;
 use crate::sections::Section;
 use crate::tokens::Code;
 use cmap_tokens::token::Piece;
+use cmap_values::fault::Reason;
 
 /// What comes next.
 #[derive(Clone, Copy)]
@@ -121,14 +122,32 @@ impl Entry {
         }
     }
 
+    /// Why its next place isn't filled.
+    pub(super) fn missing(&self) -> Reason
+        ensures { result ≡ salvage.missing (entry_seen self.now) }
+    {
+        match (self.parts, self.section) {
+            (Parts::None, _) => Reason::CodeExpected,
+            (Parts::One(_), Section::Cids(_, Extent::Single)) => Reason::CidExpected,
+            (Parts::One(_), Section::BfChar) => Reason::TextExpected,
+            (Parts::One(_), _) => Reason::CodeExpected,
+            (Parts::Two(_, _), Section::Cids(_, _)) => Reason::CidExpected,
+            (Parts::Two(_, _), _) => Reason::TextExpected,
+        }
+    }
+
+    /// Whether it ends before this piece, with which a line of so many parts begins.
+    pub(super) fn is_short(&self, piece: &Piece<'_>, parts: u8) -> bool
+        ensures { result ≡ salvage.is_short parts (entry_seen self.now) (piece_seen piece.now) }
+    {
+        !self.is_empty() && class_of(piece) != Class::Word && parts != self.places_left()
+    }
+
     /// How many places aren't filled.
-    fn places_left(&self) -> u8
+    pub(super) fn places_left(&self) -> u8
         ensures { result ≡ (salvage.rest_of (entry_seen self.now)).places }
     {
-        let places = match self.section {
-            Section::Codespaces | Section::Cids(_, Extent::Single) | Section::BfChar => 2,
-            Section::Cids(_, Extent::Range) | Section::BfRange => 3,
-        };
+        let places = places_of(self.section);
         match self.parts {
             Parts::None => places,
             Parts::One(_) => places - 1,
@@ -137,10 +156,20 @@ impl Entry {
     }
 }
 
+/// How many places an entry of a section has.
+pub(super) fn places_of(section: Section) -> u8
+    ensures { result ≡ salvage.places_of (section_seen section) }
+{
+    match section {
+        Section::Codespaces | Section::Cids(_, Extent::Single) | Section::BfChar => 2,
+        Section::Cids(_, Extent::Range) | Section::BfRange => 3,
+    }
+}
+
 /// What is left of an entry at fault.
 #[derive(Clone, Copy)]
 pub(super) struct AtFault {
-    section: Section,
+    pub(super) section: Section,
     /// How many places are left.
     places: u8,
     /// Whether the entry begins a line.

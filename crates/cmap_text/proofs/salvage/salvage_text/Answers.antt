@@ -16,7 +16,8 @@ pub returns : goal.returns
 returns c =
     let text = c.args.text.now in
     let metadata = metadata_seen c.in_ok-metadata.metadata in
-    let (same, only) = c.in_ok-metadata.ensures c.new-found.ensures in
+    let same = c.in_ok-found.ensures in
+    let only = c.in_ok-metadata.ensures in
     let values : IsOnly (IsMetadata (salvaged text).said.values) metadata = subst (λ s. IsOnly (IsMetadata s.said.values) metadata) same only in
     let Gives : Salvaged → Type 0 = λ s. (file : File) → IsTextFile text file → (record { metadata = metadata; lists = s.said.lists; uses = s.said.uses } ≡ file) × (s.faults ≡ []) in
     let Ordered : Salvaged → Type 0 = λ s. Ascend 0 s.faults (length text) in

@@ -1,0 +1,209 @@
+//! The lines of sections, and how many parts each holds.
+
+ghost use Rattle.std.specs.Prelude.{◌≡◌, ◌∷◌, [], option_map, IfOk, OnOk};
+ghost use Rattle.cmap_tokens.specs.TokenSeen.{piece_seen};
+ghost use Rattle.cmap_text.specs.Rows as lines;
+ghost use Rattle.cmap_text.specs.SalvageSeen.{lines_seen};
+ghost use Rattle.cmap_text.specs.TextSeen.{section_seen};
+
+use super::pieces::{Class, class_of, is_name};
+use super::states::places_of;
+use crate::sections::Section;
+use cmap_tokens::token::{Piece, PieceReader};
+use std::alloc::{AllocError, Global};
+
+/// What stands on a line of a section.
+#[derive(Clone, Copy)]
+pub(super) struct Row {
+    /// How many parts; 255 stands for more, too.
+    pub(super) parts: u8,
+    /// How many places an entry of the section has; 0 without parts.
+    pub(super) places: u8,
+}
+
+impl Row {
+    /// One without parts.
+    fn empty() -> Row
+        ensures { result ≡ lines.empty_row }
+    {
+        Row {
+            parts: 0,
+            places: 0,
+        }
+    }
+
+    /// The same with a part more, in this section.
+    fn with_part(self, section: Section) -> Row
+        ensures { result ≡ lines.with_part self (section_seen section) }
+    {
+        Row {
+            parts: self.parts.saturating_add(1),
+            places: places_of(section),
+        }
+    }
+
+    /// Whether it holds as many parts as an entry.
+    fn is_whole(&self) -> bool
+        ensures { result ≡ lines.is_whole self.now }
+    {
+        self.parts != 0 && self.parts == self.places
+    }
+
+    /// Whether it holds parts, but more or fewer.
+    fn is_other(&self) -> bool
+        ensures { result ≡ lines.is_other self.now }
+    {
+        self.parts != 0 && self.parts != self.places
+    }
+}
+
+/// The lines of a text, as far as its pieces are read.
+#[derive(Drop)]
+struct Lines {
+    /// Those before the last one.
+    rows: Vec<Row>,
+    /// The last one.
+    row: Row,
+    /// The section that the last known word opens.
+    section: Option<Section>,
+    is_in_brackets: bool,
+}
+
+impl Lines {
+    fn new(alloc: Global) -> Lines
+        ensures { lines_seen result ≡ lines.no_lines }
+    {
+        Lines {
+            rows: Vec::new(alloc),
+            row: Row::empty(),
+            section: None,
+            is_in_brackets: false,
+        }
+    }
+
+    /// Takes a piece, which may begin a line.
+    fn take(&mut self, piece: &Piece<'_>) -> Result<(), AllocError>
+        ensures { OnOk result (lines_seen self.new ≡ lines.line_taken (lines_seen self.old) (piece_seen piece.now)) }
+    {
+        if begins_row(piece) {
+            self.rows.push(self.row)?;
+            self.row = Row::empty();
+        }
+        self.count(piece);
+        Ok(())
+    }
+
+    /// Counts a piece in its line, if it is a part of a section.
+    fn count(&mut self, piece: &Piece<'_>)
+        ensures { lines_seen self.new ≡ lines.counted (lines_seen self.old) (piece_seen piece.now) }
+    {
+        match class_of(piece) {
+            Class::Word => {
+                self.section = section_opened(piece);
+                self.is_in_brackets = false;
+            }
+            Class::Alone => {}
+            Class::OpenBracket => {
+                self.add_part();
+                self.is_in_brackets = true;
+            }
+            Class::CloseBracket => self.is_in_brackets = false,
+            Class::Part => {
+                if !is_name(piece) {
+                    self.add_part();
+                }
+            }
+        }
+    }
+
+    /// Adds a part to the line, within a section and outside brackets.
+    fn add_part(&mut self)
+        ensures { lines_seen self.new ≡ lines.part_added (lines_seen self.old) }
+    {
+        if self.is_in_brackets {
+            return;
+        }
+        if let Some(section) = self.section {
+            self.row = self.row.with_part(section);
+        }
+    }
+}
+
+/// What stands on each line of a text, before the first one nothing.
+pub(super) fn rows_of(alloc: Global, text: &[u8]) -> Result<Vec<Row>, AllocError>
+    ensures { IfOk result (λ rows. rows.items ≡ lines.rows_of text.now) }
+{
+    let mut reader = PieceReader::new(alloc, text);
+    let mut lines = Lines::new(alloc);
+    while let Some(piece) = reader.next_piece()? {
+        lines.take(&piece)?;
+    }
+    let mut rows = lines.rows;
+    rows.push(lines.row)?;
+    Ok(rows)
+}
+
+/// Whether more than half of the lines with parts hold as many as an entry.
+pub(super) fn are_rows(rows: &[Row]) -> bool
+    ensures { result ≡ lines.are_rows rows.now }
+{
+    let mut whole: usize = 0;
+    let mut others: usize = 0;
+    for row in rows {
+        if row.is_whole() {
+            whole += 1;
+        }
+        if row.is_other() {
+            others += 1;
+        }
+    }
+    others < whole
+}
+
+/// The rows from the line of a piece on, where the first one is that of the piece before it.
+pub(super) fn rows_at<'r>(rows: &'r [Row], piece: &Piece<'_>) -> &'r [Row]
+    ensures { result.now ≡ lines.rows_at rows.now (piece_seen piece.now) }
+{
+    if begins_row(piece) {
+        after_line(rows)
+    } else {
+        rows
+    }
+}
+
+/// The rows from the next line on.
+fn after_line(rows: &[Row]) -> &[Row]
+    ensures { result.now ≡ lines.after_line rows.now }
+{
+    match rows {
+        [_, rest @ ..] => rest,
+        [] => rows,
+    }
+}
+
+/// How many parts the first line holds.
+pub(super) fn parts_on(rows: &[Row]) -> u8
+    ensures { result ≡ lines.parts_on rows.now }
+{
+    match rows {
+        [row, ..] => row.parts,
+        [] => 0,
+    }
+}
+
+/// Whether a line of a section begins with a piece: an opener begins the first one.
+fn begins_row(piece: &Piece<'_>) -> bool
+    ensures { result ≡ lines.begins_row (piece_seen piece.now) }
+{
+    piece.begins_line || section_opened(piece).is_some()
+}
+
+/// The section that a piece opens.
+fn section_opened(piece: &Piece<'_>) -> Option<Section>
+    ensures { option_map section_seen result ≡ lines.section_opened (piece_seen piece.now) }
+{
+    match &piece.token {
+        Ok(token) => Section::opened_by(token),
+        Err(_) => None,
+    }
+}
