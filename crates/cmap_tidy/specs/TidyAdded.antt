@@ -1,5 +1,5 @@
 -- Private aid: a tidy list to which a declaration was added.
-use Rattle.std.specs.Prelude.{◌≡◌, ℕ, ◌+◌, ◌-◌, ◌<◌, ◌≤◌, ◌^◌, List, All, Option, Some, ◌&&◌, length, nat_le, nat_lt, if◌then◌else◌}
+use Rattle.std.specs.Prelude.{◌≡◌, ℕ, ◌+◌, ◌-◌, ◌<◌, ◌≤◌, ◌^◌, List, All, Some, length, if◌then◌else◌}
 use Rattle.cmap_runs.specs.Ranges.{Span, contains}
 use Rattle.cmap_values.specs.declared.range.Range.{Range}
 use Rattle.cmap_tokens.specs.Texts.{shifted}

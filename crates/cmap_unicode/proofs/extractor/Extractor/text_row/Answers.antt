@@ -1,4 +1,4 @@
-use Rattle.std.proofs.Common.{◌-◌, ap, sym, ◌∙◌, arith}
+use Rattle.std.proofs.Common.{◌-◌, arith}
 use Rattle.cmap_values.specs.CodeLengths.{length_of}
 use Rattle.cmap_unicode.specs.Characters.{font_of}
 use Rattle.cmap_unicode.proofs.RowsEnd.{row_ends}
