@@ -137,6 +137,8 @@ def check_text(checks, what, path):
 def test_rust_writes_to_unicode(checks, setting):
     """The example of the crate, as cargo builds it."""
     check_to_unicode(checks, setting, "Rust", [setting.crate.example("to_unicode")])
+    ran = run(setting.crate.example("pdf_text"), setting.work / "to_unicode.pdf")
+    checks.ended("Rust reads the text of that file", ran, "".join(GLYPHS) + "\n")
 
 
 @needs("pip", "pdftotext")
