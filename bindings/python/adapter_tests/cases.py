@@ -1,5 +1,6 @@
 """Fonts that both adapters are asked for, and the texts that are right."""
 
+import multiprocessing
 import unittest
 from pathlib import Path
 
@@ -48,6 +49,9 @@ RIGHT = [
         "B",
     ),
 ]
+
+#: How processes are started here.
+STARTS = multiprocessing.get_all_start_methods()
 
 #: Those that are broken, and what can be kept.
 BROKEN = [

@@ -2,6 +2,7 @@
 
 import gc
 import io
+import multiprocessing
 import pickle
 import threading
 import time
@@ -40,6 +41,12 @@ def font_of(spec):
     interpreter = PDFPageInterpreter(manager, PDFPageAggregator(manager))
     interpreter.init_resources(first_page(spec).resources)
     return interpreter.fontmap["F"]
+
+
+def texts_of_process(_number):
+    """The texts of fonts in another process, for which the adapter is installed there."""
+    adapter.install()
+    return [text(font, string) for _, font, string, _ in cases.RIGHT]
 
 
 def live_maps():
@@ -124,6 +131,12 @@ class Installed(unittest.TestCase):
         for it in threads:
             it.join()
         self.assertEqual(wrong, [])
+
+    def test_processes(self):
+        expected = [it for *_, it in cases.RIGHT]
+        for start in cases.STARTS:
+            with self.subTest(start), multiprocessing.get_context(start).Pool(2) as pool:
+                self.assertEqual(pool.map(texts_of_process, range(2)), [expected, expected])
 
     def test_no_map_outlives_its_font(self):
         def show(number):

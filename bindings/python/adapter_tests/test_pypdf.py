@@ -4,6 +4,7 @@ import copy
 import gc
 import importlib
 import io
+import multiprocessing
 import pickle
 import sys
 import threading
@@ -38,6 +39,12 @@ def text(library, font, string):
         warnings.simplefilter("ignore")
         page = library.PdfReader(io.BytesIO(pdf({"F": font}, [("F", string)]))).pages[0]
         return "".join(page.extract_text().split())
+
+
+def texts_of_process(name):
+    """The texts that a library gives in another process, for which the adapter is installed there."""
+    adapter.install()
+    return [text(importlib.import_module(name), font, string) for _, font, string, _ in cases.RIGHT]
 
 
 def hooked(library):
@@ -128,6 +135,12 @@ class Texts(unittest.TestCase):
             for it in threads:
                 it.join()
         self.assertEqual(wrong, [])
+
+    def test_processes(self):
+        names, expected = [it.__name__ for it in LIBRARIES], [it for *_, it in cases.RIGHT]
+        for start in cases.STARTS:
+            with self.subTest(start), multiprocessing.get_context(start).Pool(2) as pool:
+                self.assertEqual(pool.map(texts_of_process, names), [expected] * len(names))
 
 
 class Codecs(unittest.TestCase):
