@@ -140,7 +140,7 @@ impl<'d> Found<'d> {
         Ok(found)
     }
 
-    /// Takes a piece on a line of so many parts.
+    /// Takes a piece on a line with this number of parts.
     fn take_in_row(
         &mut self,
         piece: &Piece<'d>,
@@ -161,8 +161,8 @@ impl<'d> Found<'d> {
         }
     }
 
-    /// At a line of so many parts, which begins with this piece. It begins the next entry too, unless it holds
-    /// just the parts that the entry lacks.
+    /// Begins a line with this number of parts at a piece. The piece begins the next entry too, unless the line has
+    /// exactly the parts that the entry lacks.
     fn begin_line(
         &mut self,
         piece: &Piece<'d>,
@@ -180,7 +180,7 @@ impl<'d> Found<'d> {
         }
     }
 
-    /// Ends an entry that is short before this piece, with which a line of so many parts begins.
+    /// Ends an entry that is short. The piece after it begins a line with this number of parts.
     fn end_short(&mut self, piece: &Piece<'d>, entry: Entry, parts: u8) -> Result<State, AllocError>
         ensures { IfOk result (λ then. (state_seen then, found_seen self.new)
             ≡ salvage.begin_line parts (salvage.in_entry (entry_seen entry), found_seen self.old) (piece_seen piece.now)) }

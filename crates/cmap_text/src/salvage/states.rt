@@ -136,7 +136,7 @@ impl Entry {
         }
     }
 
-    /// Whether it ends before this piece, with which a line of so many parts begins.
+    /// Whether the entry ends before a piece that begins a line with this number of parts.
     pub(super) fn is_short(&self, piece: &Piece<'_>, parts: u8) -> bool
         ensures { result ≡ salvage.is_short parts (entry_seen self.now) (piece_seen piece.now) }
     {
