@@ -29,10 +29,10 @@ pub struct StringCode {
 impl Layers {
     /// The code that a string begins with, and how many bytes it has; `None` where the string is empty.
     ///
-    /// It is the shortest front of the string that lies in a codespace range of some layer. Where none
-    /// does, the range decides that matches the longest front, each byte between its own; of several,
-    /// the one with the shortest codes. As many bytes are taken as its codes have, or all where there
-    /// are fewer; one where no layer has a range. ISO 32000-1, 9.7.6.2 and 9.7.6.3.
+    /// It is the shortest prefix of the string that lies in a codespace range of some layer. If there is
+    /// none, the range decides that matches the longest prefix, each byte between its own; of several
+    /// ranges, the one with the shortest codes. As many bytes are taken as its codes have, or all if the
+    /// string has fewer; one if no layer has a range. ISO 32000-1, 9.7.6.2 and 9.7.6.3.
     #[inline(always)]
     pub fn next_code(&self, text: &[u8]) -> Option<StringCode>
         ensures code { MatchOption result (text.now ≡ []) (IsOnly (IsNextCode self.now text.now)) }
