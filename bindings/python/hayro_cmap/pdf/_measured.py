@@ -76,8 +76,8 @@ class Measure:
         """Looks up the codes of strings that are likely to be shown: together it takes less time than for each."""
         length = self._length
         if length is not None:
-            unknown = (it for it in strings if it not in self._known and len(it) % length == 0)
-            self._learn([code for string in unknown for code in codes_of(string, length)])
+            new = [it for it in dict.fromkeys(strings) if it not in self._known and len(it) % length == 0]
+            self._learn([code for string in new for code in codes_of(string, length)])
 
     def _glyphs_of(self, string: bytes) -> List[Glyph]:
         """What the codes of a string are."""
@@ -87,14 +87,16 @@ class Measure:
             characters = self._font.characters(string, *self._options)
             return [self._glyph(code.code, code.byte_len, code.cid, text) for _, code, text, _ in characters]
         codes = codes_of(string, length)
-        self._learn(codes)
-        return [self._glyphs[code] for code in codes]
+        try:
+            return [self._glyphs[code] for code in codes]
+        except KeyError:
+            self._learn(codes)
+            return [self._glyphs[code] for code in codes]
 
     def _learn(self, codes: Iterable[bytes]) -> None:
         """Looks up the codes that aren't known."""
-        unknown = [code for code in codes if code not in self._glyphs]
+        unknown = [code for code in dict.fromkeys(codes) if code not in self._glyphs]
         if unknown:
-            unknown = list(dict.fromkeys(unknown))
             found = self._looked_up(b"".join(unknown))
             self._kept += sum(len(code) + len(text) for code, (text, _, _) in zip(unknown, found))
             self._glyphs.update(zip(unknown, found))
@@ -118,5 +120,8 @@ def codes_of(string: bytes, length: int) -> Sequence[bytes]:
 
 def measured(glyphs: List[Glyph]) -> Measured:
     """What the codes of a string are together."""
+    if len(glyphs) == 1:
+        [(text, width, is_space)] = glyphs
+        return Measured([text], width, int(is_space), is_right_to_left(text))
     texts, widths, spaces = zip(*glyphs) if glyphs else ((), (), ())
     return Measured(list(texts), sum(widths), sum(spaces), is_right_to_left("".join(texts)))
