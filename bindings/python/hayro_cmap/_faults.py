@@ -2,8 +2,9 @@
 
 import bisect
 import enum
+import functools
 import re
-from typing import Optional, Tuple
+from typing import List, Optional, Tuple
 
 from ._values import Buffer, bytes_of, shown
 
@@ -63,7 +64,12 @@ class Lines:
     """Where the lines of a text end. A binary file has none."""
 
     def __init__(self, data: bytes):
-        self._ends = None if data[:5] == b"bcmap" else [it.start() for it in LINE_END.finditer(data)]
+        self._data = data
+
+    @functools.cached_property
+    def _ends(self) -> Optional[List[int]]:
+        """Where the lines end, once one is asked for."""
+        return None if self._data[:5] == b"bcmap" else [it.start() for it in LINE_END.finditer(self._data)]
 
     def line(self, offset: Optional[int]) -> Optional[int]:
         """The line of an offset: one more than the line ends before it."""

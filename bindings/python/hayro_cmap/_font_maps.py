@@ -375,7 +375,7 @@ def read_stream(source: CMapSource, of: str) -> Read:
             past_faults, _ = CMap.salvage(read_as, source.files, base=below.lenient, most_faults=0)
     except NotWritable as fault:
         return Read(None, None, [Fault(of, number, None, None, (), f"what it is based on can't be used: {fault}")])
-    lines = Lines(data if refusals else b"")
+    lines = Lines(data)
     faults = [fault_of(it, of, number, lines) for it in itertools.islice(refusals, MOST_FAULTS)]
     if len(refusals) > MOST_FAULTS:
         faults.append(Fault(of, number, None, None, (), f"more than {MOST_FAULTS:,} faults"))

@@ -44,6 +44,17 @@ class Contents(unittest.TestCase):
         expected = [(None, b"0"), ("1", b"a"), ("1", b"c"), ("2", b"d"), ("3", b"e"), ("1", b"f")]
         self.assertEqual(file.shown(), expected)
 
+    def test_fonts_of_operators_that_are_read_ahead(self):
+        """A font that Q brings back, or a graphics state chooses, has its own texts, however much is read ahead."""
+        file = File()
+        one, two, three = (file.simple(GOOD.replace(b"<0041>", b"<%b>" % it)) for it in (b"0031", b"0032", b"0033"))
+        file.page.Resources.Font.T = two
+        file.page.Resources.ExtGState.G = Dictionary(Font=Array([three, 9]))
+        file.show(b"/F 9 Tf q /T 9 Tf (A) Tj q /G gs [(A) (BA)] TJ Q (A) ' Q (A) Tj " * 200, F=one)
+        for ahead in [1, 3, _interpreter.AHEAD]:
+            with mock.patch.object(_interpreter, "AHEAD", ahead):
+                self.assertEqual("".join(file.text().split()), "23ffi321" * 200)
+
     def test_a_form_without_resources_has_those_of_the_page(self):
         file = File()
         form = file.form(b"/F 9 Tf (A) Tj")

@@ -293,10 +293,8 @@ def written_as(value: pikepdf.Object) -> Optional[Tuple[int, int]]:
 
 def source_of(value: Any, streams: Streams, over: Tuple = ()) -> Optional[CMapSource]:
     """Where a CMap is read from, a stream or a name; `over` are the streams that are based on it."""
-    if isinstance(value, pikepdf.Name):
-        return CMapSource(bytes_of(value))
     if not isinstance(value, pikepdf.Stream):
-        return None
+        return CMapSource(bytes_of(value)) if isinstance(value, pikepdf.Name) else None
     number = object_number(value)
     try:
         data = streams.decoded(value)

@@ -8,12 +8,12 @@ import functools
 import importlib.util
 import io
 import re
-from typing import Any, Dict, List, Optional, Tuple
+from typing import Any, Dict, List, Optional, Tuple, Union
 
 import pikepdf
 
 from ._encodings import BY_NAME, EXPERT, STANDARD, SYMBOL, ZAPF_DINGBATS
-from ._objects import MALFORMED, Streams, dictionary_at, integer_at, name_at, stream_at, text_of
+from ._objects import MALFORMED, Streams, dictionary_at, integer_at, name_at, stream_at, text_of, unescaped
 from ._sfnt import Sfnt
 
 #: Whether names of glyphs have texts: whether fontTools is there.
@@ -64,6 +64,9 @@ SYMBOLIC = 1 << 2
 ENTRY = re.compile(rb"dup\s+(?:(\d+)#)?(\w+)\s*/([^\s/\[\](){}<>%]+)\s+put\b")
 ENCODING = re.compile(rb"/Encoding\s+(StandardEncoding\b|.*?(?:\breadonly|\bdef)\b)", re.DOTALL)
 
+#: A code or a name of an array Differences that stands there itself.
+DIRECT = re.compile(rb"/|[0-9]{1,9}\Z")
+
 #: The encodings of Adobe that the first places stand for where an encoding of a CFF font program may stand.
 OF_CFF = (STANDARD, EXPERT)
 
@@ -98,15 +101,26 @@ def differences_of(font: pikepdf.Dictionary) -> Dict[int, str]:
     """The names of the glyphs of codes that Differences has (ISO 32000-1, 9.6.6.1)."""
     found: Dict[int, str] = {}
     code = 0
-    differences = dictionary_at(font, "/Encoding").get("/Differences")
-    for it in list(differences) if isinstance(differences, pikepdf.Array) else []:
-        if isinstance(it, pikepdf.Name):
+    for it in entries_of(dictionary_at(font, "/Encoding").get("/Differences")):
+        if isinstance(it, str):
             if 0 <= code < 256:
-                found[code] = text_of(it)
+                found[code] = it
             code += 1
-        elif isinstance(it, int):
-            code = int(it)
+        else:
+            code = it
     return found
+
+
+def entries_of(differences: Any) -> List[Union[int, str]]:
+    """The codes and the names of an array Differences."""
+    if not isinstance(differences, pikepdf.Array):
+        return []
+    # to make objects of each takes longer
+    words = differences.unparse(resolved=True).split()[1:-1]
+    if all(DIRECT.match(it) for it in words):
+        return [unescaped(it[1:]).decode("utf-8", "replace") if it[:1] == b"/" else int(it) for it in words]
+    entries = [text_of(it) if isinstance(it, pikepdf.Name) else it for it in list(differences)]
+    return [it for it in entries if isinstance(it, (int, str))]
 
 
 def is_symbolic(font: pikepdf.Dictionary) -> bool:

@@ -1,20 +1,37 @@
 """Goes through the content of a page, and gives the strings that it shows, each with its font and its place."""
 
+import collections
 import math
-from typing import Any, Callable, Dict, Iterator, List, NamedTuple, Optional, Sequence, Tuple, Union
+from typing import (
+    Any,
+    Callable,
+    DefaultDict,
+    Dict,
+    Iterable,
+    Iterator,
+    List,
+    NamedTuple,
+    Optional,
+    Sequence,
+    Tuple,
+    Union,
+)
 
 import pikepdf
 
 from ._fonts import Font, resources_of
 from ._measured import Measure, Measured
 from ._objects import dictionary_at, name_at, named, object_number
-from ._scan import Operand, actual_text, elements_of, last_name, last_string, numbers_in, operators
+from ._scan import Operand, Operator, actual_text, elements_of, last_name, last_string, numbers_in, operators
 
 #: How many operators that text may depend on one page may have, with those of its forms, each as often as it is drawn.
 MOST_STEPS = 5_000_000
 
 #: After how many of them the time is looked at.
 STEPS_OF_CHECK = 1 << 10
+
+#: How many operators and operands are read before they are run, so that the codes of a font are looked up together.
+AHEAD = 1 << 8
 
 #: How many graphics states are kept at a time.
 MOST_SAVED = 1 << 12
@@ -170,10 +187,33 @@ class Interpreter:
 
     def _enter(self, data: bytes, resources: pikepdf.Dictionary, form: Optional[pikepdf.Stream]) -> None:
         """Begins a content."""
-        self._levels.append(Level(data, resources, form, self))
+        level = Level(data, resources, form, self)
+        if self._measure is not None:
+            level.operators = self._looked_ahead(level, level.operators)
+        self._levels.append(level)
         self.state = self.state.copy()
         if form is not None:
             self.state.matrix = product(matrix_of(form), self.state.matrix)
+
+    def _looked_ahead(self, level: Level, found: Iterator[Operator]) -> Iterator[Operator]:
+        """The operators of a content, some of which are read ahead: their codes are looked up together."""
+        for batch in batches(found):
+            self._look_up(level, batch)
+            yield from batch
+
+    def _look_up(self, level: Level, batch: List[Operator]) -> None:
+        """Looks up the codes that operators show. One that is shown after `Q` or `gs` may be looked up for nothing."""
+        font = self.state.font
+        strings: DefaultDict[Optional[Font], List[bytes]] = collections.defaultdict(list)
+        for name, _, operands in batch:
+            if name == b"Tf":
+                font = level.named("/Font", last_name(operands), self._content.font)
+            elif name == b"TJ":
+                strings[font] += [it for it in elements_of(operands) if isinstance(it, bytes)]
+            elif name in SHOWN:
+                strings[font].append(last_string(operands) or b"")
+        for font, of_font in strings.items():
+            self._measure(font).look_up(of_font)
 
     def _leave(self) -> None:
         """Goes on with the content that drew a form."""
@@ -412,6 +452,23 @@ ACTIONS: Dict[bytes, Callable[[Interpreter, bytes, List[Operand]], Optional[List
     b"gs": Interpreter._choose_state,
     b"Do": Interpreter._draw,
 }
+
+
+#: The operators that show one string.
+SHOWN = (b"Tj", b"'", b'"')
+
+
+def batches(operators: Iterable[Operator]) -> Iterator[List[Operator]]:
+    """The same operators, some at a time, without many operands."""
+    batch: List[Operator] = []
+    size = 0
+    for operator in operators:
+        batch.append(operator)
+        size += 1 + len(operator[2])
+        if size >= AHEAD:
+            yield batch
+            batch, size = [], 0
+    yield batch
 
 
 def product(first: Sequence[float], second: Matrix) -> Matrix:

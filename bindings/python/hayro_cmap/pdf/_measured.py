@@ -1,7 +1,7 @@
 """The texts of shown strings, and how far they reach."""
 
 import unicodedata
-from typing import Dict, List, NamedTuple, Optional, Tuple
+from typing import Dict, Iterable, List, NamedTuple, Optional, Sequence, Tuple
 
 from ._fonts import Font
 
@@ -72,19 +72,34 @@ class Measure:
             self._known[string] = found
         return found
 
+    def look_up(self, strings: Iterable[bytes]) -> None:
+        """Looks up the codes of strings that are likely to be shown: together it takes less time than for each."""
+        length = self._length
+        if length is not None:
+            new = [it for it in dict.fromkeys(strings) if it not in self._known and len(it) % length == 0]
+            self._learn([code for string in new for code in codes_of(string, length)])
+
     def _glyphs_of(self, string: bytes) -> List[Glyph]:
         """What the codes of a string are."""
-        length, known = self._length, self._glyphs
+        length = self._length
         if length is None or len(string) % length:
             # the font keeps what it finds, since these codes may come again
             characters = self._font.characters(string, *self._options)
             return [self._glyph(code.code, code.byte_len, code.cid, text) for _, code, text, _ in characters]
-        codes = [string[at : at + length] for at in range(0, len(string), length)]
-        unknown = [code for code in codes if code not in known]
+        codes = codes_of(string, length)
+        try:
+            return [self._glyphs[code] for code in codes]
+        except KeyError:
+            self._learn(codes)
+            return [self._glyphs[code] for code in codes]
+
+    def _learn(self, codes: Iterable[bytes]) -> None:
+        """Looks up the codes that aren't known."""
+        unknown = [code for code in dict.fromkeys(codes) if code not in self._glyphs]
         if unknown:
-            unknown = list(dict.fromkeys(unknown))
-            known.update(zip(unknown, self._looked_up(b"".join(unknown))))
-        return [known[code] for code in codes]
+            found = self._looked_up(b"".join(unknown))
+            self._kept += sum(len(code) + len(text) for code, (text, _, _) in zip(unknown, found))
+            self._glyphs.update(zip(unknown, found))
 
     def _looked_up(self, string: bytes) -> List[Glyph]:
         """What the codes of a string are, as the font says; each byte is one where there is no font."""
@@ -98,7 +113,15 @@ class Measure:
         return REPLACEMENT if text is None else text, width, code == SPACE and byte_len == 1
 
 
+def codes_of(string: bytes, length: int) -> Sequence[bytes]:
+    """The codes of a string, each of this length."""
+    return [string] if len(string) == length else [string[at : at + length] for at in range(0, len(string), length)]
+
+
 def measured(glyphs: List[Glyph]) -> Measured:
     """What the codes of a string are together."""
+    if len(glyphs) == 1:
+        [(text, width, is_space)] = glyphs
+        return Measured([text], width, int(is_space), is_right_to_left(text))
     texts, widths, spaces = zip(*glyphs) if glyphs else ((), (), ())
     return Measured(list(texts), sum(widths), sum(spaces), is_right_to_left("".join(texts)))

@@ -94,7 +94,11 @@ def filters_of(stream: pikepdf.Stream) -> List[str]:
 
 def bytes_of(name: pikepdf.Name) -> bytes:
     """The bytes of a name, without the slash before it."""
-    written = name.unparse()[1:]
+    return unescaped(name.unparse()[1:])
+
+
+def unescaped(written: bytes) -> bytes:
+    """The bytes of a name that is written so, after its slash."""
     return ESCAPED.sub(lambda digits: bytes.fromhex(digits[1].decode()), written) if b"#" in written else written
 
 
