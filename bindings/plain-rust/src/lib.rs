@@ -30,7 +30,7 @@ mod piece;
 #[cfg(feature = "std")]
 mod predefined;
 // Proofs read some arguments alone, other crates of the project use some items, and the style is that of the sources.
-#[allow(clippy::all, dead_code, missing_docs, unused_imports, unused_variables)]
+#[allow(clippy::all, dead_code, missing_docs, unused_imports, unused_labels, unused_variables)]
 pub mod reader;
 mod reading;
 mod reason;

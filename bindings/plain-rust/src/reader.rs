@@ -18,6 +18,7 @@ pub(crate) mod cmap_encode;
 pub(crate) mod cmap_flatten;
 pub(crate) mod cmap_layers;
 pub(crate) mod cmap_lint;
+pub(crate) mod cmap_load;
 pub(crate) mod cmap_packed;
 pub(crate) mod cmap_runs;
 pub(crate) mod cmap_text;

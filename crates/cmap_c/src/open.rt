@@ -13,11 +13,11 @@ use crate::files::BaseFile;
 use crate::keep::keep_read;
 use crate::parse::{limit, tables_of};
 use cmap_chains::named_files::NamedFiles;
-use cmap_chains::open_layers;
 use cmap_handles::bundle::BundleHandle;
 use cmap_handles::handle::MapHandle;
 use cmap_handles::status::Status;
 use cmap_layers::layers::Layers;
+use cmap_load::open_layers;
 use cmap_packed::OwnedBundle;
 use std::alloc::Global;
 

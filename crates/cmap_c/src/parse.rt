@@ -14,11 +14,11 @@ use crate::fault::ending_of;
 use crate::files::BaseFile;
 use crate::keep::keep_read;
 use cmap_chains::named_files::{BundleFiles, NamedFiles};
-use cmap_chains::read_layers;
 use cmap_handles::bundle::BundleHandle;
 use cmap_handles::handle::MapHandle;
 use cmap_handles::status::Status;
 use cmap_layers::layers::Layers;
+use cmap_load::read_layers;
 use cmap_packed::{Bundle, OwnedBundle};
 use std::alloc::Global;
 

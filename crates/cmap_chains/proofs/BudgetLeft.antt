@@ -38,7 +38,7 @@ Leaves-over (Some budget) (Some left) first second h k = omega arith
 pub Leaves-over_append : (budget left : Option ℕ) (front back : List ℕ) → Leaves budget (sum front) left → IsOver left (sum back) → IsOver budget (sum (front ++ back))
 Leaves-over_append budget left front back h k = subst (λ n. IsOver budget n) (sym (sum-append front back)) (Leaves-over budget left (sum front) (sum back) h k)
 
-Leaves-within : (budget left : Option ℕ) (first second : ℕ) → Leaves budget first left → (IsOver left second → ⊥) → IsOver budget (first + second) → ⊥
+pub Leaves-within : (budget left : Option ℕ) (first second : ℕ) → Leaves budget first left → (IsOver left second → ⊥) → IsOver budget (first + second) → ⊥
 Leaves-within None left first second h within over = over
 Leaves-within (Some budget) None first second h within over = h
 Leaves-within (Some budget) (Some left) first second h within over = within (omega arith)

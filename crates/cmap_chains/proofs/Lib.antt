@@ -4,7 +4,6 @@ pub mod FewNames
 pub mod NamesPastFaults
 pub mod FilesMeant
 pub mod FirstFiles
-pub mod LayersFit
 pub mod OneFault
 pub mod OneName
 pub mod OneNameMore
@@ -16,8 +15,5 @@ pub mod PastFaults
 pub mod SalvagedMaps
 pub mod Walked
 pub mod UsedAgain
-pub mod Checked
-pub mod Larger
 pub mod Listed
 pub mod Again
-pub mod Stopped

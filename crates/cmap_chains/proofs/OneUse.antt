@@ -1,5 +1,5 @@
 -- What one use finds and opens is what the file does that answers its name.
-use Rattle.std.proofs.Common.{◌≡◌, ◌-◌, ◌<◌, arith, refl, subst, ℕ, suc, Bool, true, false, List, [], ◌∷◌, Option, Some, None, inl, inr}
+use Rattle.std.proofs.Common.{◌≡◌, ◌-◌, arith, refl, subst, ℕ, suc, Bool, true, false, List, [], ◌∷◌, Option, Some, None, inl, inr}
 use Rattle.cmap_values.specs.Files.{File}
 use Rattle.cmap_chains.specs.Answers.{IsByName}
 use Rattle.cmap_chains.specs.Budgets.{Trail, Opens, OpensUse}
@@ -11,9 +11,6 @@ use Rattle.cmap_chains.proofs.BudgetLeft.{Leaves-none}
 -- room for one file more
 pub room_left : (below : ℕ) → (below ≡ 0 → ⊥) → suc (below - 1) ≡ below
 room_left below some = omega (arith, some)
-
-pub is_room : (below : ℕ) → (below ≡ 0 → ⊥) → 0 < below
-is_room below some = omega (arith, some)
 
 module _ (means : List ℕ → File → Type 0) (answer : List ℕ → Option (List ℕ) → Type 0) (by_name : IsByName answer) (name : List ℕ) (budget : Option ℕ) (most n : ℕ) (is : suc n ≡ most) where
   module _ (bytes : List ℕ) (said : answer name (Some bytes)) where
@@ -69,10 +66,3 @@ module _ (means : List ℕ → File → Type 0) (answer : List ℕ → Option (L
       leaves = Leaves-none budget;
     };
   })
-
--- the chain has no room for the file
-pub Refuses-no_room : (means : List ℕ → File → Type 0) (answer : List ℕ → Option (List ℕ) → Type 0) (name : List ℕ) (budget : Option ℕ) → Refuses (of_use means answer 0) name budget budget
-Refuses-no_room means answer name budget = record {
-  none = λ layers h. h.2;
-  spent = record { lengths = []; opened = record { holds = refl; alone = λ other o. o }; leaves = Leaves-none budget };
-}

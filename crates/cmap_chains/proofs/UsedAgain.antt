@@ -1,10 +1,9 @@
 -- A file that is known has layers again where it is used again, and what it spends is spent again.
-use Rattle.std.proofs.Common.{◌≡◌, ◌∙◌, refl, sym, subst, arith, ℕ, List, Bool, true, false, cond, sum, Option, Some, None}
+use Rattle.std.proofs.Common.{◌≡◌, ◌∙◌, refl, sym, subst, arith, ℕ, List, Bool, true, false, cond, Option, Some, None}
 use Rattle.std.specs.Prelude.{IfSome, bytes_eq}
 use Rattle.std.proofs.lemmas.Slice.Eq.{bytes_eq-Decides}
-use Rattle.cmap_values.specs.Files.{File}
-use Rattle.cmap_chains.specs.BytesSpent.{Leaves, of_use}
-use Rattle.cmap_chains.specs.KnownFiles.{IsKnown, IsSpent, ResolvesFrom, SpendsAgain, file_known}
+use Rattle.cmap_chains.specs.BytesSpent.{Leaves}
+use Rattle.cmap_chains.specs.KnownFiles.{IsSpent, SpendsAgain, file_known}
 use Rattle.cmap_chains.specs.declared.known.KnownFile.{KnownFile}
 use Rattle.cmap_chains.specs.declared.known.KnownFiles.{KnownFiles}
 
@@ -15,23 +14,6 @@ leaves_again None after count was (Some n) is (Some budget) left again = absurd 
 leaves_again (Some start) None count was (Some n) is (Some budget) left again = absurd is
 leaves_again (Some start) (Some end) count was (Some n) is (Some budget) None again = absurd again
 leaves_again (Some start) (Some end) count was (Some n) is (Some budget) (Some left) again = omega (arith, was, is, again)
-
-module _ (means : List ℕ → File → Type 0) (answer : List ℕ → Option (List ℕ) → Type 0) where
-  pub IsKnown-from_found : (name : List ℕ) (file : KnownFile) (before after : Option ℕ) → ResolvesFrom (of_use means answer) name file.height before after → IfSome file.spent (IsSpent before after) → IsKnown means answer name file
-  IsKnown-from_found name file before after from is = λ budget left again. record {
-    from = λ most le.
-        let found = from.from most le in (
-          found.0,
-          record {
-            only = found.1.only;
-            spent = record {
-              lengths = found.1.spent.lengths;
-              opened = found.1.spent.opened;
-              leaves = leaves_again before after (sum found.1.spent.lengths) found.1.spent.leaves file.spent is budget left again;
-            };
-          },
-        );
-  }
 
 -- ---- what holds of all that are known
 module _ (P : List ℕ → KnownFile → Type 0) where

@@ -1,12 +1,8 @@
 -- What uses find and open, one after another.
-use Rattle.std.proofs.Common.{◌≡◌, refl, sym, ap, subst, ◌∙◌, ℕ, ◌+◌, ◌<◌, ◌≤◌, Bool, true, false, List, [], ◌∷◌, ◌++◌, drop, get_or, length, Option, Some, None, arith, inl, inr, append_assoc, sum}
+use Rattle.std.proofs.Common.{◌≡◌, refl, sym, ap, subst, ◌∙◌, ℕ, Bool, true, false, List, [], ◌∷◌, ◌++◌, Option, Some, None, arith, inl, inr, append_assoc, sum}
 use Rattle.std.specs.Prelude.{unwrap_or}
 use Rattle.std.specs.List.{All, AllZip, last_or}
-use Rattle.std.specs.Borrow.{Bor}
-use Rattle.std.proofs.Math.ListN.{length-map}
-use Rattle.std.proofs.lemmas.List.{drop_more, drop_all, get_or-map}
 use Rattle.std.proofs.lemmas.List.Elements.{All-nil, All-push}
-use Rattle.cmap_values.specs.NamesSeen.{names_seen}
 use Rattle.cmap_values.specs.Only.{IsOnly, HoldsOfNone}
 use Rattle.cmap_chains.specs.Budgets.{IsOver, Trail}
 use Rattle.cmap_chains.specs.BytesSpent.{About, Leaves, Spends, Resolves, Refuses, GoesOver, GoesOverAt, of_uses}
@@ -99,11 +95,6 @@ module _ {use_of : About (List ℕ)} where
     spent = Spends-rest used false left (record { lengths = []; opened = record { holds = refl; alone = λ other o. o }; leaves = Leaves-none left });
   }
 
-  -- there is no name
-  pub Resolves-none : (items : List (Bor (List ℕ))) (budget : Option ℕ) → length items ≡ 0 → Resolves (of_uses use_of) (names_seen items) [] budget budget
-  Resolves-none [] budget none = Resolves-used (AreUsed-none [] budget)
-  Resolves-none (item ∷ items) budget none = absurd (omega (arith, none))
-
   module _ {names rest : List (List ℕ)} {name : List ℕ} {base : List Layer} {budget left : Option ℕ} (used : AreUsed use_of names (name ∷ rest) base budget left) where
     -- one more name
     pub AreUsed-more : {next : List Layer} {after : Option ℕ} → Resolves use_of name next left after → AreUsed use_of names rest next budget after
@@ -159,17 +150,3 @@ module _ {use_of : About (List ℕ)} where
 
     pub GoesOverAt-used : (leading : List (List ℕ)) → GoesOverAt use_of name left leading → GoesOverAt (of_uses use_of) names budget leading
     GoesOverAt-used leading past = PassesAt-after used.lengths leading leading used.leaves (λ lengths o. used.names_open_first leading lengths (inl o)) past
-
-  -- the names are those of the items of a slice, and others after them
-  module _ {names : List (List ℕ)} {base : List Layer} {budget left : Option ℕ} (items : List (Bor (List ℕ))) (i : ℕ) (rest : List (List ℕ))
-      (used : AreUsed use_of names (drop i (names_seen items) ++ rest) base budget left) where
-    AreUsed-as : (front : List (List ℕ)) → drop i (names_seen items) ≡ front → AreUsed use_of names (front ++ rest) base budget left
-    AreUsed-as front e = subst (λ f. AreUsed use_of names (f ++ rest) base budget left) e used
-
-    pub AreUsed-at : i < length items → AreUsed use_of names ((get_or items i (record { ref_ptr = (0, 0); now = [] })).now ∷ (drop (i + 1) (names_seen items) ++ rest)) base budget left
-    AreUsed-at lt =
-        let name = get_or-map (λ x. x.now) items i (record { ref_ptr = (0, 0); now = [] }) [] lt in
-        AreUsed-as _ (drop_more (names_seen items) i [] (simp length-map lt) ∙ ap (λ x. x ∷ drop (i + 1) (names_seen items)) name)
-
-    pub AreUsed-end : length items ≤ i → AreUsed use_of names rest base budget left
-    AreUsed-end le = AreUsed-as [] (drop_all i (names_seen items) (simp length-map le))

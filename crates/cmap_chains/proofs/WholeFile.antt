@@ -2,15 +2,12 @@
 use Rattle.std.proofs.Common.{◌≡◌, refl, sym, ap, subst, ◌∙◌, ℕ, suc, Bool, true, false, List, [], ◌∷◌, length, Option, arith, inl, inr, sum}
 use Rattle.cmap_values.specs.Files.{File}
 use Rattle.cmap_values.specs.Only.{IsOnly, HoldsOfNone}
-use Rattle.cmap_chains.specs.Budgets.{IsOver, Trail, Opens, StaysWithin}
+use Rattle.cmap_chains.specs.Budgets.{IsOver, Trail, Opens}
 use Rattle.cmap_chains.specs.BytesSpent.{About, Leaves, Spends, Resolves, Refuses, GoesOver, GoesOverAt, of_file, of_use, of_uses}
 use Rattle.cmap_layers.specs.Layers.{Layer, layer_of}
-use Rattle.cmap_chains.proofs.BudgetLeft.{sum-append, IsOver-more, IsOver-none, Leaves-one, Leaves-append, Leaves-over_append, PassesAt-after, not_over}
+use Rattle.cmap_chains.proofs.BudgetLeft.{sum-append, IsOver-more, IsOver-none, Leaves-one, Leaves-append, Leaves-over_append, PassesAt-after}
 
 module _ (means : List ℕ → File → Type 0) (answer : List ℕ → Option (List ℕ) → Type 0) (most : ℕ) (bytes : List ℕ) (budget : Option ℕ) where
-  pub StaysWithin-from_spent : (broken : Bool) (left : Option ℕ) → Spends (of_file means answer most) bytes broken budget left → StaysWithin means answer most bytes budget
-  StaysWithin-from_spent broken left s = ((s.lengths, broken), s.opened, not_over budget left (sum s.lengths) s.leaves)
-
   -- the file passes the budget by itself
   pub GoesOver-here : IsOver budget (length bytes) → GoesOver (of_file means answer (suc most)) bytes budget
   GoesOver-here over =

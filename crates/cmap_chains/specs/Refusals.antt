@@ -1,8 +1,6 @@
 -- Why files have no layers: the file at fault, and what is wrong with it.
 use Rattle.std.specs.Prelude.{◌≡◌, ℕ, zero, suc, ◌<◌, ◌≤◌, List, [], ◌∷◌, ◌++◌, ◌⊎◌, length, All, Option, Some, None}
-use Rattle.std.specs.Borrow.{Bor}
 use Rattle.cmap_values.specs.Files.{File}
-use Rattle.cmap_values.specs.NamesSeen.{names_seen}
 use Rattle.cmap_binary.specs.BinaryFaults.{IsBinaryFault}
 use Rattle.cmap_binary.specs.BinaryFiles.{IsMarkedBinary}
 use Rattle.cmap_packed.specs.Bundles.{PrefixTables}
@@ -12,8 +10,8 @@ use Rattle.cmap_values.specs.declared.fault.Stop.{Stop}
 use Rattle.cmap_text.specs.TextFiles.{IsTextFile}
 use Rattle.cmap_text.specs.TextReading.{StopsText}
 use Rattle.cmap_layers.specs.Layers as said
-use Rattle.cmap_chains.specs.Budgets.{IsOver, OpensFirst, OpensUseFirst, PassesAt}
-use Rattle.cmap_chains.specs.BytesSpent.{About, Leaves, Refuses, GoesOver, of_use, of_uses}
+use Rattle.cmap_chains.specs.Budgets.{OpensFirst, OpensUseFirst, PassesAt}
+use Rattle.cmap_chains.specs.BytesSpent.{About, Refuses, GoesOver}
 use Rattle.cmap_chains.specs.Layers.{AreLayers, Means, OfAnswer}
 use Rattle.cmap_chains.specs.declared.refusal.Cause.{Cause}
 use Rattle.cmap_chains.specs.declared.refusal.Cause.TheVariants.{Malformed, NoFile, ChainLength, OverBudget}
@@ -77,25 +75,9 @@ module _ (tables : Option PrefixTables) (answer : List ℕ → Option (List ℕ)
   IsUseFaultWithin budget most name names cause = IsUseFault most name names cause
 
 -- ---- private aid
--- the names lead to a fault from one of several uses, within a budget
-abbrev pub IsFaultOfUses : Option PrefixTables → (List ℕ → Option (List ℕ) → Type 0) → Option ℕ → ℕ → List (List ℕ) → List (List ℕ) → Cause → Type 0
-IsFaultOfUses tables answer budget most uses names OverBudget = PassesAt ((of_uses (of_use (Means tables) answer most)).opens_first uses) budget names
-IsFaultOfUses tables answer budget most uses names cause = (name : List ℕ) × IsUsedAfter (HasLayers tables answer most) uses name × IsUseFault tables answer most name names cause
-
--- how a file fails to open, by itself
-abbrev pub FailsToOpen : Option PrefixTables → List ℕ → Option ℕ → Option ℕ → Cause → Type 0
-FailsToOpen tables bytes budget left (Malformed stop) = HoldsOfNone (Means tables bytes) × (stop.offset ≤ length bytes) × IsDecidedAsText tables bytes stop × IsFirstFault tables bytes stop × Leaves budget (length bytes) left
-FailsToOpen tables bytes budget left OverBudget = IsOver budget (length bytes)
-FailsToOpen tables bytes budget left NoFile = ⊥
-FailsToOpen tables bytes budget left ChainLength = ⊥
-
--- how a search for the layers of a file or of a use fails
+-- how reading a file or a use fails
 abbrev pub Fails : {Key : Type 0} → About Key → Key → Option ℕ → Option ℕ → Cause → Type 0
 Fails about key budget left (Malformed stop) = Refuses about key budget left
 Fails about key budget left NoFile = Refuses about key budget left
 Fails about key budget left ChainLength = Refuses about key budget left
 Fails about key budget left OverBudget = GoesOver about key budget
-
--- the names that are added lead to a fault
-abbrev pub Blames : (List (List ℕ) → Cause → Type 0) → List (Bor (List ℕ)) → List (Bor (List ℕ)) → Cause → Type 0
-Blames leads old new cause = (names : List (List ℕ)) × (names_seen new ≡ names_seen old ++ names) × leads names cause

@@ -64,7 +64,7 @@ pub fn identity_v(alloc: Global) -> Result<Layers, AllocError>
 }
 
 /// The predefined identity of this name, if it is the name of one.
-pub(crate) fn identity_named(alloc: Global, name: &[u8]) -> Result<Option<Layers>, AllocError>
+pub fn identity_named(alloc: Global, name: &[u8]) -> Result<Option<Layers>, AllocError>
     ensures { IfOk result
         (λ found. MatchOption found (IsNoIdentity name.now) (IsIdentity name.now)) }
 {

@@ -1,9 +1,9 @@
-//! Files over the files that they use: the layers of a file, why it has none, and where files come from.
+//! Files over the files that they use: what a map of a file is, why it has none, where files come from, and
+//! reading past faults.
 #![tactic(auto)]
 
 mod budget;
 mod chain;
-mod check;
 mod faults;
 mod files;
 mod identity;
@@ -14,8 +14,9 @@ pub mod salvage;
 mod search;
 pub mod source;
 
-pub use files::{open_layers, read_layers, uses};
-pub use identity::{identity_h, identity_text, identity_v};
+pub use chain::read_file;
+pub use files::uses;
+pub use identity::{identity_h, identity_named, identity_text, identity_v};
 pub use refusal::{Cause, Refusal};
 pub use salvage::{SalvagedLayers, salvaged_layers};
 pub use source::Source;

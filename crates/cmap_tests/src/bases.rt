@@ -6,7 +6,7 @@ use std::test::Fail;
 
 #[test]
 fn files_are_asked_for_in_the_order_of_the_uses(rt: HostRuntime) -> Result<(), Fail> {
-    // The names that were asked, a digit each.
+    // The names that were asked, a digit each: each once.
     let asked = Cell::new(0u32);
     let map = CMap::parse(
         rt.alloc(),
@@ -26,6 +26,6 @@ fn files_are_asked_for_in_the_order_of_the_uses(rt: HostRuntime) -> Result<(), F
         },
     )?;
     assert!(rt; map.is_some());
-    assert!(rt; asked.get() == 13213);
+    assert!(rt; asked.get() == 132);
     Ok(())
 }

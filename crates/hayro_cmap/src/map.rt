@@ -29,11 +29,11 @@ ghost use Rattle.cmap_chains.specs.declared.refusal.Cause.TheVariants as Cause;
 use crate::budget::ParseError;
 use crate::files_by_name::FilesByName;
 use cmap_chains::{
-    Cause, Refusal, SalvagedLayers, Source, identity_h, identity_v, open_layers, read_layers,
-    salvaged_layers, uses,
+    Cause, Refusal, SalvagedLayers, Source, identity_h, identity_v, salvaged_layers, uses,
 };
 use cmap_layers::layers::Layers;
 use cmap_layers::string_codes::StringCode;
+use cmap_load::{open_layers, read_layers};
 use cmap_packed::Bundle;
 use cmap_runs::runs::Looks;
 use cmap_tokens::utf16::BfString;
@@ -74,7 +74,7 @@ impl CMap {
     /// The map of the CMap file `data`; `None` where it is refused: it or a file that it uses is
     /// outside the grammar, a use has no answer, or more than 16 files stand in a chain.
     ///
-    /// `get_cmap` is asked for the files that others use, by their names: those of a file in order,
+    /// `get_cmap` is asked for the files that others use, once for each name: those of a file in order,
     /// and only after the file has been read whole. Each use needs its file, also one that a later
     /// use replaces. A file takes the layers of the last one that it uses. With a bundle, a file that
     /// begins with `bcmap` is read as binary, by the bundle's tables; all others are texts.

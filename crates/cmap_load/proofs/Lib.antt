@@ -1,0 +1,12 @@
+pub mod Agreed
+pub mod Growing
+pub mod Trails
+pub mod Leading
+pub mod Passing
+pub mod Adding
+pub mod Begun
+pub mod Chain
+pub mod Heights
+pub mod Walking
+pub mod Loaded
+pub mod Supplied

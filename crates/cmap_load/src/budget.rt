@@ -1,0 +1,32 @@
+//! A budget for the bytes of the files that are opened.
+
+ghost use Rattle.std.specs.Prelude.{◌≡◌, ℕ};
+ghost use Rattle.std.specs.Bool.{OnFalse, OnTrue};
+ghost use Rattle.cmap_chains.specs.Budgets.{IsOver};
+ghost use Rattle.cmap_chains.specs.BytesSpent.{Leaves};
+ghost use Rattle.cmap_load.specs.Loading.{IsCost};
+
+/// Takes `count` bytes from what is left of a budget, if there is one; whether so many are left.
+pub(crate) fn spend(left: &mut Option<u64>, count: u64) -> bool
+    ensures spent { OnTrue result (Leaves left.old count left.new) }
+    ensures over { OnFalse result (IsOver left.old count × (left.new ≡ left.old)) }
+{
+    let Some(budget) = *left else {
+        return true;
+    };
+    if budget < count {
+        return false;
+    }
+    *left = Some(budget - count);
+    true
+}
+
+/// What was taken from a budget; 0 where there is none.
+pub(crate) fn spent(before: Option<u64>, after: Option<u64>) -> u64
+    ensures { (count : ℕ) → Leaves before count after → IsCost before count result }
+{
+    match (before, after) {
+        (Some(before), Some(after)) => before.saturating_sub(after),
+        _ => 0,
+    }
+}

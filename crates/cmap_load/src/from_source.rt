@@ -1,0 +1,126 @@
+//! A loader that is supplied from a `Source`.
+
+ghost use Rattle.std.specs.Prelude.{◌≡◌, ◌≢◌, ◌≤◌, ℕ, IfErr, IfNone, IfOk, IfSome, List, None, OnOk, Option, length};
+ghost use Rattle.cmap_chains.specs.Answers.{IsByName};
+ghost use Rattle.cmap_chains.specs.Maps.{ExceedsBudget, FitsBudget, HasNoMap, IsMapOf, LeadsToFault};
+ghost use Rattle.cmap_chains.specs.Opened.{ExceedsBudgetNamed, FitsBudgetNamed, HasNoMapNamed, IsMapNamed, IsUnknown, LeadsToFaultNamed};
+ghost use Rattle.cmap_chains.specs.Salvage.{AreOfBundle, IsFirstPastFaults};
+ghost use Rattle.cmap_chains.specs.declared.refusal.Cause.TheVariants as Cause;
+ghost use Rattle.cmap_load.specs.Loads.{IsLoading, Loads, wanted_of};
+ghost use Rattle.cmap_packed.specs.BundleSeen.{tables_given};
+ghost use Rattle.cmap_packed.specs.Bundles.{PrefixTables};
+ghost use Rattle.cmap_values.specs.NamesSeen.{names_seen};
+ghost use Rattle.cmap_values.specs.Outcomes.{RefusesWith};
+
+use crate::loader::Loader;
+use cmap_chains::{Refusal, Source, identity_named};
+use cmap_layers::layers::Layers;
+use cmap_packed::Bundle;
+use cmap_values::fault::Fault;
+use std::alloc::{AllocError, Global};
+
+/// The layers of the CMap file `data`, its own first, then those of the file that it is based on, and
+/// so on; or why there are none: the file at fault, by the names that lead to it, and what is wrong
+/// with it. No more bytes are opened than `budget`; `None` is no budget.
+pub fn read_layers<'a, S: Source>(
+    alloc: Global,
+    budget: Option<u64>,
+    data: &'a [u8],
+    bundle: Option<&Bundle<'_>>,
+    source: &'a S,
+) -> Result<Layers, Fault<Refusal<'a>>>
+    // A caller whose `Source` says what it answers to each name meets both premises.
+    requires can_ask { S.can_ask source.now }
+    requires by_name { IsByName (S.answers source.now) }
+    ensures accepts { IfOk result
+        (IsMapOf (tables_given bundle.entry) (S.answers source.now) «data».now) }
+    ensures within { OnOk result
+        (FitsBudget (tables_given bundle.entry) (S.answers source.now) «data».now budget) }
+
+    // There is no map, or what is opened passes the budget.
+    ensures refuses { IfErr result (RefusesWith (λ refusal. refusal.cause ≢ Cause.OverBudget
+        → HasNoMap (tables_given bundle.entry) (S.answers source.now) «data».now
+        × FitsBudget (tables_given bundle.entry) (S.answers source.now) «data».now budget)) }
+    ensures over { IfErr result (RefusesWith (λ refusal. refusal.cause ≡ Cause.OverBudget
+        → ExceedsBudget (tables_given bundle.entry) (S.answers source.now) «data».now budget)) }
+
+    // The names lead to the file that is at fault; over a budget, to the first that passes it.
+    ensures blames { IfErr result (RefusesWith (λ refusal.
+        LeadsToFault (tables_given bundle.entry) (S.answers source.now) «data».now budget
+        (names_seen refusal.names.items) refusal.cause)) }
+
+    // Unless the budget is passed, it is the first fault that is read past, or in a text in rows one
+    // after it.
+    ensures first { IfErr result (RefusesWith (λ refusal. refusal.cause ≢ Cause.OverBudget
+        → AreOfBundle (tables_given bundle.entry)
+        → IsFirstPastFaults (tables_given bundle.entry) (S.answers source.now) «data».now budget
+        (names_seen refusal.names.items) refusal.cause)) }
+    ensures few { IfErr result (RefusesWith (λ refusal. length refusal.names.items ≤ 16)) }
+{
+    let mut load = Loader::new(alloc, budget, data, bundle)?;
+    supply_all(&mut load, source)?;
+    load.finish()
+}
+
+/// The layers of the file of this name, which `source` answers: it is read as `read_layers` reads it,
+/// so that the metadata of the first is what that file says. Where no file has the name, Identity-H
+/// and Identity-V are made without one, and any other name has no layers: `None`. ISO 32000-1, 9.7.5.2.
+pub fn open_layers<'a, S: Source>(
+    alloc: Global,
+    budget: Option<u64>,
+    name: &[u8],
+    bundle: Option<&Bundle<'_>>,
+    source: &'a S,
+) -> Result<Option<Layers>, Fault<Refusal<'a>>>
+    requires can_ask { S.can_ask source.now }
+    requires by_name { IsByName (S.answers source.now) }
+    ensures accepts { IfOk result (λ found. IfSome found
+        (IsMapNamed (tables_given bundle.entry) (S.answers source.now) name.now)) }
+    ensures absent { IfOk result
+        (λ found. IfNone found (IsUnknown (S.answers source.now) name.now)) }
+    ensures within { OnOk result
+        (FitsBudgetNamed (tables_given bundle.entry) (S.answers source.now) name.now budget) }
+
+    // A file has the name. There is no map, or what is opened passes the budget.
+    ensures refuses { IfErr result (RefusesWith (λ refusal. refusal.cause ≢ Cause.OverBudget
+        → HasNoMapNamed (tables_given bundle.entry) (S.answers source.now) name.now
+        × FitsBudgetNamed (tables_given bundle.entry) (S.answers source.now) name.now budget)) }
+    ensures over { IfErr result (RefusesWith (λ refusal. refusal.cause ≡ Cause.OverBudget
+        → ExceedsBudgetNamed (tables_given bundle.entry) (S.answers source.now) name.now budget)) }
+
+    // The names lead from that file to the one that is at fault.
+    ensures blames { IfErr result (RefusesWith (λ refusal.
+        LeadsToFaultNamed (tables_given bundle.entry) (S.answers source.now) name.now budget
+        (names_seen refusal.names.items) refusal.cause)) }
+    ensures few { IfErr result (RefusesWith (λ refusal. length refusal.names.items ≤ 16)) }
+{
+    match source.file(name) {
+        Some(data) => {
+            match read_layers(alloc, budget, data, bundle, source) {
+                Ok(layers) => Ok(Some(layers)),
+                // In place of `?`, which is dearer to prove.
+                Err(fault) => Err(fault),
+            }
+        }
+        None => match identity_named(alloc, name) {
+            Ok(identity) => Ok(identity),
+            Err(AllocError) => Err(Fault::Memory),
+        },
+    }
+}
+
+/// Supplies a loader with each file that it wants.
+fn supply_all<'a, S: Source>(load: &mut Loader<'a, '_>, source: &'a S) -> Result<(), AllocError>
+    requires can_ask { S.can_ask source.now }
+    requires loading { IsLoading load.old }
+    ensures loading { OnOk result (IsLoading load.new) }
+    ensures all { OnOk result (wanted_of load.new ≡ None) }
+    ensures loads { OnOk result ((tables : Option PrefixTables) (budget : Option ℕ) (bytes : List ℕ)
+        → Loads tables budget (S.answers source.now) bytes load.old
+        → Loads tables budget (S.answers source.now) bytes load.new) }
+{
+    while let Some(name) = load.wanted() {
+        load.supply(source.file(name))?;
+    }
+    Ok(())
+}

@@ -1,0 +1,13 @@
+//! CMap files over the files that they use, which the caller finds: a loader that is asked, and never
+//! asks.
+#![tactic(auto)]
+
+mod answer;
+mod budget;
+mod from_source;
+mod loader;
+mod step;
+mod table;
+
+pub use from_source::{open_layers, read_layers};
+pub use loader::Loader;

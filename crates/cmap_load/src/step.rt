@@ -1,0 +1,62 @@
+//! What is found on the way to the next file.
+
+use cmap_chains::Refusal;
+
+/// The first use of a file that can't be passed: that of a file which wasn't read, for which the chain
+/// has no room, or which would pass the budget.
+#[derive(Drop)]
+pub(crate) struct Stuck<'a> {
+    pub(crate) name: &'a [u8],
+    /// The index of the answer to the name.
+    pub(crate) found: Option<usize>,
+    /// What is left of the budget before the file.
+    pub(crate) left: Option<u64>,
+}
+
+/// What is known of the uses of a file, in order.
+#[derive(Drop)]
+pub(crate) enum Passed<'a> {
+    /// All can be passed: how many files stand in the longest of their chains, and what is left of the
+    /// budget.
+    All(u8, Option<u64>),
+    Stuck(Stuck<'a>),
+}
+
+/// What is known of a file.
+#[derive(Drop)]
+pub(crate) enum Look<'a> {
+    /// It is whole: how many files stand in its longest chain, and what is left of the budget.
+    Whole(u8, Option<u64>),
+    /// It has more bytes than are left of the budget.
+    OverBudget,
+    Stuck(Stuck<'a>),
+}
+
+/// A file that is wanted.
+#[derive(Drop)]
+pub(crate) struct Wanted<'a> {
+    /// The names that lead to it, its own last.
+    pub(crate) names: Vec<&'a [u8]>,
+    /// The first file has none.
+    pub(crate) name: Option<&'a [u8]>,
+    /// What is left of the budget before the file.
+    pub(crate) left: Option<u64>,
+}
+
+/// What is known of all files.
+#[derive(Drop)]
+pub(crate) enum Step<'a> {
+    /// The file at this index is whole: how many files stand in its longest chain, and how many bytes
+    /// are opened for it.
+    Whole(usize, u8, u64),
+    Wanted(Wanted<'a>),
+    Refused(Refusal<'a>),
+}
+
+/// How far all files are read.
+#[derive(Drop)]
+pub(crate) enum Next<'a> {
+    Whole,
+    Wanted(Wanted<'a>),
+    Refused(Refusal<'a>),
+}

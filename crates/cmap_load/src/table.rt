@@ -1,0 +1,360 @@
+//! The files that were read, each once.
+
+ghost use Rattle.std.specs.Prelude.{◌≡◌, ◌++◌, ◌<◌, ◌≤◌, ◌∷◌, [], ⊤, ℕ, IfErr, IfOk, IfSome, List, MatchOption, OnOk, Some, length, slice_get, slice_set};
+ghost use Rattle.std.specs.Option.{option_copied};
+ghost use Rattle.cmap_load.specs.Loading.{AreLoaded, FailsToOpen, IsAwaited, IsBegun, IsFound, IsLeft, IsLook, IsNext, IsOpened, IsPassed, IsPassedOver, IsReady, IsStep, IsStuck, IsTable, IsTaken, IsWithin, OfBytes, answers_seen, bytes_at, given, is_of_name, tables_of};
+ghost use Rattle.cmap_values.specs.declared.file.File.{File};
+ghost use Rattle.cmap_packed.specs.BundleSeen.{tables_given};
+ghost use Rattle.cmap_values.specs.FilesSeen.{file_seen};
+ghost use Rattle.cmap_values.specs.NamesSeen.{names_seen};
+ghost use Rattle.cmap_values.specs.Outcomes.{Outcome, RefusesWith};
+
+use crate::answer::Answer;
+use crate::budget::{spend, spent};
+use crate::step::{Look, Next, Passed, Step, Stuck, Wanted};
+use cmap_chains::{Cause, Refusal, read_file};
+use cmap_layers::layer::Layer;
+use cmap_layers::layers::Layers;
+use cmap_packed::Bundle;
+use cmap_values::fault::Fault;
+use cmap_values::file::File;
+use std::alloc::{AllocError, Global};
+use std::mem;
+
+/// How many files may stand in a chain, the top one counted.
+const MOST_FILES: u8 = 16;
+
+/// More files than may stand in a chain.
+const UNKNOWN: u8 = 17;
+
+/// The files that were read. At the same index stand what was answered, what the file says, how many
+/// files stand in its longest chain (or more than may, if that isn't known), and how many bytes are
+/// opened for it, each use counted (if the height is known, and there is a budget).
+#[derive(Drop)]
+pub(crate) struct Table<'a, 'b> {
+    pub(crate) bundle: Option<&'b Bundle<'b>>,
+    pub(crate) budget: Option<u64>,
+    pub(crate) answers: Vec<Answer<'a>>,
+    pub(crate) files: Vec<File<'a>>,
+    pub(crate) heights: Vec<u8>,
+    pub(crate) costs: Vec<u64>,
+}
+
+impl<'a, 'b> Table<'a, 'b> {
+    /// No file yet.
+    pub(crate) fn new(alloc: Global, budget: Option<u64>, bundle: Option<&'b Bundle<'b>>) -> Self
+        ensures table { IsTable result }
+        ensures bundle { result.bundle ≡ bundle.entry }
+        ensures budget { result.budget ≡ budget }
+        ensures answers { result.answers.items ≡ [] }
+    {
+        Table {
+            bundle,
+            budget,
+            answers: Vec::new(alloc),
+            files: Vec::new(alloc),
+            heights: Vec::new(alloc),
+            costs: Vec::new(alloc),
+        }
+    }
+
+    /// Passes over a use of the file that was found, if it is whole, at most `room` files stand in its
+    /// longest chain, and what it costs is left: how many files stand in that chain.
+    fn pass_over(&self, found: Option<usize>, room: u8, left: &mut Option<u64>) -> Option<u8>
+        requires table { IsTable self.now }
+        requires room { room < 16 }
+        requires found { MatchOption found ⊤ (λ i. i < length self.now.answers.items) }
+        requires left { IsLeft self.now.budget left.old }
+        ensures { MatchOption result (IsStuck self.now room left.old found × (left.new ≡ left.old))
+            (λ height. (height ≤ room) × IsPassedOver self.now found height left.old left.new) }
+    {
+        let i = found?;
+        let height = self.heights[i];
+        if height <= room && spend(left, self.costs[i]) {
+            Some(height)
+        } else {
+            None
+        }
+    }
+
+    /// What is known of uses, under which, each counted, at most `room` files may stand in a chain.
+    fn pass(&self, uses: &[&'a [u8]], room: u8, left: Option<u64>) -> Passed<'a>
+        requires table { IsTable self.now }
+        requires room { room < 16 }
+        requires left { IsLeft self.now.budget left }
+        ensures { IsPassed self.now room left (names_seen uses.now) result }
+    {
+        let mut left = left;
+        let mut highest: u8 = 0;
+        for name in uses {
+            let found = find(&self.answers, *name);
+            let Some(height) = self.pass_over(found, room, &mut left) else {
+                let name = *name;
+                return Passed::Stuck(Stuck { name, found, left });
+            };
+            if height > highest {
+                highest = height;
+            }
+        }
+        Passed::All(highest, left)
+    }
+
+    /// What is known of the file at an index, under which, itself counted, at most `most` files may
+    /// stand in a chain.
+    fn look(&self, at: usize, most: u8, left: Option<u64>) -> Look<'a>
+        requires table { IsTable self.now }
+        requires most { (0 < most) × (most ≤ 16) }
+        requires at { at < length self.now.answers.items }
+        requires left { IsLeft self.now.budget left }
+        ensures { (bytes : List ℕ) → bytes_at (given self.now) at ≡ Some bytes
+            → IsLook self.now most left bytes result }
+    {
+        let mut after = left;
+        if !spend(&mut after, self.length_at(at)) {
+            return Look::OverBudget;
+        }
+        match self.pass(&self.files[at].uses, most - 1, after) {
+            Passed::All(highest, after) => Look::Whole(highest + 1, after),
+            Passed::Stuck(stuck) => Look::Stuck(stuck),
+        }
+    }
+
+    /// The length of the file at an index.
+    fn length_at(&self, at: usize) -> u64
+        requires { at < length self.now.answers.items }
+        ensures { IfSome (bytes_at (given self.now) at) (λ bytes. result ≡ length bytes) }
+    {
+        match self.answers[at].bytes {
+            Some(bytes) => bytes.len() as u64,
+            None => 0,
+        }
+    }
+
+    /// The file that is wanted first, or the first that is at fault, or one that is whole.
+    fn walk(&self, alloc: Global) -> Result<Step<'a>, AllocError>
+        requires table { IsTable self.now }
+        requires first { IsBegun self.now }
+        ensures { IfOk result (λ step. (bytes : List ℕ) → bytes_at (given self.now) 0 ≡ Some bytes
+            → IsStep self.now bytes step) }
+    {
+        let mut names = Vec::new(alloc);
+        let mut at = 0;
+        let mut most = MOST_FILES;
+        let mut left = self.budget;
+        'down: loop {
+            match self.look(at, most, left) {
+                Look::Whole(height, after) => {
+                    return Ok(Step::Whole(at, height, spent(left, after)));
+                }
+                Look::OverBudget => {
+                    let cause = Cause::OverBudget;
+                    return Ok(Step::Refused(Refusal { names, cause }));
+                }
+                Look::Stuck(stuck) => {
+                    names.push(stuck.name)?;
+                    if most == 1 {
+                        let cause = Cause::ChainLength;
+                        return Ok(Step::Refused(Refusal { names, cause }));
+                    }
+                    left = stuck.left;
+                    let Some(i) = stuck.found else {
+                        let name = Some(stuck.name);
+                        return Ok(Step::Wanted(Wanted { names, name, left }));
+                    };
+                    at = i;
+                    most -= 1;
+                }
+            }
+        }
+    }
+
+    /// Goes on until a file is wanted, or all is known.
+    fn advance(&mut self, alloc: Global) -> Result<Next<'a>, AllocError>
+        requires table { IsTable self.old }
+        requires first { IsBegun self.old }
+        ensures answers { self.new.answers ≡ self.old.answers }
+        ensures bundle { self.new.bundle ≡ self.old.bundle }
+        ensures budget { self.new.budget ≡ self.old.budget }
+        ensures ready { IfOk result (IsReady self.new) }
+        ensures next { IfOk result (λ next. (bytes : List ℕ)
+            → bytes_at (given self.new) 0 ≡ Some bytes → IsNext self.new bytes next) }
+    {
+        'on: loop {
+            match self.walk(alloc)? {
+                Step::Whole(at, height, cost) => {
+                    if at == 0 {
+                        return Ok(Next::Whole);
+                    }
+                    self.heights[at] = height;
+                    self.costs[at] = cost;
+                }
+                Step::Wanted(wanted) => return Ok(Next::Wanted(wanted)),
+                Step::Refused(refusal) => return Ok(Next::Refused(refusal)),
+            }
+        }
+    }
+
+    /// Takes the file that is awaited, if there is one, reads it if it is within what is left of the
+    /// budget, and goes on.
+    pub(crate) fn take(
+        &mut self,
+        alloc: Global,
+        wanted: Wanted<'a>,
+        bytes: Option<&'a [u8]>,
+    ) -> Result<Next<'a>, AllocError>
+        requires table { IsTable self.old }
+        requires wanted { IsAwaited self.old wanted (option_copied bytes) }
+        ensures bundle { self.new.bundle ≡ self.old.bundle }
+        ensures budget { self.new.budget ≡ self.old.budget }
+        ensures taken { IfOk result
+            (IsTaken self.old self.new wanted.entry (option_copied bytes.entry)) }
+    {
+        let Wanted { names, name, left } = wanted;
+        match self.open(alloc, name, bytes, left) {
+            Ok(()) => self.advance(alloc),
+            Err(Fault::Refused(cause)) => Ok(Next::Refused(Refusal { names, cause })),
+            Err(Fault::Memory) => Err(AllocError),
+        }
+    }
+
+    /// Notes the answer to a name, and adds its file, if there is one, and it is within what is left of
+    /// the budget.
+    fn open(
+        &mut self,
+        alloc: Global,
+        name: Option<&'a [u8]>,
+        bytes: Option<&'a [u8]>,
+        left: Option<u64>,
+    ) -> Result<(), Fault<Cause>>
+        requires { IsTable self.old }
+        ensures table { OnOk result (IsTable self.new) }
+        ensures heights { OnOk result (self.new.heights.items ≡ self.old.heights.items ++ 17 ∷ []) }
+        ensures given { OnOk result (given self.new ≡ given self.old
+            ++ record { name = option_copied name.entry; bytes = option_copied bytes.entry } ∷ []) }
+        ensures fails { IfErr result (RefusesWith (λ cause. (given self.new ≡ given self.old
+            ++ record { name = option_copied name.entry; bytes = option_copied bytes.entry } ∷ [])
+            × FailsToOpen (tables_of self.old) (option_copied bytes.entry) left cause)) }
+        ensures bundle { self.new.bundle ≡ self.old.bundle }
+        ensures budget { self.new.budget ≡ self.old.budget }
+    {
+        self.answers.push(Answer { name, bytes })?;
+        match open_file(alloc, bytes, self.bundle, left) {
+            Ok(file) => {
+                self.add(file)?;
+                Ok(())
+            }
+            Err(fault) => Err(fault),
+        }
+    }
+
+    /// Adds what the file says that was answered last.
+    fn add(&mut self, file: File<'a>) -> Result<(), AllocError>
+        ensures files { OnOk result (self.new.files.items ≡ self.old.files.items ++ file.entry ∷ []) }
+        ensures heights { OnOk result (self.new.heights.items ≡ self.old.heights.items ++ 17 ∷ []) }
+        ensures costs { OnOk result (self.new.costs.items ≡ self.old.costs.items ++ 0 ∷ []) }
+        ensures answers { self.new.answers ≡ self.old.answers }
+        ensures bundle { self.new.bundle ≡ self.old.bundle }
+        ensures budget { self.new.budget ≡ self.old.budget }
+    {
+        self.files.push(file)?;
+        self.heights.push(UNKNOWN)?;
+        self.costs.push(0)?;
+        Ok(())
+    }
+
+    /// The layers of the first file, each of a file whose lists are moved into it.
+    pub(crate) fn into_layers(mut self, alloc: Global) -> Result<Layers, AllocError>
+        requires table { IsTable self }
+        requires whole { (bytes : List ℕ) → bytes_at (given self) 0 ≡ Some bytes
+            → IsWithin (tables_of self) (given self) self.budget bytes }
+        requires has { OfBytes (bytes_at (given self) 0) (λ bytes. ⊤) }
+        ensures { IfOk result (AreLoaded (tables_of self.entry) (given self.entry)) }
+    {
+        let mut layers = Vec::new(alloc);
+        let mut at = 0;
+        'down: loop {
+            let file = take_file(alloc, &mut self.files, at);
+            let File {
+                metadata,
+                lists,
+                uses,
+            } = file;
+            let layer = Layer::build(alloc, metadata, lists)?;
+            layers.push(layer)?;
+            let Some(last) = last_use(&uses) else {
+                return Ok(Layers::of(layers));
+            };
+            let Some(i) = find(&self.answers, last) else {
+                unreachable!();
+            };
+            at = i;
+        }
+    }
+}
+
+/// The index of the first answer to this name.
+fn find(answers: &[Answer<'_>], name: &[u8]) -> Option<usize>
+    ensures { IsFound (answers_seen answers.now) name.now result }
+{
+    for (i, answer) in answers.iter().enumerate() {
+        if is_of(answer.name, name) {
+            return Some(i);
+        }
+    }
+    None
+}
+
+/// Whether an answer is that to a name.
+fn is_of(answered: Option<&[u8]>, name: &[u8]) -> bool
+    ensures { result ≡ is_of_name (option_copied answered.entry) name.now }
+{
+    match answered {
+        Some(answered) => answered == name,
+        None => false,
+    }
+}
+
+/// What a file says, if there is one, and it is within what is left of the budget.
+fn open_file<'a>(
+    alloc: Global,
+    bytes: Option<&'a [u8]>,
+    bundle: Option<&Bundle<'_>>,
+    left: Option<u64>,
+) -> Result<File<'a>, Fault<Cause>>
+    ensures { Outcome
+        (λ file. IsOpened (tables_given bundle.entry) (option_copied bytes.entry) left (file_seen file))
+        (FailsToOpen (tables_given bundle.entry) (option_copied bytes.entry) left) result }
+{
+    let Some(bytes) = bytes else {
+        return Err(Fault::Refused(Cause::NoFile));
+    };
+    let mut left = left;
+    if !spend(&mut left, bytes.len() as u64) {
+        return Err(Fault::Refused(Cause::OverBudget));
+    }
+    match read_file(alloc, bytes, bundle) {
+        Ok(file) => Ok(file),
+        Err(Fault::Refused(stop)) => Err(Fault::Refused(Cause::Malformed(stop))),
+        Err(Fault::Memory) => Err(Fault::Memory),
+    }
+}
+
+/// Takes the file at an index out of the list, where one that says nothing is left.
+fn take_file<'a>(alloc: Global, files: &mut Vec<File<'a>>, at: usize) -> File<'a>
+    requires { at < length files.old.items }
+    ensures taken { slice_get files.old.items at ≡ Some result }
+    ensures left { (none : File) × (files.new.items ≡ slice_set files.old.items at none) }
+{
+    mem::replace(&mut files[at], File::new(alloc))
+}
+
+/// The last name.
+fn last_use<'a>(uses: &[&'a [u8]]) -> Option<&'a [u8]>
+    ensures { MatchOption result (names_seen uses.now ≡ []) (λ last. (others : List (List ℕ))
+        × (names_seen uses.now ≡ others ++ last.now ∷ [])) }
+{
+    match uses.split_last() {
+        Some((last, _others)) => Some(*last),
+        None => None,
+    }
+}
