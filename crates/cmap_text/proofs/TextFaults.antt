@@ -15,7 +15,7 @@ use Rattle.cmap_text.specs.Salvage.{BeginsRefused, IsFirstOf, SalvagesFile, Salv
 use Rattle.cmap_text.specs.TextFiles.{IsMetadata, IsTextFile}
 use Rattle.cmap_text.specs.TextReading.{Said, StopsText, all_said, nothing_said}
 use Rattle.cmap_text.specs.TokenParsers.{Found, Refused}
-use Rattle.cmap_text.proofs.FaultPlaces.{ascend_within, first_ascends, salvaged_ascends}
+use Rattle.cmap_text.proofs.FaultPlaces.{ascend_within, first_ascends}
 use Rattle.cmap_text.proofs.RowsRead.{NoLater, read_no_later}
 use Rattle.cmap_text.proofs.Stops.{decided_text, refused_text}
 use Rattle.cmap_text.proofs.TextRead.{said_file, text_file}

@@ -1,8 +1,5 @@
 -- What a text says apart from its faults, piece by piece.
-use Rattle.std.specs.Prelude.{◌≡◌, ℕ, ◌+◌, ◌-◌, ◌≤◌, ◌&&◌, ◌||◌, ◌==◌, not, nat_le, nat_lt, Bool, true, false, List, [], ◌∷◌, ◌++◌, ◌⊎◌, flat_map, length, take, take_while, codes, bytes_eq, map, Option, Some, None, option_and_then, option_map, Result, Ok, Err, if◌then◌else◌}
-use Rattle.std.specs.List.{list_any}
-use Rattle.cmap_tokens.specs.Malformed as malformed
-use Rattle.cmap_tokens.specs.Malformed.{Malformed}
+use Rattle.std.specs.Prelude.{◌≡◌, ℕ, ◌+◌, ◌-◌, ◌≤◌, ◌&&◌, ◌||◌, ◌==◌, not, nat_le, nat_lt, Bool, true, false, List, [], ◌∷◌, ◌++◌, ◌⊎◌, flat_map, length, take, take_while, codes, map, Option, Some, None, option_and_then, option_map, Result, Ok, Err, if◌then◌else◌}
 use Rattle.cmap_tokens.specs.Pieces.{Piece, Wrong, pieces_left}
 use Rattle.cmap_tokens.specs.Tokens.{Token}
 use Rattle.cmap_tokens.specs.TokensLeft.{EndedToken, start_of, tokens_of}
@@ -15,7 +12,7 @@ pub use Rattle.cmap_text.specs.Classes.{Class, alone, class_of, class_of_malform
 pub use Rattle.cmap_text.specs.Rows.{are_rows, parts_on, rows_at, rows_of}
 use Rattle.cmap_text.specs.declared.salvage.rows.Row.{Row}
 use Rattle.cmap_text.specs.TextFiles.{CidKind, IsEntry, IsItem, IsMetadata, Item, Section, declared_by, names_used, bf_char, bf_range, cids, closer, codespace_range, opener, range, single, use_word, declares_cid}
-use Rattle.cmap_text.specs.TextReading.{Code, Said, StopsText, adding, cid_in, code_fault, code_in, codespace, destination_in, filed, is_executable, key_in, nothing_said, opened_by, sections, text_of, value_in, with_other, with_value}
+use Rattle.cmap_text.specs.TextReading.{Code, Said, StopsText, adding, cid_in, code_fault, code_in, codespace, destination_in, filed, is_executable, key_in, nothing_said, opened_by, text_of, value_in, with_other, with_value}
 use Rattle.cmap_text.specs.TokenParsers.{malformed_reason}
 
 -- ---- faults
