@@ -47,7 +47,7 @@ pub data Place : Type 0 where
 abbrev pub begun_by : Piece → Place
 begun_by piece = elim piece.token [ Ok t ↦ elim (opened_by t) [ Some section ↦ within section | None ↦ elim (key_in t) [ Some k ↦ key_value | None ↦ outside ] ] | Err w ↦ outside ]
 
--- what is alone is no value of a key, and a section is open up to a known word
+-- a malformed piece that is alone is no value of a key, and a section is open up to a known word
 abbrev pub place_after : Place → Piece → Place
 place_after outside piece = begun_by piece
 place_after key_value piece = elim piece.token [ Ok t ↦ outside | Err w ↦ elim (class_of_malformed w.kind) [ alone ↦ key_value | _ ↦ outside ] ]
