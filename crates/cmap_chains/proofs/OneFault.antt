@@ -14,7 +14,7 @@ use Rattle.cmap_layers.specs.Layers.{Layer}
 use Rattle.cmap_chains.specs.Answers.{IsByName}
 use Rattle.cmap_chains.specs.Layers.{AreLayers, Means, OfAnswer}
 use Rattle.cmap_chains.specs.Maps.{FitsBudget, HasNoMap, LeadsToFault}
-use Rattle.cmap_chains.specs.Salvage.{AreOfBundle, IsFirstPastFaults}
+use Rattle.cmap_chains.specs.Salvage.{AreOfBundle, IsFirstPastFaults, IsRefusedFor}
 use Rattle.cmap_chains.specs.Refusals.{HasLayers, IsFault, IsFirstFault, IsMissing, IsOwnFault, IsUsedAfter}
 use Rattle.cmap_chains.specs.declared.refusal.Cause.{Cause}
 use Rattle.cmap_chains.specs.declared.refusal.Cause.TheVariants.{Malformed, NoFile, ChainLength, OverBudget}
@@ -177,4 +177,4 @@ module _ (tables : Option PrefixTables) (free : AreFree tables) (answer : List �
   first_past budget bytes names cause other no_map fits leads layers faults salvages =
       let (first, more, found, begins, shows, no_budget, also) = first_map tables answer bytes budget by_name layers faults salvages no_map fits in
       let (same, one) = one_fault 16 bytes first.names names found cause (fault_only budget bytes first.names found no_budget also) (fault_only budget bytes names cause other leads) in
-      (first, more, begins, same, rw (← one) shows)
+      (first, more, begins, same, subst (λ ns. IsRefusedFor tables answer bytes ns first.cause cause) same (subst (IsRefusedFor tables answer bytes first.names first.cause) one shows))

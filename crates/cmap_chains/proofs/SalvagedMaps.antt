@@ -27,17 +27,15 @@ module _ (tables : Option PrefixTables) (answers : List ℕ → Option (List ℕ
   fails_none left OverBudget fails layers is (trail, only, within) = within (fails trail only.holds)
 
   -- a file for which the budget suffices isn't refused for the budget
-  goes_over : (fault cause : Cause) (left : Option ℕ) → IsRefusedFor fault cause → cause ≡ OverBudget → Fails (of_file (Means tables) answers 16) bytes budget left fault → FitsBudget tables answers bytes budget → ⊥
-  goes_over fault cause left (inl same) over fails (trail, only, within) = within ((subst (λ c. Fails (of_file (Means tables) answers 16) bytes budget left c) (sym same ∙ over) fails) trail only.holds)
-  goes_over fault cause left (inr (inl (start, end, less, fault_is, cause_is))) over fails fits = absurd (cc)
-  goes_over fault cause left (inr (inr (first, stop, less, fault_is, cause_is))) over fails fits = absurd (cc)
+  goes_over : (names : List (List ℕ)) (fault cause : Cause) (left : Option ℕ) → IsRefusedFor tables answers bytes names fault cause → cause ≡ OverBudget → Fails (of_file (Means tables) answers 16) bytes budget left fault → FitsBudget tables answers bytes budget → ⊥
+  goes_over names fault cause left shows over fails (trail, only, within) = within ((subst (λ c. Fails (of_file (Means tables) answers 16) bytes budget left c) (subst (IsRefusedFor tables answers bytes names fault) over shows) fails) trail only.holds)
 
   module _ (by_name : IsByName answers) (layers : List Layer) (faults : List NamedFault) where
     abbrev EndsSo : List Reading → Opening → Type 0
-    EndsSo readings after = Ends (of_file (Means tables) answers 16) bytes (λ names cause. IsFaultWithin tables answers budget 16 bytes names cause) [] budget (record { layers = layers; readings = readings; after = after })
+    EndsSo readings after = Ends (IsRefusedFor tables answers bytes) (of_file (Means tables) answers 16) bytes (λ names cause. IsFaultWithin tables answers budget 16 bytes names cause) [] budget (record { layers = layers; readings = readings; after = after })
 
     ends_so : (salvages : SalvagesMap tables answers bytes budget layers faults) → EndsSo salvages.0 salvages.1
-    ends_so (readings, after, is, listed) = salvages_end tables answers by_name 16 [] bytes (record { left = budget; closed = false }) (record { layers = layers; readings = readings; after = after }) refl is
+    ends_so (readings, after, is, listed) = salvages_end tables answers bytes by_name 16 [] bytes refl (record { left = budget; closed = false }) (record { layers = layers; readings = readings; after = after }) refl is
 
     pub right_map : SalvagesMap tables answers bytes budget layers faults → GivesMap tables answers bytes budget layers faults
     right_map salvages other is fits = by (ends_so salvages)
@@ -65,14 +63,14 @@ module _ (tables : Option PrefixTables) (answers : List ℕ → Option (List ℕ
 
     -- where no budget is passed, the first fault is none of the budget
     pub first_map : SalvagesMap tables answers bytes budget layers faults → HasNoMap tables answers bytes → FitsBudget tables answers bytes budget
-        → (first : NamedFault) × (more : List NamedFault) × (cause : Cause) × (faults ≡ first ∷ more) × IsRefusedFor first.cause cause × (cause ≢ OverBudget) × LeadsToFault tables answers bytes budget first.names cause
+        → (first : NamedFault) × (more : List NamedFault) × (cause : Cause) × (faults ≡ first ∷ more) × IsRefusedFor tables answers bytes first.names first.cause cause × (cause ≢ OverBudget) × LeadsToFault tables answers bytes budget first.names cause
     first_map salvages no_map fits = by (ends_so salvages)
       where
-        by : EndsSo salvages.0 salvages.1 → (first : NamedFault) × (more : List NamedFault) × (cause : Cause) × (faults ≡ first ∷ more) × IsRefusedFor first.cause cause × (cause ≢ OverBudget) × LeadsToFault tables answers bytes budget first.names cause
+        by : EndsSo salvages.0 salvages.1 → (first : NamedFault) × (more : List NamedFault) × (cause : Cause) × (faults ≡ first ∷ more) × IsRefusedFor tables answers bytes first.names first.cause cause × (cause ≢ OverBudget) × LeadsToFault tables answers bytes budget first.names cause
         by (right none resolves still_open) = absurd (no_map layers resolves.only.holds)
         by (wrong fault begins refuted) =
             let (more, is) = begins_so salvages.0 fault begins in
-            (fault, more, refuted.cause, salvages.3 ∙ is, refuted.shows, λ over. goes_over fault.cause refuted.cause refuted.left refuted.shows over refuted.fails fits, subst (λ names. IsFaultWithin tables answers budget 16 bytes names refuted.cause) (sym refuted.named) refuted.leads_on)
+            (fault, more, refuted.cause, salvages.3 ∙ is, refuted.shows, λ over. goes_over fault.names fault.cause refuted.cause refuted.left refuted.shows over refuted.fails fits, subst (λ names. IsFaultWithin tables answers budget 16 bytes names refuted.cause) (sym refuted.named) refuted.leads_on)
 
 -- ---- how many layers there are
 module _ (tables : Option PrefixTables) (answers : List ℕ → Option (List ℕ) → Type 0) where

@@ -1,16 +1,15 @@
 -- Files over the files that they use, where some are at fault: each is read past its faults, and reading goes on after a use that gives no file.
-use Rattle.std.specs.Prelude.{◌≡◌, ◌≤◌, ℕ, zero, suc, Bool, true, false, ◌&&◌, if◌then◌else◌, List, [], ◌∷◌, ◌++◌, ◌⊎◌, bytes_eq, length, map, Option, Some, None}
+use Rattle.std.specs.Prelude.{◌≡◌, ℕ, zero, suc, Bool, true, false, ◌&&◌, if◌then◌else◌, List, [], ◌∷◌, ◌++◌, ◌⊎◌, bytes_eq, length, map, Option, Some, None}
 use Rattle.std.specs.List.{last_or, list_any}
 use Rattle.cmap_values.specs.Files.{File}
 use Rattle.cmap_values.specs.ListsAppended.{no_file}
 use Rattle.cmap_values.specs.Only.{IsOnly, HoldsOfNone}
-use Rattle.cmap_values.specs.declared.fault.Reason.TheVariants.{UnclosedString}
 use Rattle.cmap_values.specs.declared.fault.Stop.{Stop}
 use Rattle.cmap_binary.specs.BinaryFiles.{IsMarkedBinary}
 use Rattle.cmap_binary.specs.BinarySalvage.{SalvagesBinary}
 use Rattle.cmap_packed.specs.Bundles.{HoldsTables, PrefixTables}
 use Rattle.cmap_layers.specs.Layers.{Layer, layer_of}
-use Rattle.cmap_text.specs.Salvage.{SalvagesFile}
+use Rattle.cmap_text.specs.Salvage.{IsFirstOf, SalvagesFile}
 use Rattle.cmap_chains.specs.Budgets.{IsOver}
 use Rattle.cmap_chains.specs.BytesSpent.{Leaves}
 use Rattle.cmap_chains.specs.Layers.{Means}
@@ -122,14 +121,21 @@ list_each listed [] = listed
 list_each listed (reading ∷ readings) = list_each (list_causes listed reading.names reading.causes) readings
 
 -- ---- a refusal
--- a string that isn't closed, where it begins or where that is seen
-abbrev pub unclosed_at : ℕ → Cause
-unclosed_at offset = Malformed (record { offset = offset; reason = UnclosedString })
+-- bytes that mean no file have this first fault past which they are read, and are refused for that one: of a binary file it is the same
+abbrev pub IsFirstOfBytes : Option PrefixTables → List ℕ → Stop → Stop → Type 0
+IsFirstOfBytes None bytes fault refusal = IsFirstOf bytes fault refusal
+IsFirstOfBytes (Some tables) bytes fault refusal = (IsMarkedBinary bytes × (fault ≡ refusal)) ⊎ ((IsMarkedBinary bytes → ⊥) × IsFirstOf bytes fault refusal)
 
--- for this fault a file is refused, and this is the cause: the fault itself; but only the end of a text shows that a string isn't closed, and in rows a fault may come before that for which the text is refused
-abbrev pub IsRefusedFor : Cause → Cause → Type 0
-IsRefusedFor fault cause = (cause ≡ fault) ⊎ ((start : ℕ) × (end : ℕ) × (start ≤ end) × (fault ≡ unclosed_at start) × (cause ≡ unclosed_at end))
-    ⊎ ((first : Stop) × (stop : Stop) × (first.offset ≤ stop.offset) × (fault ≡ Malformed first) × (cause ≡ Malformed stop))
+module _ (tables : Option PrefixTables) (answers : List ℕ → Option (List ℕ) → Type 0) (top : List ℕ) where
+  -- the bytes of the file to which names lead: the last of them is its name, and the top file has none
+  abbrev pub IsLedTo : Option (List ℕ) → List ℕ → Type 0
+  IsLedTo None bytes = bytes ≡ top
+  IsLedTo (Some name) bytes = answers name (Some bytes)
+
+  -- the file to which the names lead has this first fault, and is refused with that cause
+  abbrev pub IsRefusedFor : List (List ℕ) → Cause → Cause → Type 0
+  IsRefusedFor names fault (Malformed refusal) = (bytes : List ℕ) × (first : Stop) × IsLedTo (last_or None names) bytes × (fault ≡ Malformed first) × IsFirstOfBytes tables bytes first refusal
+  IsRefusedFor names fault cause = fault ≡ cause
 
 -- the tables are those of a bundle, if there are any
 abbrev pub AreOfBundle : Option PrefixTables → Type 0
@@ -145,11 +151,11 @@ module _ (tables : Option PrefixTables) (answers : List ℕ → Option (List ℕ
 
   -- the first fault is one for which the file is refused
   abbrev pub BeginsWithFault : List NamedFault → Type 0
-  BeginsWithFault faults = (first : NamedFault) × (more : List NamedFault) × (cause : Cause) × (faults ≡ first ∷ more) × IsRefusedFor first.cause cause × LeadsToFault tables answers bytes budget first.names cause
+  BeginsWithFault faults = (first : NamedFault) × (more : List NamedFault) × (cause : Cause) × (faults ≡ first ∷ more) × IsRefusedFor tables answers bytes first.names first.cause cause × LeadsToFault tables answers bytes budget first.names cause
 
   -- the first fault has these names, and the file is refused for it with this cause
   abbrev pub BeginsWith : List NamedFault → List (List ℕ) → Cause → Type 0
-  BeginsWith faults names cause = (first : NamedFault) × (more : List NamedFault) × (faults ≡ first ∷ more) × (first.names ≡ names) × IsRefusedFor first.cause cause
+  BeginsWith faults names cause = (first : NamedFault) × (more : List NamedFault) × (faults ≡ first ∷ more) × (first.names ≡ names) × IsRefusedFor tables answers bytes names first.cause cause
 
   -- whatever is read past the faults begins so
   abbrev pub IsFirstPastFaults : List (List ℕ) → Cause → Type 0

@@ -17,12 +17,13 @@ use Rattle.cmap_text.specs.Rows.{parts_on, rows_at, rows_of}
 use Rattle.cmap_text.specs.declared.salvage.rows.Row.{Row}
 use Rattle.cmap_text.specs.TextFiles.{CidKind, IsCid, IsCode, IsDestination, IsEntry, Section, bf_char, bf_range, cids, codespace_range, declares_cid, range, single, use_word}
 use Rattle.cmap_text.specs.TextReading.{Code, adding, cid_in, code_in, codespace, destination_in, filed, is_executable, key_in, opened_by, text_of, value_in, with_other}
-use Rattle.cmap_text.specs.Salvage.{Class, Entry, Filled, Mended, Parts, Rest, Salvaged, State, Texts, adding_empty, after_entry, after_malformed, after_part, alone, at_fault, begin_item, begin_line, class_of, close_bracket, code_of_piece, empty_text_in, empty_text_of, end_list, entry_fault, fault_of, fill, fill_cid, fill_end, fill_high, fill_texts, first_read, if_cid, if_code, if_text, finished, having_lists, in_brackets, in_entry, in_line, in_list, is_closer, is_nominal, is_read_in_rows, is_short, is_stray, item, known, lacks_bracket, list_after, list_begun, losing, mend, mend_high, mend_text, new_entry, no_parts, no_text, none, nothing_salvaged, one, open_bracket, own_fault, part, pass_in_entry, pass_in_line, pass_in_list, passed_over, past_texts, read_in_rows, rest_of, rest_of_list, salvaged, saying, second_filled, second_mended, short_list, take_after_texts, take_all, take_in_entry, take_in_list, take_in_row, take_item, take_part, take_piece, take_rows, take_text, take_unless_stray, take_use, take_value, taken, text_in, third_filled, third_mended, two, value, widened, with_fault, with_piece}
+use Rattle.cmap_text.specs.Salvage.{Class, Entry, Filled, Mended, Parts, Rest, Salvaged, State, Texts, adding_empty, after_entry, after_malformed, after_part, alone, at_fault, begin_item, begin_line, class_of, close_bracket, code_of_piece, empty_text_in, empty_text_of, end_list, entry_fault, fault_of, fill, fill_cid, fill_end, fill_high, fill_texts, first_read, if_cid, if_code, if_text, finished, having_lists, in_brackets, in_entry, in_line, in_list, is_closer, is_nominal, is_read_in_rows, is_short, is_stray, item, known, lacks_bracket, list_after, list_begun, losing, mend, mend_high, mend_text, new_entry, no_parts, no_text, none, nothing_salvaged, one, open_bracket, own_fault, part, pass_in_entry, pass_in_line, pass_in_list, passed_over, past_texts, places_of, read_in_rows, rest_of, rest_of_list, salvaged, saying, second_filled, second_mended, short_list, take_after_texts, take_all, take_in_entry, take_in_list, take_in_row, take_item, take_part, take_piece, take_rows, take_text, take_unless_stray, take_use, take_value, taken, text_in, third_filled, third_mended, two, value, widened, with_fault, with_piece}
 use Rattle.cmap_text.specs.Salvage as salvage
-use Rattle.cmap_text.specs.Standing.{AreDeclared, AreParts, AreTexts, IsEmptyString, Stands, StandsAs, a_list, a_longer_end, an_empty_text, an_entry, between, empty_texts, entered, lone_piece, next_part, next_text, no_part, nothing, other_part, passed, stray_name}
+use Rattle.cmap_text.specs.Standing.{AreDeclared, AreParts, AreTexts, IsEmptyString, Stands, StandsAs, a_list, a_longer_end, an_empty_text, an_entry, between, empty_texts, entered, lone_piece, next_part, next_text, no_part, nothing, other_part, outside, passed, place_after, place_at, stray_name, within}
 use Rattle.cmap_text.specs.Standing as standing
 use Rattle.cmap_text.proofs.TokensRead.{cid_found, code_found, destination_found, empty_found, is_executable-found, some_bound, tested, written}
 use Rattle.cmap_text.proofs.FaultsAdded.{by_bool, by_class}
+use Rattle.cmap_text.proofs.Places.{Fits, PartsFit, place_at-more, place_goes, place_of, row_begins, row_goes}
 
 module _ (rows : Bool) where
   -- what is said in some pieces
@@ -37,8 +38,9 @@ module _ (rows : Bool) where
   CodesAre (one start) tokens = (a : Token) × (first : List ℕ) × (tokens ≡ a ∷ []) × IsCode a first × (start ≡ written first)
   CodesAre (two start end) tokens = (a b : Token) × (first last : List ℕ) × (tokens ≡ a ∷ b ∷ []) × IsCode a first × IsCode b last × (start ≡ written first) × (end ≡ written last)
 
-  record InEntry (parts : Parts) (seen : List Piece) (lists : Lists) : Type 0 where
+  record InEntry (section : Section) (parts : Parts) (seen : List Piece) (lists : Lists) : Type 0 where
     before : List Piece
+    is_open : place_at outside before ≡ within section
     pieces : List Piece
     tokens : List Token
     seen_is : seen ≡ before ++ pieces
@@ -48,6 +50,7 @@ module _ (rows : Bool) where
 
   record InList (list : Texts) (seen : List Piece) (lists : Lists) : Type 0 where
     before : List Piece
+    is_open : place_at outside before ≡ within bf_range
     opening : List Piece
     others : List Piece
     a : Token
@@ -76,19 +79,19 @@ module _ (rows : Bool) where
   pass_all {seen} {lists} said [] = subst (λ ps. Said ps lists) (sym (append-nil seen)) said
   pass_all {seen} {lists} said (piece ∷ pieces) = subst (λ ps. Said ps lists) (append_assoc seen (piece ∷ []) pieces) (pass_all (pass said piece) pieces)
 
-  enter : {seen others : List Piece} {lists : Lists} {more : List Declaration} → Said seen lists → StandsAs rows others more → Said (seen ++ others) (adding lists more)
-  enter {more = more} said stands_as = record { declared = said.declared ++ more; stands = entered said.stands stands_as; lists_are = ap (λ l. adding l more) said.lists_are ∙ sym (lists_of-append said.declared more) }
+  enter : {section : Section} {seen others : List Piece} {lists : Lists} {more : List Declaration} → Said seen lists → place_at outside seen ≡ within section → StandsAs rows section others more → Said (seen ++ others) (adding lists more)
+  enter {more = more} said is_open stands_as = record { declared = said.declared ++ more; stands = entered said.stands is_open stands_as; lists_are = ap (λ l. adding l more) said.lists_are ∙ sym (lists_of-append said.declared more) }
 
   -- all of an entry that isn't whole is passed, and a list stands as far as it is read
-  entry_said : {parts : Parts} {seen : List Piece} {lists : Lists} → InEntry parts seen lists → Said seen lists
+  entry_said : {section : Section} {parts : Parts} {seen : List Piece} {lists : Lists} → InEntry section parts seen lists → Said seen lists
   entry_said {lists = lists} inside = subst (λ ps. Said ps lists) (sym inside.seen_is) (pass_all inside.said inside.pieces)
 
   list_said : {list : Texts} {seen : List Piece} {lists : Lists} → InList list seen lists → Said seen lists
-  list_said inside = rw (inside.seen_is, inside.lists_are) (enter inside.said (a_list inside.opens inside.first_is inside.last_is inside.texts_are inside.few))
+  list_said inside = rw (inside.seen_is, inside.lists_are) (enter inside.said inside.is_open (a_list inside.opens inside.first_is inside.last_is inside.texts_are inside.few))
 
   -- ---- what holds in each state
   abbrev At : State → List Piece → Lists → Type 0
-  At (in_entry entry) seen lists = InEntry entry.parts seen lists
+  At (in_entry entry) seen lists = place_at outside seen ≡ within entry.section → InEntry entry.section entry.parts seen lists
   At (in_list list) seen lists = InList list seen lists
   At _ seen lists = Said seen lists
 
@@ -98,8 +101,8 @@ module _ (rows : Bool) where
   kept : {seen : List Piece} {s : State × Salvaged} → At s.0 seen s.1.said.lists → Keeps seen s
   kept holds = record { at = holds }
 
-  fresh : {seen : List Piece} {lists : Lists} → Said seen lists → InEntry none seen lists
-  fresh {seen} said = record { before = seen; pieces = []; tokens = []; seen_is = sym (append-nil seen); said = said; parts_are = no_part; codes_are = refl }
+  fresh : {section : Section} {seen : List Piece} {lists : Lists} → Said seen lists → place_at outside seen ≡ within section → InEntry section none seen lists
+  fresh {section} {seen} said is_open = record { before = seen; is_open = is_open; pieces = []; tokens = []; seen_is = sym (append-nil seen); said = said; parts_are = no_part; codes_are = refl }
 
   by_class_is : (P : State × Salvaged → Type 0) {a b c d e : State × Salvaged} (k : Class) → (k ≡ known → P a) → (k ≡ alone → P b) → (k ≡ open_bracket → P c) → (k ≡ close_bracket → P d) → (k ≡ part → P e) → P (elim k [ known ↦ a | alone ↦ b | open_bracket ↦ c | close_bracket ↦ d | part ↦ e ])
   by_class_is P known a b c d e = a refl
@@ -209,9 +212,10 @@ module _ (rows : Bool) where
     list_passed : (old : Salvaged) (rest : Rest) → Said next old.said.lists → Keeps next (pass_in_list old rest piece)
     list_passed old rest said = by_class (Keeps next) (item_keeps old said) (kept said) (kept said) (kept (entry_at rest old.said.lists said)) (kept said) (class_of piece)
 
-    lone_entry : (parts : Parts) (lists : Lists) → InEntry parts seen lists → class_of piece ≡ alone → InEntry parts next lists
-    lone_entry parts lists inside is = record {
+    lone_entry : (section : Section) (parts : Parts) (lists : Lists) → InEntry section parts seen lists → class_of piece ≡ alone → InEntry section parts next lists
+    lone_entry section parts lists inside is = record {
       before = inside.before;
+      is_open = inside.is_open;
       pieces = inside.pieces ++ piece ∷ [];
       tokens = inside.tokens;
       seen_is = next_is ∙ ap (λ ps. ps ++ piece ∷ []) inside.seen_is ∙ append_assoc inside.before inside.pieces (piece ∷ []);
@@ -252,17 +256,18 @@ module _ (rows : Bool) where
           by (Some units) is = rw (is, if_text) (each units (destination_found t units is))
           by None is = rw (is, if_text) fails
 
-      standing_so : (parts : Parts) (inside : InEntry parts seen lists) (declared : List Declaration) → StandsAs rows (inside.pieces ++ piece ∷ []) declared → Said next (adding lists declared)
-      standing_so parts inside declared stands =
+      standing_so : (section : Section) (parts : Parts) (inside : InEntry section parts seen lists) (declared : List Declaration) → StandsAs rows section (inside.pieces ++ piece ∷ []) declared → Said next (adding lists declared)
+      standing_so section parts inside declared stands =
           let same = next_is ∙ ap (λ ps. ps ++ piece ∷ []) inside.seen_is ∙ append_assoc inside.before inside.pieces (piece ∷ []) in
-          subst (λ ps. Said ps (adding lists declared)) (sym same) (enter inside.said stands)
+          subst (λ ps. Said ps (adding lists declared)) (sym same) (enter inside.said inside.is_open stands)
 
-      whole : (parts : Parts) (inside : InEntry parts seen lists) (section : Section) (declared : List Declaration) → IsEntry section (inside.tokens ++ t ∷ []) declared [] → Said next (adding lists declared)
-      whole parts inside section declared is = standing_so parts inside declared (an_entry (next_part inside.parts_are piece t token) section is)
+      whole : (open_section : Section) (parts : Parts) (inside : InEntry open_section parts seen lists) (section : Section) → open_section ≡ section → (declared : List Declaration) → IsEntry section (inside.tokens ++ t ∷ []) declared [] → Said next (adding lists declared)
+      whole open_section parts inside section same declared is = standing_so open_section parts inside declared (subst (λ s. StandsAs rows s (inside.pieces ++ piece ∷ []) declared) (sym same) (an_entry {section = section} (next_part inside.parts_are piece t token) is))
 
-      one_more : (parts new : Parts) (inside : InEntry parts seen lists) → CodesAre new (inside.tokens ++ t ∷ []) → InEntry new next lists
-      one_more parts new inside codes = record {
+      one_more : (section : Section) (parts new : Parts) (inside : InEntry section parts seen lists) → CodesAre new (inside.tokens ++ t ∷ []) → InEntry section new next lists
+      one_more section parts new inside codes = record {
         before = inside.before;
+        is_open = inside.is_open;
         pieces = inside.pieces ++ piece ∷ [];
         tokens = inside.tokens ++ t ∷ [];
         seen_is = next_is ∙ ap (λ ps. ps ++ piece ∷ []) inside.seen_is ∙ append_assoc inside.before inside.pieces (piece ∷ []);
@@ -271,8 +276,8 @@ module _ (rows : Bool) where
         codes_are = codes;
       }
 
-      high_fills : (entry : Entry) (low : Code) → InEntry (one low) seen lists → Fills (fill_high lists entry low t)
-      high_fills entry low inside = code_fills _ (λ high bytes is_code same. by high bytes is_code same (codespace low high) refl)
+      high_fills : (entry : Entry) (low : Code) → InEntry entry.section (one low) seen lists → entry.section ≡ codespace_range → Fills (fill_high lists entry low t)
+      high_fills entry low inside same_section = code_fills _ (λ high bytes is_code same. by high bytes is_code same (codespace low high) refl)
         where
           by : (high : Code) (bytes : List ℕ) → IsCode t bytes → high ≡ written bytes → (found : Option (List Declaration)) → codespace low high ≡ found → Fills (elim (codespace low high) [ Some declared ↦ Ok (in_entry (new_entry entry.section), adding lists declared) | None ↦ Err UnequalLengths ])
           by high bytes is_code same (Some declared) is =
@@ -280,50 +285,51 @@ module _ (rows : Bool) where
               let (equal, gives) = tested (low.len == high.len) _ declared is in
               let lengths : length first ≡ length bytes = sym (ap (λ c. c.len) low_is) ∙ eqb-true low.len high.len equal ∙ ap (λ c. c.len) same in
               let declares = sym gives ∙ ap (λ c. Declaration.codespace (record { len = c.len; low = c.number; high = high.number }) ∷ []) low_is ∙ ap (λ c. Declaration.codespace (record { len = length first; low = big_endian first; high = c.number }) ∷ []) same in
-              rw is (fills (fresh (whole (one low) inside codespace_range declared (a, t, first, bytes, ap (λ ts. ts ++ t ∷ []) tokens_are, a_code, is_code, lengths, declares))))
+              rw is (fills (fresh (whole entry.section (one low) inside codespace_range same_section declared (a, t, first, bytes, ap (λ ts. ts ++ t ∷ []) tokens_are, a_code, is_code, lengths, declares))))
           by high bytes is_code same None is = rw is fails
 
-      second_code : (entry : Entry) (start : Code) → InEntry (one start) seen lists → Fills (fill_end lists entry start t)
+      second_code : (entry : Entry) (start : Code) → InEntry entry.section (one start) seen lists → Fills (fill_end lists entry start t)
       second_code entry start inside = code_fills _ (
           λ end bytes is_code same.
           let (a, first, tokens_are, a_code, start_is) = inside.codes_are in
-          fills (one_more (one start) (two start end) inside (a, t, first, bytes, ap (λ ts. ts ++ t ∷ []) tokens_are, a_code, is_code, start_is, same))
+          fills (λ _. one_more entry.section (one start) (two start end) inside (a, t, first, bytes, ap (λ ts. ts ++ t ∷ []) tokens_are, a_code, is_code, start_is, same))
           )
 
-      second_fills : (section : Section) (entry : Entry) (start : Code) → InEntry (one start) seen lists → Fills (second_filled section lists entry start t)
-      second_fills codespace_range entry start inside = high_fills entry start inside
-      second_fills (cids kind single) entry start inside = cid_fills _ (
+      second_fills : (section : Section) (entry : Entry) (start : Code) → InEntry entry.section (one start) seen lists → entry.section ≡ section → Fills (second_filled section lists entry start t)
+      second_fills codespace_range entry start inside same = high_fills entry start inside same
+      second_fills (cids kind single) entry start inside same = cid_fills _ (
           λ cid is_cid.
           let (a, first, tokens_are, a_code, start_is) = inside.codes_are in
           let declared = declares_cid kind start.len (filed start start.number cid).1 ∷ [] in
-          fills (fresh (whole (one start) inside (cids kind single) declared (a, t, first, cid, ap (λ ts. ts ++ t ∷ []) tokens_are, a_code, is_cid, ap (λ c. declares_cid kind c.len (filed c c.number cid).1 ∷ []) start_is)))
+          fills (fresh (whole entry.section (one start) inside (cids kind single) same declared (a, t, first, cid, ap (λ ts. ts ++ t ∷ []) tokens_are, a_code, is_cid, ap (λ c. declares_cid kind c.len (filed c c.number cid).1 ∷ []) start_is)))
           )
-      second_fills (cids kind range) entry start inside = second_code entry start inside
-      second_fills bf_range entry start inside = second_code entry start inside
-      second_fills bf_char entry start inside = text_fills _ (
+      second_fills (cids kind range) entry start inside same = second_code entry start inside
+      second_fills bf_range entry start inside same = second_code entry start inside
+      second_fills bf_char entry start inside same = text_fills _ (
           λ units is_text.
           let (a, first, tokens_are, a_code, start_is) = inside.codes_are in
           let declared = text_of start.number start.number units in
-          fills (fresh (whole (one start) inside bf_char declared (a, t, first, units, ap (λ ts. ts ++ t ∷ []) tokens_are, a_code, is_text, ap (λ c. text_of c.number c.number units) start_is)))
+          fills (fresh (whole entry.section (one start) inside bf_char same declared (a, t, first, units, ap (λ ts. ts ++ t ∷ []) tokens_are, a_code, is_text, ap (λ c. text_of c.number c.number units) start_is)))
           )
 
-      third_cid : (kind : CidKind) (entry : Entry) (start end : Code) → InEntry (two start end) seen lists → Fills (fill_cid lists entry kind start end t)
-      third_cid kind entry start end inside = cid_fills _ (
+      third_cid : (kind : CidKind) (entry : Entry) (start end : Code) → InEntry entry.section (two start end) seen lists → entry.section ≡ cids kind range → Fills (fill_cid lists entry kind start end t)
+      third_cid kind entry start end inside same = cid_fills _ (
           λ cid is_cid.
           let (a, b, first, last, tokens_are, a_code, b_code, start_is, end_is) = inside.codes_are in
           let declared = declares_cid kind start.len (filed start end.number cid).1 ∷ [] in
           let declares = ap (λ c. declares_cid kind c.len (filed c end.number cid).1 ∷ []) start_is ∙ ap (λ c. declares_cid kind (length first) (filed (written first) c.number cid).1 ∷ []) end_is in
-          fills (fresh (whole (two start end) inside (cids kind range) declared (a, b, t, first, last, cid, ap (λ ts. ts ++ t ∷ []) tokens_are, a_code, b_code, is_cid, declares)))
+          fills (fresh (whole entry.section (two start end) inside (cids kind range) same declared (a, b, t, first, last, cid, ap (λ ts. ts ++ t ∷ []) tokens_are, a_code, b_code, is_cid, declares)))
           )
 
-      list_opens : (entry : Entry) (start end : Code) → InEntry (two start end) seen lists → is_executable (codes "[") t ≡ true → InList (list_begun lists entry start end) next lists
-      list_opens entry start end inside opens =
+      list_opens : (entry : Entry) (start end : Code) → InEntry entry.section (two start end) seen lists → entry.section ≡ bf_range → is_executable (codes "[") t ≡ true → InList (list_begun lists entry start end) next lists
+      list_opens entry start end inside same opens =
           let (a, b, first, last, tokens_are, a_code, b_code, start_is, end_is) = inside.codes_are in
           let tokens : inside.tokens ++ t ∷ [] ≡ a ∷ b ∷ Token.Name false (codes "[") ∷ [] = ap (λ ts. ts ++ t ∷ []) tokens_are ∙ ap (λ u. a ∷ b ∷ u ∷ []) (is_executable-found (codes "[") t opens) in
           let opening = inside.pieces ++ piece ∷ [] in
           let begins = next_is ∙ ap (λ ps. ps ++ piece ∷ []) inside.seen_is ∙ append_assoc inside.before inside.pieces (piece ∷ []) in
           record {
             before = inside.before;
+            is_open = inside.is_open ∙ ap within same;
             opening = opening;
             others = [];
             a = a;
@@ -346,59 +352,63 @@ module _ (rows : Bool) where
             lists_are = sym (append_lists-none lists);
           }
 
-      third_texts : (entry : Entry) (start end : Code) → InEntry (two start end) seen lists → Fills (fill_texts lists entry start end t)
-      third_texts entry start end inside = by (is_executable (codes "[") t) refl
+      third_texts : (entry : Entry) (start end : Code) → InEntry entry.section (two start end) seen lists → entry.section ≡ bf_range → Fills (fill_texts lists entry start end t)
+      third_texts entry start end inside same = by (is_executable (codes "[") t) refl
         where
           by : (opens : Bool) → is_executable (codes "[") t ≡ opens → Fills (fill_texts lists entry start end t)
-          by true is = rw (is, fill_texts) (fills (list_opens entry start end inside is))
+          by true is = rw (is, fill_texts) (fills (list_opens entry start end inside same is))
           by false is = rw (is, fill_texts) (text_fills (λ units. Ok (in_entry (new_entry entry.section), adding lists (text_of start.number end.number units))) (
               λ units is_text.
               let (a, b, first, last, tokens_are, a_code, b_code, start_is, end_is) = inside.codes_are in
               let declared = text_of start.number end.number units in
               let declares = ap (λ c. text_of c.number end.number units) start_is ∙ ap (λ c. text_of (big_endian first) c.number units) end_is in
-              fills (fresh (whole (two start end) inside bf_range declared (a, b, first, last, a_code, b_code, inl (t, units, ap (λ ts. ts ++ t ∷ []) tokens_are, is_text, declares))))
+              fills (fresh (whole entry.section (two start end) inside bf_range same declared (a, b, first, last, a_code, b_code, inl (t, units, ap (λ ts. ts ++ t ∷ []) tokens_are, is_text, declares))))
               ))
 
-      third_fills : (section : Section) (entry : Entry) (start end : Code) → InEntry (two start end) seen lists → Fills (third_filled section lists entry start end t)
-      third_fills codespace_range entry start end inside = third_texts entry start end inside
-      third_fills (cids kind extent) entry start end inside = third_cid kind entry start end inside
-      third_fills bf_range entry start end inside = third_texts entry start end inside
-      third_fills bf_char entry start end inside = third_texts entry start end inside
+      third_fills : (section : Section) (entry : Entry) (start end : Code) → InEntry entry.section (two start end) seen lists → entry.section ≡ section → places_of section ≡ 3 → Fills (third_filled section lists entry start end t)
+      third_fills codespace_range entry start end inside same fit = absurd (cc)
+      third_fills (cids kind range) entry start end inside same fit = third_cid kind entry start end inside same
+      third_fills (cids kind single) entry start end inside same fit = absurd (cc)
+      third_fills bf_range entry start end inside same fit = third_texts entry start end inside same
+      third_fills bf_char entry start end inside same fit = absurd (cc)
 
-      all_fill : (entry : Entry) → InEntry entry.parts seen lists → Fills (fill lists entry t)
-      all_fill entry inside = by entry.parts refl inside
+      all_fill : (entry : Entry) → PartsFit entry.section entry.parts → InEntry entry.section entry.parts seen lists → Fills (fill lists entry t)
+      all_fill entry fit inside = by entry.parts refl fit inside
         where
-          by : (parts : Parts) → entry.parts ≡ parts → InEntry parts seen lists → Fills (fill lists entry t)
-          by none is has = rw (is, fill) (code_fills _ (λ code bytes is_code same. fills (one_more none (one code) has (t, bytes, ap (λ ts. ts ++ t ∷ []) has.codes_are, is_code, same))))
-          by (one start) is has = rw (is, fill) (second_fills entry.section entry start has)
-          by (two start end) is has = rw (is, fill) (third_fills entry.section entry start end has)
+          by : (parts : Parts) → entry.parts ≡ parts → PartsFit entry.section parts → InEntry entry.section parts seen lists → Fills (fill lists entry t)
+          by none is fit has = rw (is, fill) (code_fills _ (λ code bytes is_code same. fills (λ _. one_more entry.section none (one code) has (t, bytes, ap (λ ts. ts ++ t ∷ []) has.codes_are, is_code, same))))
+          by (one start) is fit has = rw (is, fill) (second_fills entry.section entry start has refl)
+          by (two start end) is fit has = rw (is, fill) (third_fills entry.section entry start end has refl fit)
 
       -- ---- a part at fault that fills its place
-      empty_stands : (entry : Entry) (start : Code) → InEntry (one start) seen lists → IsEmptyString t → At (in_entry (new_entry entry.section)) next (adding lists (text_of start.number start.number []))
-      empty_stands entry start inside empty =
+      stands_in : {section other : Section} {pieces : List Piece} {declared : List Declaration} → section ≡ other → StandsAs rows other pieces declared → StandsAs rows section pieces declared
+      stands_in {pieces = pieces} {declared = declared} same stands = subst (λ s. StandsAs rows s pieces declared) (sym same) stands
+
+      empty_stands : (entry : Entry) (start : Code) → InEntry entry.section (one start) seen lists → entry.section ≡ bf_char → IsEmptyString t → At (in_entry (new_entry entry.section)) next (adding lists (text_of start.number start.number []))
+      empty_stands entry start inside same empty =
           let (a, first, tokens_are, a_code, start_is) = inside.codes_are in
           let parts = subst (AreParts rows (inside.pieces ++ piece ∷ [])) (ap (λ ts. ts ++ t ∷ []) tokens_are) (next_part inside.parts_are piece t token) in
-          let stands = subst (λ n. StandsAs rows (inside.pieces ++ piece ∷ []) (text_of n n [])) (sym (ap (λ c. c.number) start_is)) (an_empty_text parts a_code empty) in
-          fresh (standing_so (one start) inside (text_of start.number start.number []) stands)
+          let stands = subst (λ n. StandsAs rows bf_char (inside.pieces ++ piece ∷ []) (text_of n n [])) (sym (ap (λ c. c.number) start_is)) (an_empty_text parts a_code empty) in
+          fresh (standing_so entry.section (one start) inside (text_of start.number start.number []) (stands_in same stands))
 
-      empties_stand : (entry : Entry) (start end : Code) → InEntry (two start end) seen lists → IsEmptyString t → At (in_entry (new_entry entry.section)) next (adding lists (text_of start.number end.number []))
-      empties_stand entry start end inside empty =
+      empties_stand : (entry : Entry) (start end : Code) → InEntry entry.section (two start end) seen lists → entry.section ≡ bf_range → IsEmptyString t → At (in_entry (new_entry entry.section)) next (adding lists (text_of start.number end.number []))
+      empties_stand entry start end inside same empty =
           let (a, b, first, last, tokens_are, a_code, b_code, start_is, end_is) = inside.codes_are in
           let parts = subst (AreParts rows (inside.pieces ++ piece ∷ [])) (ap (λ ts. ts ++ t ∷ []) tokens_are) (next_part inside.parts_are piece t token) in
           let declares = ap (λ c. text_of c.number end.number []) start_is ∙ ap (λ c. text_of (big_endian first) c.number []) end_is in
-          let stands = subst (StandsAs rows (inside.pieces ++ piece ∷ [])) (sym declares) (empty_texts parts a_code b_code empty) in
-          fresh (standing_so (two start end) inside (text_of start.number end.number []) stands)
+          let stands = subst (StandsAs rows bf_range (inside.pieces ++ piece ∷ [])) (sym declares) (empty_texts parts a_code b_code empty) in
+          fresh (standing_so entry.section (two start end) inside (text_of start.number end.number []) (stands_in same stands))
 
-      longer_stands : (entry : Entry) (low high : Code) (declared : List Declaration) → InEntry (one low) seen lists → code_in t ≡ Some high → widened low high ≡ Some declared → At (in_entry (new_entry entry.section)) next (adding lists declared)
-      longer_stands entry low high declared inside code is =
+      longer_stands : (entry : Entry) (low high : Code) (declared : List Declaration) → InEntry entry.section (one low) seen lists → entry.section ≡ codespace_range → code_in t ≡ Some high → widened low high ≡ Some declared → At (in_entry (new_entry entry.section)) next (adding lists declared)
+      longer_stands entry low high declared inside in_codespaces code is =
           let (bytes, is_code, same) = code_found t high code in
           let (a, first, tokens_are, a_code, low_is) = inside.codes_are in
           let (less, gives) = tested (nat_lt low.len high.len) _ declared is in
           let longer : length first < length bytes = omega (arith, ltb-true low.len high.len less, ap (λ c. c.len) low_is, ap (λ c. c.len) same) in
           let parts = subst (AreParts rows (inside.pieces ++ piece ∷ [])) (ap (λ ts. ts ++ t ∷ []) tokens_are) (next_part inside.parts_are piece t token) in
           let declares = sym gives ∙ ap (λ c. Declaration.codespace (record { len = high.len; low = c.number; high = high.number }) ∷ []) low_is ∙ ap (λ c. Declaration.codespace (record { len = c.len; low = big_endian first; high = c.number }) ∷ []) same in
-          let stands = subst (StandsAs rows (inside.pieces ++ piece ∷ [])) (sym declares) (a_longer_end parts a_code is_code longer) in
-          fresh (standing_so (one low) inside declared stands)
+          let stands = subst (StandsAs rows codespace_range (inside.pieces ++ piece ∷ [])) (sym declares) (a_longer_end parts a_code is_code longer) in
+          fresh (standing_so entry.section (one low) inside declared (stands_in in_codespaces stands))
 
     record Mends (mended : Mended) : Type 0 where
       pub gives : (p : State × Lists) → mended ≡ Some p → At p.0 next p.1
@@ -421,66 +431,66 @@ module _ (rows : Bool) where
               subst (λ us. Mends (Some (in_entry (new_entry entry.section), adding lists (text_of start.number end.number us)))) (sym without) (mends (stands t token empty))
           by None is = mends_none
 
-      high_mends : (entry : Entry) (low : Code) → InEntry (one low) seen lists → Mends (mend_high lists entry low piece)
-      high_mends entry low inside = by (option_and_then (widened low) (code_of_piece piece)) refl
+      high_mends : (entry : Entry) (low : Code) → InEntry entry.section (one low) seen lists → entry.section ≡ codespace_range → Mends (mend_high lists entry low piece)
+      high_mends entry low inside same = by (option_and_then (widened low) (code_of_piece piece)) refl
         where
           by : (found : Option (List Declaration)) → option_and_then (widened low) (code_of_piece piece) ≡ found → Mends (option_map (λ declared. (in_entry (new_entry entry.section), adding lists declared)) found)
           by (Some declared) is =
               let (high, code, widens) = some_bound (widened low) (code_of_piece piece) declared is in
               let (t, token, reads) = token_read piece code_in high code in
-              mends (longer_stands lists t token entry low high declared inside reads widens)
+              mends (longer_stands lists t token entry low high declared inside same reads widens)
           by None is = mends_none
 
-      second_mends : (section : Section) (entry : Entry) (start : Code) → InEntry (one start) seen lists → Mends (second_mended section lists entry start piece)
-      second_mends codespace_range entry start inside = high_mends entry start inside
-      second_mends (cids kind extent) entry start inside = mends_none
-      second_mends bf_range entry start inside = mends_none
-      second_mends bf_char entry start inside = text_mends entry start start (λ t token empty. empty_stands lists t token entry start inside empty)
+      second_mends : (section : Section) (entry : Entry) (start : Code) → InEntry entry.section (one start) seen lists → entry.section ≡ section → Mends (second_mended section lists entry start piece)
+      second_mends codespace_range entry start inside same = high_mends entry start inside same
+      second_mends (cids kind extent) entry start inside same = mends_none
+      second_mends bf_range entry start inside same = mends_none
+      second_mends bf_char entry start inside same = text_mends entry start start (λ t token empty. empty_stands lists t token entry start inside same empty)
 
-      third_mends : (section : Section) (entry : Entry) (start end : Code) → InEntry (two start end) seen lists → Mends (third_mended section lists entry start end piece)
-      third_mends codespace_range entry start end inside = mends_none
-      third_mends (cids kind extent) entry start end inside = mends_none
-      third_mends bf_range entry start end inside = text_mends entry start end (λ t token empty. empties_stand lists t token entry start end inside empty)
-      third_mends bf_char entry start end inside = mends_none
+      third_mends : (section : Section) (entry : Entry) (start end : Code) → InEntry entry.section (two start end) seen lists → entry.section ≡ section → Mends (third_mended section lists entry start end piece)
+      third_mends codespace_range entry start end inside same = mends_none
+      third_mends (cids kind extent) entry start end inside same = mends_none
+      third_mends bf_range entry start end inside same = text_mends entry start end (λ t token empty. empties_stand lists t token entry start end inside same empty)
+      third_mends bf_char entry start end inside same = mends_none
 
-      all_mend : (entry : Entry) → InEntry entry.parts seen lists → Mends (mend lists entry piece)
+      all_mend : (entry : Entry) → InEntry entry.section entry.parts seen lists → Mends (mend lists entry piece)
       all_mend entry inside = by entry.parts refl inside
         where
-          by : (parts : Parts) → entry.parts ≡ parts → InEntry parts seen lists → Mends (mend lists entry piece)
+          by : (parts : Parts) → entry.parts ≡ parts → InEntry entry.section parts seen lists → Mends (mend lists entry piece)
           by none is has = rw (is, mend) mends_none
-          by (one start) is has = rw (is, mend) (second_mends entry.section entry start has)
-          by (two start end) is has = rw (is, mend) (third_mends entry.section entry start end has)
+          by (one start) is has = rw (is, mend) (second_mends entry.section entry start has refl)
+          by (two start end) is has = rw (is, mend) (third_mends entry.section entry start end has refl)
 
-    passed_keeps : (old : Salvaged) (entry : Entry) → InEntry entry.parts seen old.said.lists → Keeps next (passed_over old entry piece)
+    passed_keeps : (old : Salvaged) (entry : Entry) → InEntry entry.section entry.parts seen old.said.lists → Keeps next (passed_over old entry piece)
     passed_keeps old entry inside =
         let passes = entry_passed old (rest_of entry) (passed_on (entry_said inside)) in
-        by_class_is (Keeps next) (class_of piece) (λ _. passes) (λ is. kept (lone_entry entry.parts old.said.lists inside is)) (λ _. passes) (λ _. passes) (λ _. passes)
+        by_class_is (Keeps next) (class_of piece) (λ _. passes) (λ is. kept (λ _. lone_entry entry.section entry.parts old.said.lists inside is)) (λ _. passes) (λ _. passes) (λ _. passes)
 
-    mended_keeps : (old : Salvaged) (entry : Entry) (mended : Mended) → InEntry entry.parts seen old.said.lists → Mends mended → Keeps next (elim mended [ Some p ↦ (p.0, having_lists old p.1) | None ↦ passed_over old entry piece ])
+    mended_keeps : (old : Salvaged) (entry : Entry) (mended : Mended) → InEntry entry.section entry.parts seen old.said.lists → Mends mended → Keeps next (elim mended [ Some p ↦ (p.0, having_lists old p.1) | None ↦ passed_over old entry piece ])
     mended_keeps old entry (Some p) inside mends_it = kept (mends_it.gives p refl)
     mended_keeps old entry None inside mends_it = passed_keeps old entry inside
 
-    fault_keeps : (old : Salvaged) (entry : Entry) (fault : Stop) → InEntry entry.parts seen old.said.lists → Keeps next (entry_fault old entry piece fault)
+    fault_keeps : (old : Salvaged) (entry : Entry) (fault : Stop) → InEntry entry.section entry.parts seen old.said.lists → Keeps next (entry_fault old entry piece fault)
     fault_keeps old entry fault inside = mended_keeps (with_fault old fault) entry (mend old.said.lists entry piece) inside (all_mend old.said.lists entry inside)
 
-    taken_keeps : (old : Salvaged) (entry : Entry) (t : Token) (filled : Filled) → InEntry entry.parts seen old.said.lists → Fills filled → Keeps next (taken old entry piece t filled)
+    taken_keeps : (old : Salvaged) (entry : Entry) (t : Token) (filled : Filled) → InEntry entry.section entry.parts seen old.said.lists → Fills filled → Keeps next (taken old entry piece t filled)
     taken_keeps old entry t (Ok p) inside filled_so = kept (filled_so.gives p refl)
     taken_keeps old entry t (Err reason) inside filled_so = fault_keeps old entry _ inside
 
-    part_keeps : (old : Salvaged) (entry : Entry) → InEntry entry.parts seen old.said.lists → Keeps next (take_part old entry piece)
-    part_keeps old entry inside = by piece.token refl
+    part_keeps : (old : Salvaged) (entry : Entry) → PartsFit entry.section entry.parts → InEntry entry.section entry.parts seen old.said.lists → Keeps next (take_part old entry piece)
+    part_keeps old entry fit inside = by piece.token refl
       where
         by : (r : Result Token Wrong) → piece.token ≡ r → Keeps next (take_part old entry piece)
-        by (Ok t) is = rw (is, take_part) (taken_keeps old entry t (fill old.said.lists entry t) inside (all_fill old.said.lists t is entry inside))
+        by (Ok t) is = rw (is, take_part) (taken_keeps old entry t (fill old.said.lists entry t) inside (all_fill old.said.lists t is entry fit inside))
         by (Err w) is = rw (is, take_part) (fault_keeps old entry (own_fault w) inside)
 
-    entry_keeps : (old : Salvaged) (entry : Entry) → InEntry entry.parts seen old.said.lists → Keeps next (take_in_entry old entry piece)
-    entry_keeps old entry inside = by_bool (Keeps next) (kept (passed_on (entry_said inside))) (part_keeps old (with_piece entry piece) inside) (no_parts entry.parts && is_closer entry.section piece)
+    entry_keeps : (old : Salvaged) (entry : Entry) → PartsFit entry.section entry.parts → InEntry entry.section entry.parts seen old.said.lists → Keeps next (take_in_entry old entry piece)
+    entry_keeps old entry fit inside = by_bool (Keeps next) (kept (passed_on (entry_said inside))) (part_keeps old (with_piece entry piece) fit inside) (no_parts entry.parts && is_closer entry.section piece)
 
-    line_passed : (old : Salvaged) (section : Section) → Said seen old.said.lists → Keeps next (pass_in_line old section piece)
-    line_passed old section said =
+    line_passed : (old : Salvaged) (section : Section) → place_at outside seen ≡ within section → Said seen old.said.lists → Keeps next (pass_in_line old section piece)
+    line_passed old section placed said =
         let passes = passed_on said in
-        by_bool (Keeps next) (entry_keeps old (new_entry section) (fresh said)) (by_class (Keeps next) (item_keeps old passes) (kept passes) (kept passes) (kept passes) (kept passes) (class_of piece)) piece.begins_line
+        by_bool (Keeps next) (entry_keeps old (new_entry section) tt (fresh said placed)) (by_class (Keeps next) (item_keeps old passes) (kept passes) (kept passes) (kept passes) (kept passes) (class_of piece)) piece.begins_line
 
     -- ---- a list
     next_in_list : {list : Texts} {lists : Lists} (inside : InList list seen lists) → next ≡ inside.before ++ (inside.opening ++ (inside.others ++ piece ∷ []))
@@ -493,6 +503,7 @@ module _ (rows : Bool) where
     stays : (list : Texts) (lists : Lists) → InList list seen lists → (class_of piece ≡ alone) ⊎ (class_of piece ≡ open_bracket) → At (list_after list piece list.next) next lists
     stays list lists inside which = record {
       before = inside.before;
+      is_open = inside.is_open;
       opening = inside.opening;
       others = inside.others ++ piece ∷ [];
       a = inside.a;
@@ -519,6 +530,7 @@ module _ (rows : Bool) where
     fills_place : (list : Texts) (lists : Lists) (inside : InList list seen lists) → nat_le list.next list.last ≡ true → (texts : List Declaration) (new : Lists) → AreTexts (big_endian inside.first) (inside.others ++ piece ∷ []) (inside.n + 1) texts → new ≡ adding inside.earlier texts → At (list_after list piece (list.next + 1)) next new
     fills_place list lists inside left texts new texts_are lists_are = record {
       before = inside.before;
+      is_open = inside.is_open;
       opening = inside.opening;
       others = inside.others ++ piece ∷ [];
       a = inside.a;
@@ -582,25 +594,25 @@ module _ (rows : Bool) where
             let new_is : new ≡ adding old.said.lists more = ap (λ k. adding old.said.lists (text_of k k units)) inside.next_is in
             kept {s = (list_after list piece (list.next + 1), having_lists old new)} (fills_place list old.said.lists inside left (inside.texts ++ more) new (next_text inside.texts_are piece units is) (added_more inside.earlier old.said.lists new inside.texts more inside.lists_are new_is))
 
-    end_keeps : (old : Salvaged) (list : Texts) → InList list seen old.said.lists → Keeps next (end_list old list piece)
-    end_keeps old list inside = by_bool (Keeps next) (entry_keeps old (new_entry bf_range) (fresh (list_said inside))) (kept (lost old list inside)) (lacks_bracket list piece)
+    end_keeps : (old : Salvaged) (list : Texts) → place_at outside seen ≡ within bf_range → InList list seen old.said.lists → Keeps next (end_list old list piece)
+    end_keeps old list placed inside = by_bool (Keeps next) (entry_keeps old (new_entry bf_range) tt (fresh (list_said inside) placed)) (kept (lost old list inside)) (lacks_bracket list piece)
 
     -- a ] isn't passed over
-    past_keeps : (old : Salvaged) (list : Texts) → InList list seen old.said.lists → (class_of piece ≡ close_bracket → Keeps next (past_texts old list piece)) → Keeps next (past_texts old list piece)
-    past_keeps old list inside closed = by (class_of piece) refl
+    past_keeps : (old : Salvaged) (list : Texts) → place_at outside seen ≡ within bf_range → InList list seen old.said.lists → (class_of piece ≡ close_bracket → Keeps next (past_texts old list piece)) → Keeps next (past_texts old list piece)
+    past_keeps old list placed inside closed = by (class_of piece) refl
       where
         by : (k : Class) → class_of piece ≡ k → Keeps next (past_texts old list piece)
         by known is = rw (is, past_texts) (item_keeps old (passed_on (list_said inside)))
         by alone is = rw (is, past_texts) (kept (stays list old.said.lists inside (inl is)))
         by open_bracket is = rw (is, past_texts) (kept (stays list old.said.lists inside (inr is)))
         by close_bracket is = closed is
-        by part is = rw (is, past_texts) (end_keeps old list inside)
+        by part is = rw (is, past_texts) (end_keeps old list placed inside)
 
-    after_texts_keeps : (old : Salvaged) (list : Texts) → InList list seen old.said.lists → Keeps next (take_after_texts old list piece)
-    after_texts_keeps old list inside = by (class_of piece) refl
+    after_texts_keeps : (old : Salvaged) (list : Texts) → place_at outside seen ≡ within bf_range → InList list seen old.said.lists → Keeps next (take_after_texts old list piece)
+    after_texts_keeps old list placed inside = by (class_of piece) refl
       where
         past : (class_of piece ≡ close_bracket → Keeps next (past_texts (with_fault old (fault_of BracketExpected piece)) list piece)) → Keeps next (past_texts (with_fault old (fault_of BracketExpected piece)) list piece)
-        past closed = past_keeps (with_fault old (fault_of BracketExpected piece)) list inside closed
+        past closed = past_keeps (with_fault old (fault_of BracketExpected piece)) list placed inside closed
 
         by : (k : Class) → class_of piece ≡ k → Keeps next (take_after_texts old list piece)
         by close_bracket is = rw (is, take_after_texts) (kept (fresh (passed_on (list_said inside))))
@@ -609,48 +621,61 @@ module _ (rows : Bool) where
         by open_bracket is = rw (is, take_after_texts) (past (λ closed. absurd (cc)))
         by part is = rw (is, take_after_texts) (past (λ closed. absurd (cc)))
 
-    list_keeps : (old : Salvaged) (list : Texts) → InList list seen old.said.lists → Keeps next (take_in_list old list piece)
-    list_keeps old list inside = by_bool_is (Keeps next) (nat_le list.next list.last) (text_keeps old list inside) (after_texts_keeps old list inside)
+    list_keeps : (old : Salvaged) (list : Texts) → place_at outside seen ≡ within bf_range → InList list seen old.said.lists → Keeps next (take_in_list old list piece)
+    list_keeps old list placed inside = by_bool_is (Keeps next) (nat_le list.next list.last) (text_keeps old list inside) (after_texts_keeps old list placed inside)
 
-    piece_keeps : (now : State × Salvaged) → At now.0 seen now.1.said.lists → Keeps next (take_piece now piece)
-    piece_keeps (item, old) at = item_keeps old (passed_on at)
-    piece_keeps (value k, old) at = value_keeps old k (passed_on at)
-    piece_keeps (in_entry entry, old) at = entry_keeps old entry at
-    piece_keeps (at_fault rest, old) at = entry_passed old rest (passed_on at)
-    piece_keeps (in_brackets rest, old) at = list_passed old rest (passed_on at)
-    piece_keeps (in_line section, old) at = line_passed old section at
-    piece_keeps (in_list list, old) at = list_keeps old list at
+    piece_keeps : (now : State × Salvaged) → place_at outside seen ≡ place_of now.0 → Fits now.0 → At now.0 seen now.1.said.lists → Keeps next (take_piece now piece)
+    piece_keeps (item, old) placed fits at = item_keeps old (passed_on at)
+    piece_keeps (value k, old) placed fits at = value_keeps old k (passed_on at)
+    piece_keeps (in_entry entry, old) placed fits at = entry_keeps old entry fits (at placed)
+    piece_keeps (at_fault rest, old) placed fits at = entry_passed old rest (passed_on at)
+    piece_keeps (in_brackets rest, old) placed fits at = list_passed old rest (passed_on at)
+    piece_keeps (in_line section, old) placed fits at = line_passed old section placed at
+    piece_keeps (in_list list, old) placed fits at = list_keeps old list placed at
 
-  all_keep : (seen : List Piece) (now : State × Salvaged) (pieces : List Piece) → Keeps seen now → Keeps (seen ++ pieces) (take_all now pieces)
+  -- so far pieces are read
+  record Reads (seen : List Piece) (now : State × Salvaged) : Type 0 where
+    placed : place_at outside seen ≡ place_of now.0
+    fits : Fits now.0
+    keeps : Keeps seen now
+
+  all_keep : (seen : List Piece) (now : State × Salvaged) (pieces : List Piece) → Reads seen now → Reads (seen ++ pieces) (take_all now pieces)
   unfolding take_all
-  all_keep seen now [] keeps = subst (λ ps. Keeps ps now) (sym (append-nil seen)) keeps
-  all_keep seen now (piece ∷ pieces) keeps =
-      let later = all_keep (seen ++ piece ∷ []) (take_piece now piece) pieces (piece_keeps seen (seen ++ piece ∷ []) piece refl now keeps.at) in
-      subst (λ ps. Keeps ps (take_all (take_piece now piece) pieces)) (append_assoc seen (piece ∷ []) pieces) later
+  all_keep seen now [] reads = subst (λ ps. Reads ps now) (sym (append-nil seen)) reads
+  all_keep seen now (piece ∷ pieces) reads =
+      let next = seen ++ piece ∷ [] in
+      let goes = place_goes piece now reads.fits in
+      let later = all_keep next (take_piece now piece) pieces (record {
+        placed = place_at-more outside seen piece ∙ ap (λ p. place_after p piece) reads.placed ∙ sym goes.is;
+        fits = goes.fits;
+        keeps = piece_keeps seen next piece refl now reads.placed reads.fits reads.keeps.at;
+      }) in
+      subst (λ ps. Reads ps (take_all (take_piece now piece) pieces)) (append_assoc seen (piece ∷ []) pieces) later
 
-  finish_said : (len : ℕ) (seen : List Piece) (now : State × Salvaged) → At now.0 seen now.1.said.lists → Said seen (finished len now).said.lists
-  finish_said len seen (item, old) at = at
-  finish_said len seen (value k, old) at = at
-  finish_said len seen (in_entry entry, old) at = entry_said at
-  finish_said len seen (at_fault rest, old) at = at
-  finish_said len seen (in_brackets rest, old) at = at
-  finish_said len seen (in_line section, old) at = at
-  finish_said len seen (in_list list, old) at = list_said at
+  finish_said : (len : ℕ) (seen : List Piece) (now : State × Salvaged) → place_at outside seen ≡ place_of now.0 → At now.0 seen now.1.said.lists → Said seen (finished len now).said.lists
+  finish_said len seen (item, old) placed at = at
+  finish_said len seen (value k, old) placed at = at
+  finish_said len seen (in_entry entry, old) placed at = entry_said (at placed)
+  finish_said len seen (at_fault rest, old) placed at = at
+  finish_said len seen (in_brackets rest, old) placed at = at
+  finish_said len seen (in_line section, old) placed at = at
+  finish_said len seen (in_list list, old) placed at = list_said at
 
   -- ---- in rows
   module _ (in_rows : rows ≡ true) (seen next : List Piece) (piece : Piece) (next_is : next ≡ seen ++ piece ∷ []) where
-    line_at : (parts : ℕ) (now : State × Salvaged) → At now.0 seen now.1.said.lists → Keeps seen (begin_line parts now piece)
-    line_at parts (item, old) at = kept at
-    line_at parts (value k, old) at = kept at
-    line_at parts (in_entry entry, old) at = by_bool (Keeps seen) (kept (fresh (entry_said at))) (kept at) (is_short parts entry piece)
-    line_at parts (at_fault rest, old) at = kept (fresh at)
-    line_at parts (in_brackets rest, old) at = kept at
-    line_at parts (in_line section, old) at = kept (fresh at)
-    line_at parts (in_list list, old) at = kept at
+    line_at : (parts : ℕ) (now : State × Salvaged) → place_at outside seen ≡ place_of now.0 → At now.0 seen now.1.said.lists → Keeps seen (begin_line parts now piece)
+    line_at parts (item, old) placed at = kept at
+    line_at parts (value k, old) placed at = kept at
+    line_at parts (in_entry entry, old) placed at = by_bool (Keeps seen) (kept (fresh (entry_said (at placed)))) (kept at) (is_short parts entry piece)
+    line_at parts (at_fault rest, old) placed at = kept (fresh at)
+    line_at parts (in_brackets rest, old) placed at = kept at
+    line_at parts (in_line section, old) placed at = kept (fresh at)
+    line_at parts (in_list list, old) placed at = kept at
 
-    stray_entry : (parts : Parts) (lists : Lists) → InEntry parts seen lists → is_stray piece ≡ true → InEntry parts next lists
-    stray_entry parts lists inside is = record {
+    stray_entry : (section : Section) (parts : Parts) (lists : Lists) → InEntry section parts seen lists → is_stray piece ≡ true → InEntry section parts next lists
+    stray_entry section parts lists inside is = record {
       before = inside.before;
+      is_open = inside.is_open;
       pieces = inside.pieces ++ piece ∷ [];
       tokens = inside.tokens;
       seen_is = next_is ∙ ap (λ ps. ps ++ piece ∷ []) inside.seen_is ∙ append_assoc inside.before inside.pieces (piece ∷ []);
@@ -659,31 +684,39 @@ module _ (rows : Bool) where
       codes_are = inside.codes_are;
     }
 
-    stray_keeps : (now : State × Salvaged) → At now.0 seen now.1.said.lists → Keeps next (take_unless_stray now piece)
-    stray_keeps (item, old) at = piece_keeps seen next piece next_is (item, old) at
-    stray_keeps (value k, old) at = piece_keeps seen next piece next_is (value k, old) at
-    stray_keeps (in_entry entry, old) at = by_bool_is (Keeps next) (is_stray piece) (λ is. kept (stray_entry entry.parts old.said.lists at is)) (entry_keeps seen next piece next_is old entry at)
-    stray_keeps (at_fault rest, old) at = piece_keeps seen next piece next_is (at_fault rest, old) at
-    stray_keeps (in_brackets rest, old) at = piece_keeps seen next piece next_is (in_brackets rest, old) at
-    stray_keeps (in_line section, old) at = piece_keeps seen next piece next_is (in_line section, old) at
-    stray_keeps (in_list list, old) at = piece_keeps seen next piece next_is (in_list list, old) at
+    stray_keeps : (now : State × Salvaged) → place_at outside seen ≡ place_of now.0 → Fits now.0 → At now.0 seen now.1.said.lists → Keeps next (take_unless_stray now piece)
+    stray_keeps (item, old) placed fits at = piece_keeps seen next piece next_is (item, old) placed fits at
+    stray_keeps (value k, old) placed fits at = piece_keeps seen next piece next_is (value k, old) placed fits at
+    stray_keeps (in_entry entry, old) placed fits at = by_bool_is (Keeps next) (is_stray piece) (λ is. kept (λ _. stray_entry entry.section entry.parts old.said.lists (at placed) is)) (entry_keeps seen next piece next_is old entry fits (at placed))
+    stray_keeps (at_fault rest, old) placed fits at = piece_keeps seen next piece next_is (at_fault rest, old) placed fits at
+    stray_keeps (in_brackets rest, old) placed fits at = piece_keeps seen next piece next_is (in_brackets rest, old) placed fits at
+    stray_keeps (in_line section, old) placed fits at = piece_keeps seen next piece next_is (in_line section, old) placed fits at
+    stray_keeps (in_list list, old) placed fits at = piece_keeps seen next piece next_is (in_list list, old) placed fits at
 
-    row_keeps : (parts : ℕ) (now : State × Salvaged) → At now.0 seen now.1.said.lists → Keeps next (take_in_row parts now piece)
-    row_keeps parts now at =
-        let begun : Keeps seen (if piece.begins_line then begin_line parts now piece else now) = by_bool (Keeps seen) (line_at parts now at) (kept at) piece.begins_line in
-        stray_keeps (if piece.begins_line then begin_line parts now piece else now) begun.at
+    row_keeps : (parts : ℕ) (now : State × Salvaged) → Reads seen now → Reads next (take_in_row parts now piece)
+    row_keeps parts now reads =
+        let new : State × Salvaged = if piece.begins_line then begin_line parts now piece else now in
+        let begun : Keeps seen new = by_bool (Keeps seen) (line_at parts now reads.placed reads.keeps.at) (kept reads.keeps.at) piece.begins_line in
+        let begins = row_begins piece parts now reads.fits in
+        let goes = row_goes piece parts now reads.fits in
+        record {
+          placed = ap (place_at outside) next_is ∙ place_at-more outside seen piece ∙ ap (λ p. place_after p piece) reads.placed ∙ sym goes.is;
+          fits = goes.fits;
+          keeps = stray_keeps new (reads.placed ∙ sym begins.is) begins.fits begun.at;
+        }
 
-  rows_keep : rows ≡ true → (held : List Row) (seen : List Piece) (now : State × Salvaged) (pieces : List Piece) → Keeps seen now → Keeps (seen ++ pieces) (take_rows held now pieces)
+  rows_keep : rows ≡ true → (held : List Row) (seen : List Piece) (now : State × Salvaged) (pieces : List Piece) → Reads seen now → Reads (seen ++ pieces) (take_rows held now pieces)
   unfolding take_rows
-  rows_keep in_rows held seen now [] keeps = subst (λ ps. Keeps ps now) (sym (append-nil seen)) keeps
-  rows_keep in_rows held seen now (piece ∷ pieces) keeps =
+  rows_keep in_rows held seen now [] reads = subst (λ ps. Reads ps now) (sym (append-nil seen)) reads
+  rows_keep in_rows held seen now (piece ∷ pieces) reads =
       let here = rows_at held piece in
       let new = take_in_row (parts_on here) now piece in
-      let later = rows_keep in_rows here (seen ++ piece ∷ []) new pieces (row_keeps in_rows seen (seen ++ piece ∷ []) piece refl (parts_on here) now keeps.at) in
-      subst (λ ps. Keeps ps (take_rows here new pieces)) (append_assoc seen (piece ∷ []) pieces) later
+      let later = rows_keep in_rows here (seen ++ piece ∷ []) new pieces (row_keeps in_rows seen (seen ++ piece ∷ []) piece refl (parts_on here) now reads) in
+      subst (λ ps. Reads ps (take_rows here new pieces)) (append_assoc seen (piece ∷ []) pieces) later
 
-  begins : Keeps [] (item, nothing_salvaged)
-  begins = kept (record { declared = []; stands = nothing; lists_are = refl })
+  begins : Reads [] (item, nothing_salvaged)
+  unfolding place_at
+  begins = record { placed = refl; fits = tt; keeps = kept (record { declared = []; stands = nothing; lists_are = refl }) }
 
   abbrev DeclaredIn : List ℕ → Lists → Type 0
   DeclaredIn text lists = (declared : List Declaration) × Stands rows (pieces_left (start_of text)) declared × (lists ≡ lists_of declared)
@@ -692,13 +725,15 @@ module _ (rows : Bool) where
 first_declared : (rows : Bool) (text : List ℕ) → DeclaredIn rows text (first_read text).said.lists
 first_declared rows text =
     let pieces = pieces_left (start_of text) in
-    let said = finish_said rows (length text) pieces (take_all (item, nothing_salvaged) pieces) (all_keep rows [] (item, nothing_salvaged) pieces (begins rows)).at in
+    let reads = all_keep rows [] (item, nothing_salvaged) pieces (begins rows) in
+    let said = finish_said rows (length text) pieces (take_all (item, nothing_salvaged) pieces) reads.placed reads.keeps.at in
     (said.declared, said.stands, said.lists_are)
 
 read_declared : (held : List Row) (text : List ℕ) → DeclaredIn true text (read_in_rows held text).said.lists
 read_declared held text =
     let pieces = pieces_left (start_of text) in
-    let said = finish_said true (length text) pieces (take_rows held (item, nothing_salvaged) pieces) (rows_keep true refl held [] (item, nothing_salvaged) pieces (begins true)).at in
+    let reads = rows_keep true refl held [] (item, nothing_salvaged) pieces (begins true) in
+    let said = finish_said true (length text) pieces (take_rows held (item, nothing_salvaged) pieces) reads.placed reads.keeps.at in
     (said.declared, said.stands, said.lists_are)
 
 pub salvaged_declared : (text : List ℕ) → AreDeclared text (salvaged text).said.lists

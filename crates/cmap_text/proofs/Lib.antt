@@ -19,4 +19,5 @@ mod WholeRead
 mod RowsRead
 mod FrontsKept
 pub mod TextFaults
+mod Places
 mod Declared

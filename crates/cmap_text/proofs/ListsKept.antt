@@ -1,6 +1,6 @@
 -- What is declared before a piece is a front of what is declared at the end.
 use Rattle.std.proofs.Common.{◌≡◌, ◌∙◌, ℕ, zero, suc, ◌+◌, ◌-◌, ◌≤◌, Bool, true, false, List, [], ◌∷◌, ◌++◌, length, take, ap, refl, subst, sym, arith, append_assoc, append-nil, length-append}
-use Rattle.std.specs.Prelude.{◌&&◌, nat_le, codes, Option, Some, None, option_and_then, option_map, Result, Ok, Err}
+use Rattle.std.specs.Prelude.{◌&&◌, nat_le, codes, Option, Some, None, option_and_then, option_map, Result, Ok, Err, if◌then◌else◌}
 use Rattle.cmap_tokens.specs.Pieces.{Piece, Wrong}
 use Rattle.cmap_tokens.specs.Tokens.{Token}
 use Rattle.cmap_values.proofs.ListsMade.{append_lists-assoc, append_lists-none}
@@ -9,9 +9,11 @@ use Rattle.cmap_values.specs.ListsAppended.{append_lists}
 use Rattle.cmap_values.specs.declared.fault.Reason.{Reason}
 use Rattle.cmap_values.specs.declared.fault.Stop.{Stop}
 use Rattle.cmap_values.specs.declared.fault.Reason.TheVariants.{BracketExpected, TextExpected, UnequalLengths}
+use Rattle.cmap_text.specs.Rows.{parts_on, rows_at}
+use Rattle.cmap_text.specs.declared.salvage.rows.Row.{Row}
 use Rattle.cmap_text.specs.TextFiles.{Section, bf_char, bf_range, cids, codespace_range, declares_cid, range, single, use_word}
 use Rattle.cmap_text.specs.TextReading.{Code, adding, cid_in, code_in, codespace, destination_in, filed, is_executable, key_in, opened_by, text_of, with_other}
-use Rattle.cmap_text.specs.Salvage.{BeginWithLists, Class, Entry, Filled, Mended, Parts, Rest, Salvaged, State, Texts, after_entry, after_malformed, after_part, alone, at_fault, begin_item, class_of, close_bracket, empty_text_in, end_list, entry_fault, fault_of, fill, fill_texts, finished, having_lists, if_cid, if_code, if_text, in_brackets, in_entry, in_line, in_list, is_closer, is_nominal, item, known, lacks_bracket, list_after, losing, mend, new_entry, no_parts, no_text, none, one, open_bracket, own_fault, part, pass_in_entry, pass_in_line, pass_in_list, passed_over, past_texts, rest_of, saying, take_after_texts, take_all, take_in_entry, take_in_list, take_item, take_part, take_piece, take_text, take_use, take_value, taken, text_in, two, value, with_fault, with_piece}
+use Rattle.cmap_text.specs.Salvage.{BeginWithLists, Class, Entry, Filled, Mended, Parts, Rest, Salvaged, State, Texts, after_entry, after_malformed, after_part, alone, at_fault, begin_item, begin_line, class_of, close_bracket, empty_text_in, end_list, entry_fault, fault_of, fill, fill_texts, finished, having_lists, if_cid, if_code, if_text, in_brackets, in_entry, in_line, in_list, is_closer, is_nominal, is_short, is_stray, item, known, lacks_bracket, list_after, losing, mend, new_entry, no_parts, no_text, none, one, open_bracket, own_fault, part, pass_in_entry, pass_in_line, pass_in_list, passed_over, past_texts, rest_of, saying, take_after_texts, take_all, take_in_entry, take_in_list, take_in_row, take_item, take_part, take_piece, take_rows, take_text, take_unless_stray, take_use, take_value, taken, text_in, two, value, with_fault, with_piece}
 use Rattle.cmap_text.specs.Salvage as salvage
 use Rattle.cmap_text.proofs.FaultsAdded.{by_bool, by_class, by_option}
 
@@ -25,20 +27,20 @@ take_past (x ∷ xs) ys (suc n) past = ap (λ l. x ∷ l) (take_past xs ys n (om
 
 module _ (front : Lists) (names : List (List ℕ)) where
   -- so is said
-  record Holds (lists : Lists) (uses : List (List ℕ)) : Type 0 where
+  pub record Holds (lists : Lists) (uses : List (List ℕ)) : Type 0 where
     pub lists_begin : BeginWithLists front lists
     pub uses_begin : (more : List (List ℕ)) × (uses ≡ names ++ more)
 
   -- a list that is lost takes nothing of it
-  abbrev Cuts : State → Type 0
+  abbrev pub Cuts : State → Type 0
   Cuts (in_list list) = length front.bfs ≤ list.kept
   Cuts _ = Unit {0}
 
-  record Keeps (s : State × Salvaged) : Type 0 where
+  pub record Keeps (s : State × Salvaged) : Type 0 where
     pub found : Holds s.1.said.lists s.1.said.uses
     pub cuts : Cuts s.0
 
-  abbrev Has : Salvaged → Type 0
+  abbrev pub Has : Salvaged → Type 0
   Has old = Holds old.said.lists old.said.uses
 
   kept : {s : State × Salvaged} → Has s.1 → Cuts s.0 → Keeps s
@@ -278,6 +280,37 @@ module _ (front : Lists) (names : List (List ℕ)) where
   all_keep now [] cuts has = kept has cuts
   all_keep now (piece ∷ pieces) cuts has = let next = piece_keeps now piece cuts has in all_keep (take_piece now piece) pieces next.cuts next.found
 
+  -- in rows
+  line_keeps : (parts : ℕ) (now : State × Salvaged) (piece : Piece) → Cuts now.0 → Has now.1 → Keeps (begin_line parts now piece)
+  line_keeps parts (item, old) piece cuts has = kept has tt
+  line_keeps parts (value k, old) piece cuts has = kept has tt
+  line_keeps parts (in_entry entry, old) piece cuts has = by_bool Keeps (kept has tt) (kept has tt) (is_short parts entry piece)
+  line_keeps parts (at_fault rest, old) piece cuts has = kept has tt
+  line_keeps parts (in_brackets rest, old) piece cuts has = kept has tt
+  line_keeps parts (in_line section, old) piece cuts has = kept has tt
+  line_keeps parts (in_list list, old) piece cuts has = kept has cuts
+
+  stray_keeps : (now : State × Salvaged) (piece : Piece) → Cuts now.0 → Has now.1 → Keeps (take_unless_stray now piece)
+  stray_keeps (item, old) piece cuts has = piece_keeps (item, old) piece cuts has
+  stray_keeps (value k, old) piece cuts has = piece_keeps (value k, old) piece cuts has
+  stray_keeps (in_entry entry, old) piece cuts has = by_bool Keeps (kept has tt) (entry_keeps old entry piece has) (is_stray piece)
+  stray_keeps (at_fault rest, old) piece cuts has = piece_keeps (at_fault rest, old) piece cuts has
+  stray_keeps (in_brackets rest, old) piece cuts has = piece_keeps (in_brackets rest, old) piece cuts has
+  stray_keeps (in_line section, old) piece cuts has = piece_keeps (in_line section, old) piece cuts has
+  stray_keeps (in_list list, old) piece cuts has = piece_keeps (in_list list, old) piece cuts has
+
+  row_keeps : (parts : ℕ) (now : State × Salvaged) (piece : Piece) → Cuts now.0 → Has now.1 → Keeps (take_in_row parts now piece)
+  row_keeps parts now piece cuts has =
+      let begun : Keeps (if piece.begins_line then begin_line parts now piece else now) = by_bool Keeps (line_keeps parts now piece cuts has) (kept has cuts) piece.begins_line in
+      stray_keeps (if piece.begins_line then begin_line parts now piece else now) piece begun.cuts begun.found
+
+  pub rows_keep : (rows : List Row) (now : State × Salvaged) (pieces : List Piece) → Keeps now → Keeps (take_rows rows now pieces)
+  unfolding take_rows
+  rows_keep rows now [] keeps = keeps
+  rows_keep rows now (piece ∷ pieces) keeps =
+      let here = rows_at rows piece in
+      rows_keep here (take_in_row (parts_on here) now piece) pieces (row_keeps (parts_on here) now piece keeps.cuts keeps.found)
+
   finish_keeps : (len : ℕ) (now : State × Salvaged) → Has now.1 → Has (finished len now)
   finish_keeps len (item, old) has = has
   finish_keeps len (value k, old) has = has
@@ -290,16 +323,16 @@ module _ (front : Lists) (names : List (List ℕ)) where
   abbrev pub BeginsSo : Salvaged → Type 0
   BeginsSo found = BeginWithLists front found.said.lists × ((more : List (List ℕ)) × (found.said.uses ≡ names ++ more))
 
-  -- to the end
-  rest_keeps : (len : ℕ) (now : State × Salvaged) (pieces : List Piece) → Cuts now.0 → now.1.said.lists ≡ front → now.1.said.uses ≡ names → BeginsSo (finished len (take_all now pieces))
-  rest_keeps len now pieces cuts same_lists same_uses =
-      let has : Has now.1 = record { lists_begin = (lists_of [], same_lists ∙ sym (append_lists-none front)); uses_begin = ([], same_uses ∙ sym (append-nil names)) } in
-      let all = finish_keeps len (take_all now pieces) (all_keep now pieces cuts has).found in
-      (all.lists_begin, all.uses_begin)
+  -- at the end
+  pub ends_so : (len : ℕ) (now : State × Salvaged) → Keeps now → BeginsSo (finished len now)
+  ends_so len now keeps = let all = finish_keeps len now keeps.found in (all.lists_begin, all.uses_begin)
+
+  pub rest_keeps : (now : State × Salvaged) (pieces : List Piece) → Cuts now.0 → now.1.said.lists ≡ front → now.1.said.uses ≡ names → Keeps (take_all now pieces)
+  rest_keeps now pieces cuts same_lists same_uses = all_keep now pieces cuts (record { lists_begin = (lists_of [], same_lists ∙ sym (append_lists-none front)); uses_begin = ([], same_uses ∙ sym (append-nil names)) })
 
 -- an item or an entry comes next
-pub kept_from_item : (old : Salvaged) (len : ℕ) (pieces : List Piece) → BeginsSo old.said.lists old.said.uses (finished len (take_all (item, old) pieces))
-kept_from_item old len pieces = rest_keeps old.said.lists old.said.uses len (item, old) pieces tt refl refl
+pub kept_from_item : (old : Salvaged) (pieces : List Piece) → Keeps old.said.lists old.said.uses (take_all (item, old) pieces)
+kept_from_item old pieces = rest_keeps old.said.lists old.said.uses (item, old) pieces tt refl refl
 
-pub kept_from_entry : (entry : Entry) (old : Salvaged) (len : ℕ) (pieces : List Piece) → BeginsSo old.said.lists old.said.uses (finished len (take_all (in_entry entry, old) pieces))
-kept_from_entry entry old len pieces = rest_keeps old.said.lists old.said.uses len (in_entry entry, old) pieces tt refl refl
+pub kept_from_entry : (entry : Entry) (old : Salvaged) (pieces : List Piece) → Keeps old.said.lists old.said.uses (take_all (in_entry entry, old) pieces)
+kept_from_entry entry old pieces = rest_keeps old.said.lists old.said.uses (in_entry entry, old) pieces tt refl refl

@@ -1,23 +1,27 @@
 -- In rows a text is read as without up to its first fault, so that none comes later.
-use Rattle.std.proofs.Common.{◌≡◌, ◌∙◌, ℕ, Bool, true, false, List, [], ◌∷◌, ◌++◌, ◌≤◌, length, ap, refl, sym, subst, arith, inl, inr}
-use Rattle.std.specs.Prelude.{◌&&◌, ◌⊎◌, nat_le, codes, Option, Some, None, Result, Ok, Err, if◌then◌else◌}
+use Rattle.std.proofs.Common.{◌≡◌, ◌∙◌, ℕ, Bool, true, false, List, [], ◌∷◌, ◌++◌, ◌<◌, ◌≤◌, ◌+◌, suc, length, take, ap, refl, sym, subst, arith, inl, inr}
+use Rattle.std.specs.Prelude.{◌&&◌, ◌⊎◌, nat_le, nat_lt, take_while, codes, Option, Some, None, Result, Ok, Err}
+use Rattle.std.specs.List.{prefix_len}
+use Rattle.std.proofs.lemmas.Bool.{ltb-true}
+use Rattle.cmap_tokens.specs.Malformed.{Malformed}
 use Rattle.cmap_tokens.specs.Pieces.{Piece, Wrong, pieces_left}
 use Rattle.cmap_tokens.specs.Tokens.{Token}
-use Rattle.cmap_tokens.specs.TokensLeft.{start_of}
+use Rattle.cmap_tokens.specs.TokensLeft.{EndedToken, start_of}
 use Rattle.cmap_tokens.proofs.PiecePlaces.{ArePlaced, place, places_ascend}
+use Rattle.cmap_tokens.proofs.PiecesTokens.{CutSo}
 use Rattle.cmap_values.specs.Faults.{Ascend}
 use Rattle.cmap_values.specs.Files.{Declaration, Lists}
 use Rattle.cmap_values.specs.declared.fault.Reason.{Reason}
 use Rattle.cmap_values.specs.declared.fault.Reason.TheVariants.{BracketExpected, TextExpected, UnequalLengths}
 use Rattle.cmap_values.specs.declared.fault.Stop.{Stop}
-use Rattle.cmap_text.specs.Rows.{parts_on, rows_at}
+use Rattle.cmap_text.specs.Rows.{parts_on, rows_at, rows_of}
 use Rattle.cmap_text.specs.declared.salvage.rows.Row.{Row}
-use Rattle.cmap_text.specs.TextFiles.{Section, bf_char, bf_range, cids, codespace_range, declares_cid, range, single, use_word}
-use Rattle.cmap_text.specs.TextReading.{Code, adding, cid_in, code_in, codespace, destination_in, filed, is_executable, key_in, opened_by, text_of, with_other}
-use Rattle.cmap_text.specs.Salvage.{Class, Entry, Filled, Parts, Rest, Salvaged, State, Texts, after_entry, after_malformed, alone, at_fault, begin_item, begin_line, class_of, close_bracket, entry_fault, fault_of, fill, fill_texts, finished, first_read, having_lists, if_cid, if_code, if_text, in_brackets, in_entry, in_line, in_list, is_closer, is_short, is_stray, item, known, missing, new_entry, no_parts, none, nothing_salvaged, one, open_bracket, own_fault, part, pass_in_line, pass_in_list, past_texts, read_in_rows, saying, short_fault, take_after_texts, take_all, take_in_entry, take_in_list, take_in_row, take_item, take_part, take_piece, take_rows, take_text, take_unless_stray, take_use, take_value, taken, text_in, two, value, with_fault, with_piece}
+use Rattle.cmap_text.specs.TextFiles.{Section, bf_char, bf_range, cids, codespace_range, range, single, use_word}
+use Rattle.cmap_text.specs.TextReading.{Code, adding, cid_in, code_in, codespace, destination_in, is_executable, key_in, opened_by, text_of, with_other}
+use Rattle.cmap_text.specs.Salvage.{Class, Entry, Filled, Parts, Rest, Salvaged, State, Texts, after_entry, after_malformed, alone, at_fault, begin_item, begin_line, class_of, close_bracket, entry_fault, fault_of, fill, fill_texts, finished, first_read, having_lists, if_cid, if_code, if_text, in_brackets, in_entry, in_line, in_list, is_closer, is_read_in_rows, is_short, is_stray, item, known, missing, new_entry, no_parts, none, nothing_salvaged, one, open_bracket, own_fault, part, pass_in_line, pass_in_list, past_texts, read_in_rows, saying, short_fault, take_after_texts, take_all, take_in_entry, take_in_list, take_in_row, take_item, take_part, take_piece, take_rows, take_text, take_unless_stray, take_use, take_value, taken, text_in, two, value, with_fault, with_piece}
 use Rattle.cmap_text.specs.Salvage as salvage
 use Rattle.cmap_text.proofs.FaultsAdded.{Adds, by_bool, by_class, by_option, fault_first, no_text_adds, past_adds, rest_adds, rows_rest_add, stray_adds}
-use Rattle.cmap_text.proofs.FaultPlaces.{of_place, first_places, rest_ascends}
+use Rattle.cmap_text.proofs.FaultPlaces.{ascend_within, of_place, first_places, rest_ascends}
 
 -- ---- without a fault nothing is passed over
 abbrev IsRight : State → Type 0
@@ -272,3 +276,90 @@ module _ (len : ℕ) where
 -- of a text
 pub read_no_later : (rows : List Row) (text : List ℕ) → NoLater (first_read text).faults (read_in_rows rows text).faults
 read_no_later rows text = no_later (length text) 0 rows (item, nothing_salvaged) (pieces_left (start_of text)) tt refl (places_ascend text)
+
+-- ---- up to the first fault
+one_more : {A : Type 0} (n : ℕ) (x : A) (xs : List A) → take (1 + n) (x ∷ xs) ≡ x ∷ take n xs
+one_more n x xs = let same : 1 + n ≡ suc n = omega arith in ap (λ k. take k (x ∷ xs)) same
+
+module _ (len : ℕ) (fault : Stop) (more : List Stop) where
+  -- tokens that end before the first fault are read as without rows, and then the others are read
+  pub record Agrees (tokens : List EndedToken) (kind : Malformed) (rows : List Row) (now : State × Salvaged) (pieces : List Piece) : Type 0 where
+    pub before : List Piece
+    pub rest : List Piece
+    pub held : List Row
+    pub cut : CutSo len (take_while (λ p. nat_lt p.end fault.offset) tokens) true kind len before
+    pub same : take_rows rows now pieces ≡ take_rows held (take_all now before) rest
+
+  one_taken : (p : EndedToken) (tokens : List EndedToken) → nat_lt p.end fault.offset ≡ true → take_while (λ p. nat_lt p.end fault.offset) (p ∷ tokens) ≡ p ∷ take_while (λ p. nat_lt p.end fault.offset) tokens
+  one_taken p tokens less = rw less (one_more (prefix_len (λ p. nat_lt p.end fault.offset) tokens) p tokens)
+
+  -- a fault at the place of a piece isn't after it
+  no_fault_yet : (rows : List Row) (now : State × Salvaged) (pieces : List Piece) (least : ℕ) (f : Stop) (fs : List Stop) → now.1.faults ≡ f ∷ fs → f.offset ≡ least → least < fault.offset → (finished len (take_rows rows now pieces)).faults ≡ fault ∷ more → ⊥
+  no_fault_yet rows now pieces least f fs has here less first =
+      let added = rows_rest_add len rows now pieces in
+      let all : fault ∷ more ≡ f ∷ (fs ++ added.more) = sym first ∙ added.is ∙ ap (λ l. l ++ added.more) has in
+      let same : fault ≡ f = cc in
+      omega (arith, less, here, ap (λ s. s.offset) same)
+
+  pub rows_agree : (tokens : List EndedToken) (ends : Bool) (kind : Malformed) (stop : ℕ) (rows : List Row) (now : State × Salvaged) (pieces : List Piece) → IsRight now.0 → now.1.faults ≡ [] → CutSo len tokens ends kind stop pieces
+      → (finished len (take_rows rows now pieces)).faults ≡ fault ∷ more → Agrees tokens kind rows now pieces
+  unfolding take_all take_rows
+  rows_agree [] ends kind stop rows now pieces is clean cut first = record { before = []; rest = pieces; held = rows; cut = (refl, refl); same = refl }
+  rows_agree (p ∷ tokens) ends kind stop rows now pieces is clean (b, others, pieces_are, cut) first = by (nat_lt p.end fault.offset) refl (λ held next goes_on right_so_far first_on. rows_agree tokens ends kind stop held next others goes_on right_so_far cut first_on)
+    where
+      Later : Type 0
+      Later = (held : List Row) (next : State × Salvaged) → IsRight next.0 → next.1.faults ≡ [] → (finished len (take_rows held next others)).faults ≡ fault ∷ more → Agrees tokens kind held next others
+
+      piece : Piece
+      piece = record { token = Ok p.token; end = p.end; begins_line = b }
+
+      here : List Row
+      here = rows_at rows piece
+
+      next : State × Salvaged
+      next = take_piece now piece
+
+      new : State × Salvaged
+      new = take_in_row (parts_on here) now piece
+
+      goes : take_rows rows now pieces ≡ take_rows here new others
+      goes = ap (take_rows rows now) pieces_are
+
+      first_here : (finished len (take_rows here new others)).faults ≡ fault ∷ more
+      first_here = ap (λ s. (finished len s).faults) (sym goes) ∙ first
+
+      by : (less : Bool) → nat_lt p.end fault.offset ≡ less → Later → Agrees (p ∷ tokens) kind rows now pieces
+      by false past later = record { before = []; rest = pieces; held = rows; cut = rw past (refl, refl); same = refl }
+      by true less later = at (row_same (parts_on here) now piece is clean)
+        where
+          sooner_yet : p.end < fault.offset
+          sooner_yet = ltb-true p.end fault.offset less
+
+          on : new ≡ next → (fs : List Stop) → next.1.faults ≡ fs → Agrees (p ∷ tokens) kind rows now pieces
+          on same (f ∷ fs) has =
+              let (least, others_ascend) = subst (λ l. Ascend p.end l p.end) has (first_places now piece clean) in
+              absurd (no_fault_yet here next others p.end f fs has (omega (arith, least, ascend_within f.offset p.end fs others_ascend)) sooner_yet (ap (λ s. (finished len (take_rows here s others)).faults) (sym same) ∙ first_here))
+          on same [] right_so_far = elim (piece_goes now piece is clean).goes [
+            | inl goes_on ↦
+                let agrees = later here next goes_on right_so_far (ap (λ s. (finished len (take_rows here s others)).faults) (sym same) ∙ first_here) in
+                record {
+                  before = piece ∷ agrees.before;
+                  rest = agrees.rest;
+                  held = agrees.held;
+                  cut = subst (λ ts. CutSo len ts true kind len (piece ∷ agrees.before)) (sym (one_taken p tokens less)) (b, agrees.before, refl, agrees.cut);
+                  same = goes ∙ ap (λ s. take_rows here s others) same ∙ agrees.same;
+                }
+            | inr (f, fs, has) ↦ let wrong = sym right_so_far ∙ has in absurd (cc)
+          ]
+
+          at : Same now piece new → Agrees (p ∷ tokens) kind rows now pieces
+          at (inl same) = on same next.1.faults refl
+          at (inr (f, fs, has, offset)) = absurd (no_fault_yet here new others p.end f fs has offset sooner_yet first_here)
+
+-- a text in rows has a fault
+pub has_fault : (text : List ℕ) → is_read_in_rows text ≡ true → (read_in_rows (rows_of text) text).faults ≡ [] → ⊥
+has_fault text rows empty = by (first_read text).faults refl
+  where
+    by : (fs : List Stop) → (first_read text).faults ≡ fs → ⊥
+    by [] has = let clash = rw has at rows in cc
+    by (stop ∷ more) has = let (fault, rest, is, less) = subst (λ fs. NoLater fs (read_in_rows (rows_of text) text).faults) has (read_no_later (rows_of text) text) in let wrong = sym empty ∙ is in cc

@@ -1,6 +1,6 @@
 -- What the faults of a text say of it: without one it is a file; else the first is the one for which it is refused.
-use Rattle.std.proofs.Common.{◌≡◌, ◌≤◌, ◌∙◌, ◌∷◌, ℕ, Bool, true, false, List, [], length, refl, sym, ap, subst, arith, inl, inr}
-use Rattle.std.specs.Prelude.{◌⊎◌, Ok, Err}
+use Rattle.std.proofs.Common.{◌≡◌, ◌≤◌, ◌∙◌, ◌∷◌, ℕ, Bool, true, false, List, [], length, refl, sym, ap, subst, arith}
+use Rattle.std.specs.Prelude.{Ok, Err}
 use Rattle.cmap_values.specs.Faults.{Ascend}
 use Rattle.cmap_values.specs.Files.{File, FileMetadata}
 use Rattle.cmap_values.specs.Only.{HoldsOfNone, IsOnly}
@@ -11,11 +11,11 @@ use Rattle.cmap_values.specs.declared.fault.Stop.{Stop}
 use Rattle.cmap_tokens.proofs.Fronts.{has_tokens}
 use Rattle.cmap_tokens.specs.TokensLeft.{Left, start_of, tokens_of}
 use Rattle.cmap_text.specs.Rows.{rows_of}
-use Rattle.cmap_text.specs.Salvage.{BeginsRefused, SalvagesFile, Salvaged, first_read, is_read_in_rows, read_in_rows, refusal_of, refused_at, salvaged}
+use Rattle.cmap_text.specs.Salvage.{BeginsRefused, IsFirstOf, SalvagesFile, Salvaged, first_read, is_read_in_rows, read_in_rows, refusal_of, refused_at, salvaged}
 use Rattle.cmap_text.specs.TextFiles.{IsMetadata, IsTextFile}
 use Rattle.cmap_text.specs.TextReading.{Said, StopsText, all_said, nothing_said}
 use Rattle.cmap_text.specs.TokenParsers.{Found, Refused}
-use Rattle.cmap_text.proofs.FaultPlaces.{ascend_within, first_ascends, salvaged_ascends}
+use Rattle.cmap_text.proofs.FaultPlaces.{ascend_within, first_ascends}
 use Rattle.cmap_text.proofs.RowsRead.{NoLater, read_no_later}
 use Rattle.cmap_text.proofs.Stops.{decided_text, refused_text}
 use Rattle.cmap_text.proofs.TextRead.{said_file, text_file}
@@ -24,15 +24,14 @@ use Rattle.cmap_text.proofs.WholeRead.{Stops, whole_of}
 refused_within : (len : ℕ) (reason : Reason) (offset : ℕ) → offset ≤ len → refused_at len reason offset ≤ len
 refused_within len reason offset within = elim reason as (λ r. refused_at len r offset ≤ len) [ UnclosedString ↦ omega arith | _ ↦ within ]
 
--- the faults of a text that is refused: the first one, and the one for which it is refused, which isn't before it
+-- the faults of a text that is refused: the first one, and the one for which it is refused
 record Refusal (text : List ℕ) (faults : List Stop) : Type 0 where
   fault : Stop
   more : List Stop
-  stop : Stop
+  refusal : Stop
   is : faults ≡ fault ∷ more
-  stops : StopsText text (refusal_of (length text) stop)
-  inside : stop.offset ≤ length text
-  sooner : (fault ≡ stop) ⊎ ((is_read_in_rows text ≡ true) × (fault.offset ≤ stop.offset))
+  stops : StopsText text refusal
+  first : IsFirstOf text fault refusal
 
 module _ (text : List ℕ) where
   abbrev pub Reads : Found Said → Type 0
@@ -58,10 +57,10 @@ module _ (text : List ℕ) where
       refused = (e, none, omega (arith, within, stops.of.offset), stops.of.reason)
 
       by : (rows : Bool) → is_read_in_rows text ≡ rows → Refusal text (salvaged text).faults
-      by false is = record { fault = stop; more = stops.more; stop = stop; is = rw is stops.is; stops = refused; inside = within_text; sooner = inl refl }
+      by false is = record { fault = stop; more = stops.more; refusal = refusal_of (length text) stop; is = rw is stops.is; stops = refused; first = (stop, stops.more, refl, omega arith, λ _. refl, rw is stops.is) }
       by true is =
-          let found : NoLater (stop ∷ stops.more) (read_in_rows (rows_of text) text).faults = subst (λ fs. NoLater fs (read_in_rows (rows_of text) text).faults) stops.is (read_no_later (rows_of text) text) in
-          record { fault = found.0; more = found.1; stop = stop; is = rw is found.2; stops = refused; inside = within_text; sooner = inr (is, found.3) }
+          let (fault, more, found, before) = subst (λ fs. NoLater fs (read_in_rows (rows_of text) text).faults) stops.is (read_no_later (rows_of text) text) in
+          record { fault = fault; more = more; refusal = refusal_of (length text) stop; is = rw is found; stops = refused; first = (stop, more, refl, before, λ not. (let clash = sym is ∙ not in absurd (cc)), rw is found) }
 
   refused : (e : Refused) → Reads (Err e) → Refusal text (salvaged text).faults
   refused e none = refusal_from e none (whole_of text (Err e) none)
@@ -88,26 +87,18 @@ module _ (text : List ℕ) where
             subst (IsTextFile text) (sym (file_is ∙ rw (same_lists, same_uses) refl)) read
         by (Err e) is = let wrong = none ∙ (refused e is).is in absurd (cc)
 
-    -- the first fault is the one for which it is refused, or in rows one before it
-    pub first_fault : (fault : Stop) (more : List Stop) → SalvagesFile text file (fault ∷ more) → (stop : Stop) × (let refusal = refusal_of (length text) stop in HoldsOfNone (IsTextFile text) × (refusal.offset ≤ length text) × DecidedBy IsTextFile text refusal × StopsText text refusal)
-        × (stop.offset ≤ length text) × ((fault ≡ stop) ⊎ (fault.offset ≤ stop.offset))
+    -- the first fault is that for which it is refused, or in rows one before it
+    pub first_fault : (fault : Stop) (more : List Stop) → SalvagesFile text file (fault ∷ more)
+        → (refusal : Stop) × HoldsOfNone (IsTextFile text) × (refusal.offset ≤ length text) × DecidedBy IsTextFile text refusal × StopsText text refusal × IsFirstOf text fault refusal
     first_fault fault more (metadata_is, lists, uses, faults) = by (all_said nothing_said (tokens_of (start_of text))) refl
       where
-        Goal : Type 0
-        Goal = (stop : Stop) × (let refusal = refusal_of (length text) stop in HoldsOfNone (IsTextFile text) × (refusal.offset ≤ length text) × DecidedBy IsTextFile text refusal × StopsText text refusal) × (stop.offset ≤ length text) × ((fault ≡ stop) ⊎ (fault.offset ≤ stop.offset))
-
-        by : (r : Found Said) → Reads r → Goal
+        by : (r : Found Said) → Reads r → (refusal : Stop) × HoldsOfNone (IsTextFile text) × (refusal.offset ≤ length text) × DecidedBy IsTextFile text refusal × StopsText text refusal × IsFirstOf text fault refusal
         by (Ok p) is = let wrong = faults ∙ ap (λ s. s.faults) (whole p is) in absurd (cc)
         by (Err e) is =
             let begins = refused e is in
             let same : begins.fault ≡ fault = let heads = faults ∙ begins.is in cc in
-            let stop = begins.stop in
-            let (none, within) = refused_text text (refusal_of (length text) stop) begins.stops in
-            let sooner : (fault ≡ stop) ⊎ (fault.offset ≤ stop.offset) = elim begins.sooner [
-              | inl first ↦ inl (sym same ∙ first)
-              | inr (in_rows, before) ↦ inr (subst (λ (f : Stop). f.offset ≤ stop.offset) same before)
-            ] in
-            (stop, (none, within, decided_text text (refusal_of (length text) stop) begins.stops, begins.stops), begins.inside, sooner)
+            let (none, within) = refused_text text begins.refusal begins.stops in
+            (begins.refusal, none, within, decided_text text begins.refusal begins.stops, begins.stops, subst (λ f. IsFirstOf text f begins.refusal) same begins.first)
 
   -- ---- what is given
   -- of a file, just that
@@ -123,7 +114,7 @@ module _ (text : List ℕ) where
           subst Gives (sym (whole p is)) (sym (read.alone file is_file), refl)
       by (Err e) is =
           let begins = refused e is in
-          absurd ((refused_text text (refusal_of (length text) begins.stop) begins.stops).0 file is_file)
+          absurd ((refused_text text begins.refusal begins.stops).0 file is_file)
 
   -- of another text, first the fault for which it is refused, or in rows one before it
   pub salvage_first : (metadata : FileMetadata) → IsOnly (IsMetadata (salvaged text).said.values) metadata → HoldsOfNone (IsTextFile text) → BeginsRefused text (salvaged text).faults
@@ -134,4 +125,4 @@ module _ (text : List ℕ) where
           let values : IsOnly (IsMetadata p.0.values) metadata = subst (λ s. IsOnly (IsMetadata s.said.values) metadata) (whole p is) only in
           let read = text_file text (tokens_of (start_of text)) (has_tokens text) p.0 p.1 metadata is values in
           absurd (no_file _ read.holds)
-      by (Err e) is = let begins = refused e is in (begins.fault, begins.more, begins.stop, begins.is, begins.stops, begins.sooner)
+      by (Err e) is = let begins = refused e is in (begins.fault, begins.more, begins.refusal, begins.is, begins.stops, begins.first)

@@ -17,7 +17,7 @@ use Rattle.cmap_text.specs.TextFiles.{Section, bf_char, bf_range, cids, closer, 
 use Rattle.cmap_text.specs.TextReading.{Code, Said, adding, all_said, body_in, cid_in, code_fault, code_in, code_or_closer, codespace, codespace_fault, codespace_to, destination_in, entry_after, filed, is_executable, item_after, item_said, key_in, cids_after, list_in, list_or_destination, next_cid, next_code, next_destination, nothing_said, opened_by, text_of, with_key, with_lists, with_other, with_use}
 use Rattle.cmap_text.specs.TextReading.{texts_from as texts_from_code}
 use Rattle.cmap_text.specs.TokenParsers.{Found, Refused, after, chain, followed_by, giving, head, head_in, malformed_reason, missing, next_in, offset_of, or_wrong, round, run}
-use Rattle.cmap_text.specs.Salvage.{Class, Entry, Filled, begin_item, nothing_salvaged, saying, take_use, take_value, value, Salvaged, State, Texts, alone, class_of, class_of_malformed, class_of_name, class_of_token, close_bracket, entry_fault, fault_of, known, known_words, lone_brackets, no_text, open_bracket, part, past_texts, take_after_texts, take_in_list, take_text, text_in, fill, fill_high, finished, having_lists, in_entry, in_list, is_closer, item, list_begun, new_entry, no_parts, one, own_fault, refused_at, take_all, take_in_entry, take_part, two, with_fault, with_parts, with_piece}
+use Rattle.cmap_text.specs.Salvage.{Class, Entry, Filled, Salvaged, State, Texts, alone, at_fault, begin_item, class_of, class_of_malformed, class_of_name, class_of_token, close_bracket, entry_fault, fault_of, fill, fill_high, finished, having_lists, having_value, in_brackets, in_entry, in_line, in_list, is_closer, item, known, known_words, list_begun, lone_brackets, new_entry, no_parts, no_text, nothing_salvaged, one, open_bracket, own_fault, part, past_texts, refused_at, saying, take_after_texts, take_all, take_in_entry, take_in_list, take_part, take_text, take_use, take_value, text_in, two, value, with_fault, with_parts, with_piece}
 use Rattle.cmap_text.specs.Salvage as salvage
 use Rattle.cmap_text.proofs.EntriesRead.{body_next}
 use Rattle.cmap_text.proofs.ItemsRead.{item-shorter, key_in-found, next-shorter, opened_by-found, said_next}
@@ -57,14 +57,40 @@ module _ (len : ℕ) where
   abbrev pub Final : State × Salvaged → List Piece → Salvaged
   Final now pieces = finished len (take_all now pieces)
 
+  -- the value of a key that hasn't come is none
+  abbrev pub settled : State × Salvaged → State × Salvaged
+  settled (value k, old) = (item, having_value old k None)
+  settled (item, old) = (item, old)
+  settled (in_entry entry, old) = (in_entry entry, old)
+  settled (at_fault rest, old) = (at_fault rest, old)
+  settled (in_brackets rest, old) = (in_brackets rest, old)
+  settled (in_line section, old) = (in_line section, old)
+  settled (in_list list, old) = (in_list list, old)
+
+  finished_settled : (now : State × Salvaged) → finished len (settled now) ≡ finished len now
+  finished_settled (value k, old) = refl
+  finished_settled (item, old) = refl
+  finished_settled (in_entry entry, old) = refl
+  finished_settled (at_fault rest, old) = refl
+  finished_settled (in_brackets rest, old) = refl
+  finished_settled (in_line section, old) = refl
+  finished_settled (in_list list, old) = refl
+
+  -- both end alike
+  abbrev pub EndAlike : State × Salvaged → List Piece → State × Salvaged → List Piece → Type 0
+  EndAlike now pieces mid rest = settled (take_all now pieces) ≡ settled (take_all mid rest)
+
+  same_final : (now : State × Salvaged) (pieces : List Piece) (mid : State × Salvaged) (rest : List Piece) → EndAlike now pieces mid rest → Final now pieces ≡ Final mid rest
+  same_final now pieces mid rest alike = sym (finished_settled (take_all now pieces)) ∙ ap (finished len) alike ∙ finished_settled (take_all mid rest)
+
   -- what is found in what is left goes on in the same way; or the first fault is that for which nothing is found
   abbrev pub Sim : {A : Type 0} → Found A → State × Salvaged → List Piece → (A → Bool → State × Salvaged) → Type 0
-  Sim (Ok p) now pieces ends = (b : Bool) × (rest : List Piece) × Cut len p.1 rest × (Final now pieces ≡ Final (ends p.0 b) rest)
+  Sim (Ok p) now pieces ends = (b : Bool) × (rest : List Piece) × Cut len p.1 rest × EndAlike now pieces (ends p.0 b) rest
   Sim (Err e) now pieces ends = Stops e (Final now pieces)
 
-  sim_from : {A : Type 0} (found : Found A) (now mid : State × Salvaged) (pieces rest : List Piece) (ends : A → Bool → State × Salvaged) → Final now pieces ≡ Final mid rest → Sim found mid rest ends → Sim found now pieces ends
+  sim_from : {A : Type 0} (found : Found A) (now mid : State × Salvaged) (pieces rest : List Piece) (ends : A → Bool → State × Salvaged) → EndAlike now pieces mid rest → Sim found mid rest ends → Sim found now pieces ends
   sim_from (Ok p) now mid pieces rest ends same (b, later, cut, is) = (b, later, cut, same ∙ is)
-  sim_from (Err e) now mid pieces rest ends same stops = subst (Stops e) (sym same) stops
+  sim_from (Err e) now mid pieces rest ends same stops = subst (Stops e) (sym (same_final now pieces mid rest same)) stops
 
   sim_then : {A B : Type 0} (more : A → Left → Found B) (found : Found A) (now : State × Salvaged) (pieces : List Piece) (ends : A → Bool → State × Salvaged) (after : B → Bool → State × Salvaged) → Sim found now pieces ends
       → ((x : A) (l : Left) (b : Bool) (rest : List Piece) → found ≡ Ok (x, l) → Cut len l rest → Sim (more x l) (ends x b) rest after) → Sim (followed_by more found) now pieces after
@@ -123,7 +149,7 @@ module _ (len : ℕ) where
         by p rest b more cut (Some x) is =
             let piece : Piece = record { token = Ok p.token; end = p.end; begins_line = b } in
             let goes : take_in_entry old entry piece ≡ place_ends x b = in_part old entry piece some ∙ rw (fills p.token, is, take_part) refl in
-            rw is (b, more, cut, ap (λ s. Final s more) goes)
+            rw is (b, more, cut, ap (λ s. settled (take_all s more)) goes)
         by p rest b more cut None is =
             let piece : Piece = record { token = Ok p.token; end = p.end; begins_line = b } in
             let stop : Stop = record { offset = p.end; reason = fault p.token } in
@@ -175,11 +201,11 @@ module _ (len : ℕ) where
         by p rest b more cut true closes found is =
             let piece : Piece = record { token = Ok p.token; end = p.end; begins_line = b } in
             let goes : take_in_entry old entry piece ≡ (item, old) = rw (closes, take_in_entry) refl in
-            rw closes (b, more, cut, ap (λ s. Final s more) goes)
+            rw closes (b, more, cut, ap (λ s. settled (take_all s more)) goes)
         by p rest b more cut false closes (Some code) is =
             let piece : Piece = record { token = Ok p.token; end = p.end; begins_line = b } in
             let goes : take_in_entry old entry piece ≡ start_ends section old (Some code) (begins || b) = cond-false _ _ _ (ap (λ c. true && c) closes) ∙ rw (first_fills (with_piece entry piece) old.said.lists p.token _ refl is, take_part) refl in
-            rw (closes, is) (begins || b, more, cut, ap (λ s. Final s more) goes)
+            rw (closes, is) (begins || b, more, cut, ap (λ s. settled (take_all s more)) goes)
         by p rest b more cut false closes None is =
             let piece : Piece = record { token = Ok p.token; end = p.end; begins_line = b } in
             let stop : Stop = record { offset = p.end; reason = code_fault p.token } in
@@ -246,7 +272,7 @@ module _ (len : ℕ) where
             let piece : Piece = record { token = Ok p.token; end = p.end; begins_line = b } in
             let text : text_in piece ≡ Some units = is in
             let goes : take_in_list old list piece ≡ text_ends units (list.one_line && not b) = in_text piece ∙ rw (text, take_text) refl in
-            rw is (list.one_line && not b, more, cut, ap (λ s. Final s more) goes)
+            rw is (list.one_line && not b, more, cut, ap (λ s. settled (take_all s more)) goes)
         by p rest b more cut None is = rw is (wrong_text _ (record { token = Ok p.token; end = p.end; begins_line = b }) more is (record { reason = refl; offset = refl }))
 
         at : Begins left pieces → Sim (run next_destination left) (in_list list, old) pieces text_ends
@@ -292,7 +318,7 @@ module _ (len : ℕ) where
         by p rest b more cut true is =
             let piece : Piece = record { token = Ok p.token; end = p.end; begins_line = b } in
             let goes : take_in_list old list piece ≡ (in_entry (new_entry bf_range), old) = past_text piece ∙ rw (bracket_closes p.token is, take_after_texts) refl in
-            rw is (true, more, cut, ap (λ s. Final s more) goes)
+            rw is (true, more, cut, ap (λ s. settled (take_all s more)) goes)
         by p rest b more cut false is = rw is (wrong_past _ (record { token = Ok p.token; end = p.end; begins_line = b }) more (λ closing. false≢true (sym is ∙ closing_bracket p.token closing)) (record { reason = refl; offset = refl }))
 
         at : Begins left pieces → Sim (head_in (λ t. BracketExpected) closes left) (in_list list, old) pieces closed_ends
@@ -505,7 +531,7 @@ module _ (len : ℕ) where
   whole_from (Err e) now mid pieces rest same stops = subst (Stops e) (sym same) stops
 
   whole_then : (found : Found Said) (now : State × Salvaged) (pieces : List Piece) (old : Salvaged) → Sim found now pieces (item_ends old) → ((said : Said) (l : Left) (rest : List Piece) → found ≡ Ok (said, l) → Cut len l rest → Whole (all_said said l) (item, saying old said) rest) → Whole (followed_by all_said found) now pieces
-  whole_then (Ok p) now pieces old (b, rest, cut, is) later = whole_from (all_said p.0 p.1) now (item, saying old p.0) pieces rest is (later p.0 p.1 rest refl cut)
+  whole_then (Ok p) now pieces old (b, rest, cut, is) later = whole_from (all_said p.0 p.1) now (item, saying old p.0) pieces rest (same_final now pieces (item, saying old p.0) rest is) (later p.0 p.1 rest refl cut)
   whole_then (Err e) now pieces old stops later = stops
 
   wrong_item : (old : Salvaged) → old.faults ≡ [] → (left : Left) (w : Wrong) (past : ℕ) (b : Bool) (more : List Piece) → left.tokens ≡ [] → w.kind ≡ left.kind → IsAt len left.kind w.offset left.stop

@@ -16,12 +16,14 @@ pub record Lines : Type 0 where
   -- those before the last one, and that one
   pub done : List Row
   pub row : Row
+  -- one without parts for each line end in a list of that one
+  pub inner : List Row
   -- the section that the last known word opens
   pub section : Option Section
   pub in_brackets : Bool
 
 abbrev pub no_lines : Lines
-no_lines = record { done = []; row = empty_row; section = None; in_brackets = false }
+no_lines = record { done = []; row = empty_row; inner = []; section = None; in_brackets = false }
 
 -- a part more on a line of this section
 abbrev pub with_part : Row → Section → Row
@@ -30,12 +32,12 @@ with_part row section = record { parts = min (row.parts + 1) 255; places = place
 -- a list is one part, with all that stands in its brackets
 abbrev pub part_added : Lines → Lines
 part_added old = if old.in_brackets then old else elim old.section [
-  | Some section ↦ record { done = old.done; row = with_part old.row section; section = old.section; in_brackets = old.in_brackets }
+  | Some section ↦ record { done = old.done; row = with_part old.row section; inner = old.inner; section = old.section; in_brackets = old.in_brackets }
   | None ↦ old
 ]
 
 abbrev pub in_brackets_now : Lines → Bool → Lines
-in_brackets_now old now = record { done = old.done; row = old.row; section = old.section; in_brackets = now }
+in_brackets_now old now = record { done = old.done; row = old.row; inner = old.inner; section = old.section; in_brackets = now }
 
 abbrev pub section_opened : Piece → Option Section
 section_opened piece = elim piece.token [ Ok t ↦ opened_by t | Err w ↦ None ]
@@ -43,22 +45,26 @@ section_opened piece = elim piece.token [ Ok t ↦ opened_by t | Err w ↦ None 
 -- executable names are no parts
 abbrev pub counted : Lines → Piece → Lines
 counted old piece = elim (class_of piece) [
-  | known ↦ record { done = old.done; row = old.row; section = section_opened piece; in_brackets = false }
+  | known ↦ record { done = old.done; row = old.row; inner = old.inner; section = section_opened piece; in_brackets = false }
   | alone ↦ old
   | open_bracket ↦ in_brackets_now (part_added old) true
   | close_bracket ↦ in_brackets_now old false
   | part ↦ if is_name_piece piece then old else part_added old
 ]
 
-abbrev pub line_begun : Lines → Lines
-line_begun old = record { done = old.done ++ old.row ∷ []; row = empty_row; section = old.section; in_brackets = old.in_brackets }
+abbrev pub line_ended : Lines → Lines
+line_ended old = record { done = (old.done ++ old.row ∷ []) ++ old.inner; row = empty_row; inner = []; section = old.section; in_brackets = old.in_brackets }
 
 -- with an opener begins a line of its section
 abbrev pub begins_row : Piece → Bool
 begins_row piece = piece.begins_line || is_some (section_opened piece)
 
+-- a line end in a list is none
+abbrev pub row_begun : Lines → Piece → Lines
+row_begun old piece = if old.in_brackets && not (is_some (section_opened piece)) then record { done = old.done; row = old.row; inner = old.inner ++ empty_row ∷ []; section = old.section; in_brackets = old.in_brackets } else line_ended old
+
 abbrev pub line_taken : Lines → Piece → Lines
-line_taken old piece = counted (if begins_row piece then line_begun old else old) piece
+line_taken old piece = counted (if begins_row piece then row_begun old piece else old) piece
 
 unfoldable pub lines_taken : Lines → List Piece → Lines
 lines_taken old [] = old
@@ -66,7 +72,7 @@ lines_taken old (piece ∷ pieces) = lines_taken (line_taken old piece) pieces
 
 -- what stands before the first line, which is nothing, and on each line
 abbrev pub rows_of : List ℕ → List Row
-rows_of text = let lines = lines_taken no_lines (pieces_left (start_of text)) in lines.done ++ lines.row ∷ []
+rows_of text = (line_ended (lines_taken no_lines (pieces_left (start_of text)))).done
 
 abbrev pub is_whole : Row → Bool
 is_whole row = not (row.parts == 0) && row.parts == row.places

@@ -1,11 +1,8 @@
 -- What a text says apart from its faults, piece by piece.
-use Rattle.std.specs.Prelude.{◌≡◌, ℕ, ◌+◌, ◌-◌, ◌≤◌, ◌&&◌, ◌||◌, ◌==◌, not, nat_le, nat_lt, Bool, true, false, List, [], ◌∷◌, ◌++◌, ◌⊎◌, flat_map, length, take, codes, bytes_eq, map, Option, Some, None, option_and_then, option_map, Result, Ok, Err, if◌then◌else◌}
-use Rattle.std.specs.List.{list_any}
-use Rattle.cmap_tokens.specs.Malformed as malformed
-use Rattle.cmap_tokens.specs.Malformed.{Malformed}
+use Rattle.std.specs.Prelude.{◌≡◌, ℕ, ◌+◌, ◌-◌, ◌≤◌, ◌&&◌, ◌||◌, ◌==◌, not, nat_le, nat_lt, Bool, true, false, List, [], ◌∷◌, ◌++◌, ◌⊎◌, flat_map, length, take, take_while, codes, map, Option, Some, None, option_and_then, option_map, Result, Ok, Err, if◌then◌else◌}
 use Rattle.cmap_tokens.specs.Pieces.{Piece, Wrong, pieces_left}
 use Rattle.cmap_tokens.specs.Tokens.{Token}
-use Rattle.cmap_tokens.specs.TokensLeft.{start_of, tokens_of}
+use Rattle.cmap_tokens.specs.TokensLeft.{EndedToken, start_of, tokens_of}
 use Rattle.cmap_values.specs.Files.{Declaration, File, Lists, lists_of}
 use Rattle.cmap_values.specs.ListsAppended.{append_lists}
 use Rattle.cmap_values.specs.declared.fault.Reason.{Reason}
@@ -15,7 +12,7 @@ pub use Rattle.cmap_text.specs.Classes.{Class, alone, class_of, class_of_malform
 pub use Rattle.cmap_text.specs.Rows.{are_rows, parts_on, rows_at, rows_of}
 use Rattle.cmap_text.specs.declared.salvage.rows.Row.{Row}
 use Rattle.cmap_text.specs.TextFiles.{CidKind, IsEntry, IsItem, IsMetadata, Item, Section, declared_by, names_used, bf_char, bf_range, cids, closer, codespace_range, opener, range, single, use_word, declares_cid}
-use Rattle.cmap_text.specs.TextReading.{Code, Said, StopsText, adding, cid_in, code_fault, code_in, codespace, destination_in, filed, is_executable, key_in, nothing_said, opened_by, sections, text_of, value_in, with_other, with_value}
+use Rattle.cmap_text.specs.TextReading.{Code, Said, StopsText, adding, cid_in, code_fault, code_in, codespace, destination_in, filed, is_executable, key_in, nothing_said, opened_by, text_of, value_in, with_other, with_value}
 use Rattle.cmap_text.specs.TokenParsers.{malformed_reason}
 
 -- ---- faults
@@ -159,10 +156,8 @@ pass_in_entry old rest piece = elim (class_of piece) [
 abbrev pub pass_in_list : Salvaged → Rest → Piece → State × Salvaged
 pass_in_list old rest piece = elim (class_of piece) [
   | known ↦ take_item old piece
-  | alone ↦ (in_brackets rest, old)
-  | open_bracket ↦ (in_brackets rest, old)
   | close_bracket ↦ (after_entry rest, old)
-  | part ↦ (in_brackets rest, old)
+  | _ ↦ (in_brackets rest, old)
 ]
 
 -- ---- a part at fault that shows what was meant
@@ -295,10 +290,8 @@ take_in_entry old entry piece = if no_parts entry.parts && is_closer entry.secti
 abbrev pub pass_in_line : Salvaged → Section → Piece → State × Salvaged
 pass_in_line old section piece = if piece.begins_line then take_in_entry old (new_entry section) piece else elim (class_of piece) [
   | known ↦ take_item old piece
-  | alone ↦ (in_line section, old)
   | open_bracket ↦ (in_brackets (rest_in_line section), old)
-  | close_bracket ↦ (in_line section, old)
-  | part ↦ (in_line section, old)
+  | _ ↦ (in_line section, old)
 ]
 
 -- ---- a list of texts
@@ -329,11 +322,10 @@ adding_empty old code piece = elim (empty_text_in piece) [ Some units ↦ having
 
 abbrev pub no_text : Salvaged → Texts → Piece → State × Salvaged
 no_text old list piece = elim (class_of piece) [
-  | part ↦ (list_after list piece (list.next + 1), adding_empty old list.next piece)
-  | alone ↦ (list_after list piece list.next, old)
-  | open_bracket ↦ (list_after list piece list.next, old)
-  | close_bracket ↦ (after_entry (rest_of_list list), short_list old list)
   | known ↦ take_item (losing old list) piece
+  | part ↦ (list_after list piece (list.next + 1), adding_empty old list.next piece)
+  | close_bracket ↦ (after_entry (rest_of_list list), short_list old list)
+  | _ ↦ (list_after list piece list.next, old)
 ]
 
 abbrev pub take_text : Salvaged → Texts → Piece → State × Salvaged
@@ -354,9 +346,7 @@ abbrev pub past_texts : Salvaged → Texts → Piece → State × Salvaged
 past_texts old list piece = elim (class_of piece) [
   | known ↦ take_item old piece
   | part ↦ end_list old list piece
-  | alone ↦ (list_after list piece list.next, old)
-  | open_bracket ↦ (list_after list piece list.next, old)
-  | close_bracket ↦ (list_after list piece list.next, old)
+  | _ ↦ (list_after list piece list.next, old)
 ]
 
 abbrev pub take_after_texts : Salvaged → Texts → Piece → State × Salvaged
@@ -476,10 +466,12 @@ refused_at len _ offset = offset
 abbrev pub refusal_of : ℕ → Stop → Stop
 refusal_of len fault = record { offset = refused_at len fault.reason fault.offset; reason = fault.reason }
 
--- the first is the fault for which a text is refused that is read up to its first one; in rows a short entry may come before it
+-- a text that is refused for that one, where it is read up to its first fault, has this first fault past which it is read: the same, or in rows one that isn't after it
+abbrev pub IsFirstOf : List ℕ → Stop → Stop → Type 0
+IsFirstOf text fault refusal = (stop : Stop) × (more : List Stop) × (refusal ≡ refusal_of (length text) stop) × (fault.offset ≤ stop.offset) × (is_read_in_rows text ≡ false → fault ≡ stop) × ((salvaged text).faults ≡ fault ∷ more)
+
 abbrev pub BeginsRefused : List ℕ → List Stop → Type 0
-BeginsRefused text faults = (fault : Stop) × (more : List Stop) × (stop : Stop) × (faults ≡ fault ∷ more) × StopsText text (refusal_of (length text) stop)
-    × ((fault ≡ stop) ⊎ ((is_read_in_rows text ≡ true) × (fault.offset ≤ stop.offset)))
+BeginsRefused text faults = (fault : Stop) × (more : List Stop) × (refusal : Stop) × (faults ≡ fault ∷ more) × StopsText text refusal × IsFirstOf text fault refusal
 
 -- ---- what comes before the first fault
 -- the first entries of a section, and what each declares
@@ -500,7 +492,20 @@ BeginWithItems tokens (first ∷ items) each = (rest : List Token) × IsItem tok
 abbrev pub BeginWithLists : Lists → Lists → Type 0
 BeginWithLists front lists = (more : Lists) × (lists ≡ append_lists front more)
 
--- of a text that isn't read in rows: whatever items and entries its tokens begin with, the lists begin with what these declare, and the uses with the names that they use. So it is with all that stands before the first fault
-abbrev pub KeepsFronts : List ℕ → Lists → List (List ℕ) → Type 0
-KeepsFronts text lists uses = is_read_in_rows text ≡ false → (items : List Item) (each : List (List Declaration)) (names : List (List ℕ)) → BeginWithItems (map (λ p. p.token) (tokens_of (start_of text)).tokens) items each → names_used None items ≡ Some names
+-- the first of these tokens, those that end before the first of these faults
+abbrev pub tokens_before : List Stop → List EndedToken → List EndedToken
+tokens_before [] tokens = tokens
+tokens_before (fault ∷ more) tokens = take_while (λ p. nat_lt p.end fault.offset) tokens
+
+-- the tokens of a text with these faults, as far as what they say is kept: those before one that is malformed, or in rows before the first fault
+abbrev pub tokens_kept : List ℕ → List Stop → List EndedToken
+tokens_kept text faults = let tokens = (tokens_of (start_of text)).tokens in if is_read_in_rows text then tokens_before faults tokens else tokens
+
+-- whatever items and entries these tokens begin with, the lists begin with what these declare, and the uses with the names that they use
+abbrev pub Fronts : List Token → Lists → List (List ℕ) → Type 0
+Fronts tokens lists uses = (items : List Item) (each : List (List Declaration)) (names : List (List ℕ)) → BeginWithItems tokens items each → names_used None items ≡ Some names
     → BeginWithLists (lists_of (flat_map declared_by items ++ flat_map (λ ds. ds) each)) lists × ((more : List (List ℕ)) × (uses ≡ names ++ more))
+
+-- what stands before the first fault of a text is kept
+abbrev pub KeepsFronts : List ℕ → List Stop → Lists → List (List ℕ) → Type 0
+KeepsFronts text faults = Fronts (map (λ p. p.token) (tokens_kept text faults))

@@ -56,7 +56,7 @@ abbrev pub found_seen : Found → salvage.Salvaged
 found_seen found = record { said = said_seen found.said; faults = found.faults.items }
 
 abbrev pub lines_seen : Lines → rows.Lines
-lines_seen lines = record { done = lines.rows.items; row = lines.row; section = option_map section_seen lines.section; in_brackets = lines.is_in_brackets }
+lines_seen lines = record { done = lines.rows.items; row = lines.row; inner = lines.inner.items; section = option_map section_seen lines.section; in_brackets = lines.is_in_brackets }
 
 -- the lists have these declarations more, and nothing else changes
 abbrev pub AddsLists : List Declaration → Found → Found → Type 0

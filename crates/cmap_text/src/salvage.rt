@@ -53,11 +53,11 @@ pub fn salvage_text<'d>(alloc: Global, text: &'d [u8]) -> Result<Salvaged<'d>, A
     ensures first { IfOk result (λ found. HoldsOfNone (IsTextFile text.now)
         → BeginsRefused text.now found.faults.items) }
 
-    // Unless it is in rows, what is said before the first fault is a front of what is given.
-    ensures kept { IfOk result
-        (λ found. KeepsFronts text.now (lists_seen found.file.lists) (file_seen found.file).uses) }
+    // What is said before the first fault comes first in what is given.
+    ensures kept { IfOk result (λ found. KeepsFronts text.now found.faults.items
+        (lists_seen found.file.lists) (file_seen found.file).uses) }
 
-    // Each declaration stands in the text, at an entry of its own.
+    // Each declaration stands in the text, at an entry of its own in a section that is open there.
     ensures declared { IfOk result (λ found. AreDeclared text.now (lists_seen found.file.lists)) }
 
     // The faults are in order, and in the text.

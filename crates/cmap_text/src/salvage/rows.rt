@@ -64,6 +64,8 @@ struct Lines {
     rows: Vec<Row>,
     /// The last one.
     row: Row,
+    /// One without parts for each line end in a list of the last one.
+    inner: Vec<Row>,
     /// The section that the last known word opens.
     section: Option<Section>,
     is_in_brackets: bool,
@@ -76,6 +78,7 @@ impl Lines {
         Lines {
             rows: Vec::new(alloc),
             row: Row::empty(),
+            inner: Vec::new(alloc),
             section: None,
             is_in_brackets: false,
         }
@@ -86,10 +89,30 @@ impl Lines {
         ensures { OnOk result (lines_seen self.new ≡ lines.line_taken (lines_seen self.old) (piece_seen piece.now)) }
     {
         if begins_row(piece) {
-            self.rows.push(self.row)?;
-            self.row = Row::empty();
+            self.begin_row(piece)?;
         }
         self.count(piece);
+        Ok(())
+    }
+
+    /// Begins a line with a piece. A line end in a list, which is a part of its line, is none.
+    fn begin_row(&mut self, piece: &Piece<'_>) -> Result<(), AllocError>
+        ensures { OnOk result (lines_seen self.new ≡ lines.row_begun (lines_seen self.old) (piece_seen piece.now)) }
+    {
+        if self.is_in_brackets && section_opened(piece).is_none() {
+            self.inner.push(Row::empty())?;
+            return Ok(());
+        }
+        self.end_line()
+    }
+
+    /// Ends the last line.
+    fn end_line(&mut self) -> Result<(), AllocError>
+        ensures { OnOk result (lines_seen self.new ≡ lines.line_ended (lines_seen self.old)) }
+    {
+        self.rows.push(self.row)?;
+        self.rows.append(&mut self.inner)?;
+        self.row = Row::empty();
         Ok(())
     }
 
@@ -138,9 +161,8 @@ pub(super) fn rows_of(alloc: Global, text: &[u8]) -> Result<Vec<Row>, AllocError
     while let Some(piece) = reader.next_piece()? {
         lines.take(&piece)?;
     }
-    let mut rows = lines.rows;
-    rows.push(lines.row)?;
-    Ok(rows)
+    lines.end_line()?;
+    Ok(lines.rows)
 }
 
 /// Whether more than half of the lines with parts hold as many as an entry.

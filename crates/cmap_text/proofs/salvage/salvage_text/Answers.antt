@@ -21,7 +21,7 @@ returns c =
     let values : IsOnly (IsMetadata (salvaged text).said.values) metadata = subst (λ s. IsOnly (IsMetadata s.said.values) metadata) same only in
     let Gives : Salvaged → Type 0 = λ s. (file : File) → IsTextFile text file → (record { metadata = metadata; lists = s.said.lists; uses = s.said.uses } ≡ file) × (s.faults ≡ []) in
     let Ordered : Salvaged → Type 0 = λ s. Ascend 0 s.faults (length text) in
-    let Keeps : Salvaged → Type 0 = λ s. KeepsFronts text s.said.lists s.said.uses in
+    let Keeps : Salvaged → Type 0 = λ s. KeepsFronts text s.faults s.said.lists s.said.uses in
     let Declares : Salvaged → Type 0 = λ s. AreDeclared text s.said.lists in
     let Refused : Salvaged → Type 0 = λ s. HoldsOfNone (IsTextFile text) → BeginsRefused text s.faults in
     record {
