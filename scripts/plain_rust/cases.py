@@ -326,18 +326,27 @@ REFUSED = [
     ("a bracket that isn't closed", "#[inline(always]\nfn f() {}\n", 1, "a bracket isn't closed"),
 ]
 
+# what it shows, a text, and what it is where `f` is marked `inline`
+INLINES = [
+    ("a function without attributes", "fn g() {}\n\nfn f() {}\n", "fn g() {}\n\n#[inline(always)]\nfn f() {}\n"),
+    ("a method that says otherwise", "    #[cold]\n    #[inline(never)]\n    pub(super) fn f() {}\n",
+     "    #[inline(always)]\n    pub(super) fn f() {}\n"),
+    ("no such function", "fn of() {}\n", "0 functions have the name f"),
+    ("two of them", "fn f() {}\n\npub fn f() {}\n", "2 functions have the name f"),
+]
+
 # what it shows, a source, and what C calls
 CALLS = [
     ("numbers and a handle", """
 #[unsafe(no_mangle)]
-pub extern "C" fn hayro_cmap_cid(map: &mut Handle, code: u32, cid: &mut u32) -> bool
+pub extern "C" fn hayro_cmap_has(map: &mut Handle, code: u32, cid: &mut u32) -> bool
     ensures { Cid map.old code cid.new }
 {
     map.cid(code, cid)
 }
 """, """
 #[unsafe(no_mangle)]
-pub unsafe extern "C" fn hayro_cmap_cid(
+pub unsafe extern "C" fn hayro_cmap_has(
     map: *mut handles::Handle,
     code: u32,
     cid: *mut u32,
@@ -347,7 +356,31 @@ pub unsafe extern "C" fn hayro_cmap_cid(
     else {
         return false;
     };
-    calls::hayro_cmap_cid(map, code, cid)
+    calls::hayro_cmap_has(map, code, cid)
+}
+"""),
+    ("a lookup, which is made in place where it is usual", """
+#[unsafe(no_mangle)]
+pub extern "C" fn hayro_cmap_cid(map: &mut Handle, alloc: Global, code: u32, byte_len: u8, cid: &mut u32) -> bool {
+    map.cid(code, byte_len, cid)
+}
+""", """
+#[unsafe(no_mangle)]
+pub unsafe extern "C" fn hayro_cmap_cid(
+    map: *mut handles::Handle,
+    code: u32,
+    byte_len: u8,
+    cid: *mut u32,
+) -> bool {
+    let (Some(map), Some(cid),) =
+        (unsafe { (one_mut(map), one_mut(cid),) })
+    else {
+        return false;
+    };
+    if !lookup::is_usual(map, byte_len) {
+        return lookup::hayro_cmap_cid(map, code, byte_len, cid);
+    }
+    calls::hayro_cmap_cid(map, Global, code, byte_len, cid)
 }
 """),
     ("files, a buffer and an allocator", """

@@ -22,9 +22,11 @@ READER = ["hayro_cmap", "cmap_encode", "cmap_unicode", "cmap_flatten", "cmap_lin
 # the program that runs rows of data, and the crate that it is a call of
 ROWS = "cmap_vectors"
 QUERIES = "cmap_queries"
-# functions of lookups that Rust inlines into another crate only where they say so
+# functions of lookups that Rust inlines only where they say so; other attributes of the kind are replaced
 INLINED = {
-    "cmap_layers/src/lookup.rt": ["text", "find_bf"],
+    "cmap_c_maps/src/cids.rt": ["hayro_cmap_cid", "hayro_cmap_cid_strict"],
+    "cmap_layers/src/lookup.rt": ["strict_cid", "text", "find_bf"],
+    "cmap_runs/src/runs/search.rt": ["find_after_blocks", "find_among_last"],
     "cmap_tokens/src/utf16.rt": ["one_char"],
     "hayro_cmap/src/map.rt": ["lookup_bf_string", "next_code"],
 }
@@ -41,7 +43,8 @@ def crates_of_reader():
 def with_inlined(text, names):
     """The text with an attribute before each of these functions."""
     for name in names:
-        text, count = re.subn(rf"^( *)(?=(pub )?fn {name}\b)", r"\1#[inline(always)]\n\1", text, flags=re.M)
+        function = rf"^( *)(?:#\[(?:cold|inline\(\w+\))\]\n *)*((?:pub(?:\(\w+\))? )?fn {name}\b)"
+        text, count = re.subn(function, r"\1#[inline(always)]\n\1\2", text, flags=re.M)
         if count != 1:
             raise Unknown(f"{count} functions have the name {name}")
     return text

@@ -10,6 +10,12 @@ from .source import Source, Unknown
 # what a call gives where a pointer is null that must not be; a mode is a number, too
 NOTHING = {"u32": "ABSENT", "usize": "0", "bool": "false", "": ""}
 NO_MODE = {"hayro_cmap_writing_mode", "hayro_cmap_layer_writing_mode"}
+# lookups of one code, which are made in place only where they are usual
+LOOKUPS = {"hayro_cmap_cid", "hayro_cmap_cid_strict"}
+LOOKED_UP = """\
+    if !lookup::is_usual(map, byte_len) {{
+        return lookup::{name}(map, code, byte_len, cid);
+    }}"""
 # what C hands in as it is
 VALUES = ["bool", "i32", "u16", "u32", "u64", "u8", "usize"]
 HEAD = """\
@@ -19,6 +25,7 @@ HEAD = """\
 
 use crate::fallible::alloc::Global;
 use crate::given::{ABSENT, NO_MODE, items, items_mut, one, one_mut};
+use crate::lookup;
 use crate::reader::*;
 """
 
@@ -92,6 +99,7 @@ def export_of(source, at, path, structs):
         f"    let ({', '.join(f'Some({one.name})' for one in checked)},) =",
         f"        (unsafe {{ ({', '.join(one.made for one in checked)},) }})",
         f"    else {{\n        return {nothing};\n    }};".replace("return ;", "return;"),
+        *([LOOKED_UP.format(name=name)] if name in LOOKUPS else []),
         f"    {path}::{name}({', '.join(one.passed for one in parameters)})",
         "}",
     ]

@@ -13,15 +13,18 @@ C_LIBRARY, COMMAND = "hayro-cmap-c", "cmap"
 MEMBERS = {C_LIBRARY: write_c_library, COMMAND: write_command}
 # which crates of others the command was tested with
 LOCK = COMMAND_BY_HAND / "Cargo.lock"
-# how members are built; code without `std` can't unwind
-PROFILES = """
+# how members are built: the library for its speed, the command by all processors. Code without `std` can't unwind, and
+# without LTO it names what unwinds
+PROFILES = f"""
 [profile.dev]
 panic = "abort"
 
 [profile.release]
-codegen-units = 1
-lto = "fat"
+lto = "thin"
 panic = "abort"
+
+[profile.release.package.{C_LIBRARY}]
+codegen-units = 1
 """
 # proofs give `usize` 64 bits: where it has 32, a sum that overflows ends the program
 CONFIGURATION = """\

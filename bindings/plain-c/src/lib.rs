@@ -1,7 +1,7 @@
 //! The C library of hayro_cmap, whose calls `include/hayro_cmap.h` describes.
 //!
 //! The modules below `reader` are the sources of the proved library, without their contracts; `exports` is made of their
-//! calls for C. By hand are `given`, `alone`, `fallible` and `reader::cmap_handles::loose`. Unsafe code is in the modules
+//! calls for C. By hand are `given`, `lookup`, `alone`, `fallible` and `reader::cmap_handles::loose`. Unsafe code is in the modules
 //! that allow it. A null pointer with a length other than 0 is a status. A panic ends the program.
 #![no_std]
 #![deny(unsafe_code)]
@@ -19,6 +19,7 @@ mod exports;
 mod fallible;
 #[allow(unsafe_code)]
 mod given;
+mod lookup;
 // Proofs read some arguments alone, other crates of the project use some items, and the style is that of the sources.
 #[allow(clippy::all, dead_code, unused_imports, unused_variables)]
 mod reader;
