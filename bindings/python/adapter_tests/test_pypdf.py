@@ -29,6 +29,7 @@ from made import Name, Stream, composite, pdf, simple, to_unicode
 
 import hayro_cmap
 import hayro_cmap.pypdf as adapter
+from hayro_cmap._given_font import KeptGlyphs
 
 #: An encoding with the codes 41, 8140 to 8142, and 42 with the CID 0.
 OWN = Stream(cases.EMBEDDED + b" 1 begincidchar <42> 0 endcidchar", Type=Name("CMap"), CMapName=Name("Own-H"))
@@ -58,7 +59,8 @@ def characters_of(name):
     """The texts of the characters of an encoding, and its codec."""
     maps = adapter.GivenMaps(True, adapter.CMapSource(name), None, b"Adobe-Japan1")
     codec = adapter.codec_name(maps)
-    return adapter.Characters(maps, codec, None), codec
+    font = adapter.GivenFont(maps, KeptGlyphs(True, {}))
+    return adapter.CharactersOfCodec(font, codec, None), codec
 
 
 def live():
