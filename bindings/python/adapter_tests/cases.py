@@ -4,7 +4,9 @@ import multiprocessing
 import unittest
 from pathlib import Path
 
-from made import Name, Stream, composite, simple, to_unicode
+from made import Name, Stream, composite, simple, to_unicode, truetype, with_program
+
+from hayro_cmap._glyphs import HAS_GLYPH_LIST
 
 if not Path("/usr/share/poppler/cMap/Adobe-Japan1").is_dir():
     raise unittest.SkipTest("Debian's package poppler-data isn't installed")
@@ -151,3 +153,69 @@ ENDLESS = to_unicode(b"1 beginbfrange <00000000> <FFFFFFFF> <0000> endbfrange", 
 
 #: The same of CIDs, many times.
 MANY = b"begincmap 999 begincidrange " + b"<0000> <FFFF> 0 " * 20000 + b"endcidrange endcmap"
+
+#: Of the glyphs 1 and 2 the first one is alpha and the second beta.
+ALPHA_BETA = truetype({0x3B1: 1, 0x3B2: 2})
+
+#: A part of a Type 1 program, up to its encrypted part.
+TYPE1 = b"%!PS-AdobeFont-1.0: F\n/Encoding 256 array dup 1 /alpha put dup 2 /beta put readonly def\neexec"
+
+
+def glyphs(entries=None, program=ALPHA_BETA, **of_cids):
+    """A composite font whose CIDs are the numbers of glyphs, and its ToUnicode CMap with these entries."""
+    below = {"Subtype": Name("CIDFontType2"), "FontDescriptor": with_program("FontFile2", program), **of_cids}
+    return composite(Name("Identity-H"), None if entries is None else to_unicode(entries), **below)
+
+
+#: Those whose codes have texts by an embedded program.
+PROGRAMS = [
+    ("no ToUnicode", glyphs(), b"\0\1\0\2", "αβ"),
+    ("ToUnicode first", glyphs(b"1 beginbfchar <0001> <0078> endbfchar"), b"\0\1\0\2", "xβ"),
+    ("ToUnicode with a fault", glyphs(b"2 beginbfchar <0001> <0078> <0002> <00x9> endbfchar"), b"\0\1\0\2", "xβ"),
+    ("a map of glyphs", glyphs(CIDToGIDMap=Stream(bytes([0, 0, 0, 2, 0, 1]))), b"\0\1\0\2", "βα"),
+    (
+        "an encoding that is a stream",
+        composite(
+            Stream(EMBEDDED + b" 1 begincidchar <42> 1 endcidchar", Type=Name("CMap"), CMapName=Name("Own-H")),
+            FontDescriptor=with_program("FontFile2", ALPHA_BETA),
+        ),
+        b"B",
+        "α",
+    ),
+    (
+        "a simple font by its codes",
+        simple(
+            to_unicode(b"1 beginbfchar <01> <0078> endbfchar", BYTES),
+            FontDescriptor=with_program("FontFile2", truetype({0x3B1: 1, 0x3B2: 2}, codes=[0, 2, 1, 2])),
+        ),
+        b"\1\2\3",
+        "xαβ",
+    ),
+    (
+        "numbers for names",
+        simple(
+            Encoding={"Type": Name("Encoding"), "Differences": [1, Name("a72"), Name("a105")]},
+            FontDescriptor=with_program("FontFile2", truetype({})),
+        ),
+        b"\1\2",
+        "Hi",
+    ),
+]
+
+if HAS_GLYPH_LIST:
+    PROGRAMS += [
+        ("names of glyphs", glyphs(program=truetype({0x3B1: 1}, names=[".notdef", "x", "beta"])), b"\0\1\0\2", "αβ"),
+        (
+            "a Type 1 program",
+            simple(
+                to_unicode(b"1 beginbfchar <01> <0078> endbfchar", BYTES),
+                Subtype=Name("Type1"),
+                FontDescriptor=with_program("FontFile", TYPE1, Length1=len(TYPE1)),
+            ),
+            b"\1\2",
+            "xβ",
+        ),
+    ]
+
+#: Programs that are no programs, or only a part of one.
+HOSTILE = [b"", bytes(64), b"OTTO" + bytes(12), *(ALPHA_BETA[:size] for size in range(0, len(ALPHA_BETA), 29))]

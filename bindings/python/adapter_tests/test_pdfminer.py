@@ -60,7 +60,7 @@ class Installed(unittest.TestCase):
         self.addCleanup(adapter.uninstall)
 
     def test_texts(self):
-        for name, font, string, expected in [*cases.RIGHT, *cases.BROKEN, *cases.COLLECTIONS]:
+        for name, font, string, expected in [*cases.RIGHT, *cases.BROKEN, *cases.COLLECTIONS, *cases.PROGRAMS]:
             with self.subTest(name):
                 self.assertEqual(text(font, string), expected)
 

@@ -71,7 +71,7 @@ def live():
 class Texts(unittest.TestCase):
     def test_texts(self):
         for library in LIBRARIES:
-            for name, font, string, expected in [*cases.RIGHT, *cases.BROKEN, *cases.COLLECTIONS]:
+            for name, font, string, expected in [*cases.RIGHT, *cases.BROKEN, *cases.COLLECTIONS, *cases.PROGRAMS]:
                 with self.subTest(f"{library.__name__}: {name}"), adapter.installed():
                     self.assertEqual(text(library, font, string), expected)
 

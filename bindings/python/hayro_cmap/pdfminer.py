@@ -20,7 +20,7 @@ from pdfminer.pdftypes import LITERALS_FLATE_DECODE, PDFStream, resolve1
 
 from . import CMapSource
 from ._budget import Budget
-from ._font_maps import MOST_IN_CHAIN, GivenMaps
+from ._font_maps import COLLECTIONS, MOST_IN_CHAIN, GivenMaps
 from ._given_font import GivenFont, GivenGlyphs, Objects, bounded
 
 __all__ = ["ResourceManager", "install", "installed", "uninstall"]
@@ -128,7 +128,9 @@ class PDFCIDFont(pdffont.PDFCIDFont):
         self._cmap = cmap_of(font, spec)
         # pdfminer reads a name under ToUnicode itself
         has_name = maps.to_unicode_source is not None and not maps.has_to_unicode
-        is_ours = not has_name and (maps.has_to_unicode or maps.texts_of_cids is not None)
+        # pdfminer knows texts of collections, and raises over many a program
+        is_own = maps.collection_of_cid_font in COLLECTIONS and maps.texts_of_cids is None and not maps.has_to_unicode
+        is_ours = not has_name and not is_own
         super().__init__(rsrcmgr, without_texts(spec) if is_ours else spec, *arguments, **options)
         if not has_name:
             kind = TextsOfCodes if isinstance(self._cmap, Encoding) else Texts
