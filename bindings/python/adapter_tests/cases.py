@@ -1,10 +1,12 @@
 """Fonts that both adapters are asked for, and the texts that are right."""
 
 import multiprocessing
+import random
 import unittest
+import zlib
 from pathlib import Path
 
-from made import Name, Stream, composite, simple, to_unicode, truetype, with_program
+from made import DESCRIPTOR, Name, Stream, composite, simple, to_unicode, truetype, truetype_of_groups, with_program
 
 from hayro_cmap._glyphs import HAS_GLYPH_LIST
 
@@ -217,5 +219,34 @@ if HAS_GLYPH_LIST:
         ),
     ]
 
-#: Programs that are no programs, or only a part of one.
-HOSTILE = [b"", bytes(64), b"OTTO" + bytes(12), *(ALPHA_BETA[:size] for size in range(0, len(ALPHA_BETA), 29))]
+
+
+def hostile():
+    """Fonts whose programs are none, or are cut and changed, or whose entries aren't what they should be."""
+    chance, named = random.Random(1), truetype({0x3B1: 1, 0x3B2: 2}, [0, 2, 1], [".notdef", "alpha", "beta"])
+    programs = [b"", bytes(64), b"OTTO" + bytes(12), MANY_CODES]
+    for _ in range(40):
+        changed = bytearray(named[: chance.randrange(1, len(named))])
+        for _ in range(chance.randrange(9)):
+            changed[chance.randrange(len(changed))] = chance.randrange(256)
+        programs.append(bytes(changed))
+    for program in programs:
+        yield glyphs(program=program)
+        yield glyphs(FontDescriptor=with_program("FontFile3", program, Subtype=Name("CIDFontType0C")))
+        yield simple(FontDescriptor=with_program("FontFile2", program))
+        yield simple(Subtype=Name("Type1"), FontDescriptor=with_program("FontFile3", program, Subtype=Name("Type1C")))
+    for entry in (Name("x"), "x", 7, [7], {"x": 7}, True):
+        yield glyphs(FontDescriptor={**DESCRIPTOR, "FontFile3": entry}, CIDToGIDMap=entry)
+        yield simple(FontDescriptor={**DESCRIPTOR, "FontFile2": entry, "FontFile3": entry})
+
+
+#: A program with all characters, many times.
+MANY_CODES = truetype_of_groups([(0, 0x10FFFF, 1)] * 1000)
+
+#: A font whose program has a megabyte, and few bytes before it is decoded.
+LARGE = glyphs(
+    FontDescriptor={
+        **DESCRIPTOR,
+        "FontFile3": Stream(zlib.compress(truetype({0x3B1: 1}, size=1 << 20)), Filter=Name("FlateDecode")),
+    }
+)

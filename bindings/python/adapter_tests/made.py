@@ -112,8 +112,15 @@ endcmap CMapName currentdict /CMap defineresource pop end end""" % (codespace, e
 def truetype(characters: Dict[int, int], codes: Sequence[int] = (), names: Sequence[str] = (), size: int = 0) -> bytes:
     """A TrueType program that has the glyphs of characters; those of codes, as a Macintosh has them; the names of the
     glyphs from 0 on; and a table of this size with their outlines."""
-    rows = b"".join(struct.pack(">LLL", code, code, glyph) for code, glyph in sorted(characters.items()))
-    unicode = struct.pack(">HHLLL", 12, 0, 16 + len(rows), 0, len(characters)) + rows
+    return truetype_of_groups([(it, it, glyph) for it, glyph in sorted(characters.items())], codes, names, size)
+
+
+def truetype_of_groups(
+    groups: List[Tuple[int, int, int]], codes: Sequence[int] = (), names: Sequence[str] = (), size: int = 0
+) -> bytes:
+    """The same of rows of characters, each with its first one, its last one, and the glyph of the first one."""
+    rows = b"".join(struct.pack(">LLL", *group) for group in groups)
+    unicode = struct.pack(">HHLLL", 12, 0, 16 + len(rows), 0, len(groups)) + rows
     mac = struct.pack(">HHH", 0, 262, 0) + bytes([*codes, *[0] * (256 - len(codes))])
     cmap = struct.pack(">HHHHLHHL", 0, 2, 1, 0, 20, 3, 10, 20 + len(mac)) + mac + unicode
     numbers = b"".join(struct.pack(">H", 258 + number) for number in range(len(names)))
