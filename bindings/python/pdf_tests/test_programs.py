@@ -184,6 +184,18 @@ class Composite(unittest.TestCase):
             fonts = pdf.Document(file.pdf).fonts
         self.assertEqual([font.characters(b"\0\1")[0].text for font in fonts], ["α", None])
 
+    def test_standard_names(self):
+        """The spelled names begin at 258, the number after dcroat. They begin at 257 where that is used and each name
+        has a number, as Prawn writes them."""
+        for numbers, names in (
+            ([0, 257, 258, 259], [".notdef", "dcroat", "alpha", "beta"]),
+            ([0, 258, 259], [".notdef", "alpha", "beta"]),
+            ([0, 257, 258], [".notdef", "alpha", "beta"]),
+            ([0, 257], [".notdef", "dcroat"]),
+        ):
+            post = struct.pack(f">L28xH{len(numbers)}H", 0x20000, len(numbers), *numbers) + b"\5alpha\4beta"
+            self.assertEqual(_sfnt.names_of(post), names)
+
     def test_many_characters_of_a_glyph(self):
         """No time that grows with the square of their number."""
         start = time.monotonic()
