@@ -61,7 +61,7 @@ class GivenGlyphs(FontGlyphs):
     """The glyphs of a font whose objects a library reads, when they are first asked for. What can't be read is left
     out: a library has no one exception for it."""
 
-    def __init__(self, is_composite: bool, font: Callable[[], Any], objects: Objects, budget: Budget):
+    def __init__(self, is_composite: bool, font: Callable[[], Any], objects: Objects, budget: Callable[[], Budget]):
         self.is_composite = is_composite
         self._font, self._objects, self._budget = font, objects, budget
 
@@ -145,8 +145,8 @@ class GivenGlyphs(FontGlyphs):
     def program(self) -> Program:
         truetype = self._of_descriptor("FontFile2")
         if truetype is not None:
-            return Program(truetype, budget=self._budget)
-        return Program(self._of_descriptor("FontFile3") or b"", is_cff=True, budget=self._budget)
+            return Program(truetype, budget=self._budget())
+        return Program(self._of_descriptor("FontFile3") or b"", is_cff=True, budget=self._budget())
 
     def _of_descriptor(self, key: str) -> Optional[bytes]:
         """The bytes of a stream of the descriptor of the font; None where there is none."""

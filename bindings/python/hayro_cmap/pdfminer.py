@@ -173,7 +173,7 @@ _budgets: "weakref.WeakKeyDictionary[Any, Budget]" = weakref.WeakKeyDictionary()
 def given(manager: Any, spec: Mapping[str, Any], maps: GivenMaps) -> GivenFont:
     """The font of a resource manager with these CMaps."""
     budget = _budgets.setdefault(manager, Budget())
-    return GivenFont(maps, GivenGlyphs(maps.is_composite, lambda: spec, OBJECTS, budget))
+    return GivenFont(maps, GivenGlyphs(maps.is_composite, lambda: spec, OBJECTS, lambda: budget))
 
 
 def maps_of(spec: Mapping[str, Any]) -> GivenMaps:

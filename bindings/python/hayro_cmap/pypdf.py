@@ -368,16 +368,15 @@ def glyphs_of(font: Any) -> GivenGlyphs:
         there = of_font()
         return descendant_of(there) if is_composite and there is not None else there
 
-    glyphs = GivenGlyphs(is_composite, holder, OBJECTS, budget_of(font))
+    glyphs = GivenGlyphs(is_composite, holder, OBJECTS, lambda: budget_of(holder()))
     _glyphs[key] = of_font, glyphs
     return glyphs
 
 
-def budget_of(font: Any) -> Budget:
-    """What may still be taken of the file of a font: that of an indirect object which it has."""
-    descriptor = OBJECTS.at(font if font.get("/Subtype") != "/Type0" else descendant_of(font), "FontDescriptor")
-    below = [it for holder in (font, descriptor) if isinstance(holder, dict) for it in holder.values()]
-    files = (getattr(it, "pdf", None) for it in [getattr(font, "indirect_reference", None), *below])
+def budget_of(holder: Any) -> Budget:
+    """What may still be taken of the file of a font, which its descriptor names: a program is an indirect object."""
+    descriptor = OBJECTS.at(holder, "FontDescriptor")
+    files = (getattr(it, "pdf", None) for it in (descriptor.values() if isinstance(descriptor, dict) else ()))
     file = next((it for it in files if it is not None), None)
     return Budget() if file is None else _budgets.setdefault(file, Budget())
 
