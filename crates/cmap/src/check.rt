@@ -1,13 +1,19 @@
-//! The options of `cmap check`.
+//! `cmap check`: which files are refused, and what looks wrong in the others.
 
+mod files;
+mod printed;
+mod progress;
+mod tally;
+mod warnings;
+
+use self::files::{CheckOptions, check};
+use self::warnings::LintOptions;
 use crate::command_line::files_of;
 use crate::command_line::flags::{
     BUDGET, DENY, FILES_FROM, FIRST, JSON, LINT, LINT_TO_UNICODE, NULL, QUIET,
 };
 use crate::options::Sources;
 use clap::ArgMatches;
-use cmap_check::command::{CheckOptions, check};
-use cmap_check::warnings::LintOptions;
 use cmap_files::failure::Failure;
 use cmap_files::paths::PathList;
 use cmap_sources::bases::Bases;

@@ -14,23 +14,21 @@ use Rattle.cmap_values.specs.FilesSeen.{file_seen}
 use Rattle.cmap_values.specs.Outcomes.{RefusesWith}
 use Rattle.cmap_values.specs.declared.fault.Fault.TheVariants.{Memory, Refused}
 use Rattle.cmap_values.specs.declared.fault.Fault.{Fault}
-use Rattle.cmap_values.specs.declared.file.File.{File as HeldFile}
 use Rattle.cmap_packed.specs.Bundles.{PrefixTables}
 use Rattle.cmap_packed.specs.PrefixWords.{CodeWord}
-use Rattle.cmap_maker.specs.Bundled.{AreSlotsOf, HaveSymbols, files_seen}
+use Rattle.cmap_maker.specs.Bundled.{HaveSymbols}
 use Rattle.cmap_maker.specs.Gathered.{AreTablesFor, counts_in, deltas_in, segments_in, slot_segments}
 use Rattle.cmap_maker.specs.Slots.{AllHavePlaces, AreSlotsFor, IsSlotFor, is_index, source_at}
 use Rattle.cmap_maker.specs.Tables.{table_for}
-use Rattle.cmap_writer.specs.Obstacles.{HasNoWord, IsLarge, IsObstacle, IsPreparedObstacle}
+use Rattle.cmap_writer.specs.Obstacles.{HasNoWord, IsLarge, IsPreparedObstacle}
 use Rattle.cmap_writer.specs.PreparedFiles.{IsPrepared}
 use Rattle.cmap_writer.specs.Segments.{DeclareEach}
 use Rattle.cmap_writer.specs.Spelled.{IsNoSymbol}
-use Rattle.cmap_maker.specs.Unwritables.{AreSound, HasLongSlot, IsBundleObstacle, IsObstacleOf, IsPlaceless, IsSlotObstacle, IsSlotsObstacle, IsSound, IsTablesObstacle, IsUnwritable, IsUnwritableAs, IsUnwritableAt, IsUnwritableOf, IsWholeObstacle}
+use Rattle.cmap_maker.specs.Unwritables.{AreSound, HasLongSlot, IsObstacleOf, IsPlaceless, IsSlotObstacle, IsSlotsObstacle, IsSound, IsTablesObstacle, IsUnwritable, IsUnwritableAs, IsUnwritableAt, IsUnwritableOf, IsWholeObstacle}
 use Rattle.cmap_maker.specs.WordsMissing.{IsNoWordIf}
 use Rattle.cmap_maker.proofs.BundlesWritten.{is_index_tested}
 use Rattle.cmap_maker.proofs.TablesMade.{HasWordFor, HasWords, few_frequencies, has_words, some_table}
 use Rattle.cmap_writer.proofs.ObstaclesMet.{not_large}
-use Rattle.cmap_values.proofs.ElementsSeen.{any_at}
 use Rattle.cmap_writer.proofs.Told.{Any-left, Any-right}
 use Rattle.cmap_writer.specs.declared.obstacle.Obstacle.TheVariants.{NoPlace, NoWord, TooLong}
 use Rattle.cmap_writer.specs.declared.obstacle.Obstacle.{Obstacle}
@@ -74,14 +72,6 @@ sound_slot (Some source) (slot.Text t) is = All-nil IsSound
 
 pub sound_for : (sources : List Source) (slots : List Slot) (count : ℕ) → AreSlotsFor sources slots count → AreSound slots
 sound_for sources slots count (size, each) = all_flat slot_segments IsSound slots (λ k d within. sound_slot (source_at sources k) (get_or slots k d) (each k d (omega (arith, within, size))))
-
-sound_of : (files : List File) (slots : List Slot) → AreSlotsOf files slots → AreSound slots
-sound_of [] [] each = All-nil IsSound
-sound_of [] (s ∷ slots) each = absurd each
-sound_of (f ∷ files) [] each = absurd each
-sound_of (f ∷ files) (slot.File p ∷ slots) (first, each) = All-append IsSound p.segments.items (segments_in slots) (sound_prepared f p first.says) (sound_of files slots each)
-sound_of (f ∷ files) (slot.Text t ∷ slots) each = absurd each
-sound_of (f ∷ files) (slot.Absent ∷ slots) each = absurd each
 
 -- ---- their numbers
 sound_deltas : (slots : List Slot) → AreSound slots → All (λ n. n < 2 ^ 32) (deltas_in (segments_in slots))
@@ -144,13 +134,6 @@ pub by_prepared : (tables : PrefixTables) (prepared : Prepared) (o : Obstacle) �
 by_prepared tables prepared NoWord h = h
 by_prepared tables prepared TooLong h = h
 by_prepared tables prepared other h = absurd h
-
--- ---- bundles of files by their indices
-pub file_among : (held : List HeldFile) (i : ℕ) (d : HeldFile) → i < length held → d ≡ get_or held i d → (o : Obstacle) → IsObstacle (file_seen d) o → IsBundleObstacle (files_seen held) o
-file_among held i d within is o h = inl (any_at (λ file. IsObstacle file o) file_seen held i d within (subst (λ file. IsObstacle (file_seen file) o) is h))
-
-pub whole_of_bundle : (said : List File) (slots : List Slot) → AreSlotsOf said slots → (o : Obstacle) → (AreSound slots → IsWholeObstacle slots o) → IsBundleObstacle said o
-whole_of_bundle said slots each o h = inr (slots, each, h (sound_of said slots each))
 
 -- ---- the first source of a name
 is_named : (o : Option ℕ) (place : ℕ) → option_eq eqb o (Some place) ≡ true → o ≡ Some place

@@ -2,7 +2,6 @@
 use Rattle.std.proofs.Common.{◌≡◌, ℕ, zero, suc, ◌<◌, inl, inr, false, true, List, [], ◌∷◌, Some, None, length, get_or, take, refl, ap, ◌∙◌, sym, subst, arith}
 use Rattle.std.specs.Prelude.{Option, bytes_eq, is_some, slice_get}
 use Rattle.std.specs.Borrow.{Bor}
-use Rattle.std.specs.List.{Any}
 use Rattle.std.proofs.lemmas.Bool.{cases_Bool, eq-eqb}
 use Rattle.std.proofs.lemmas.List.Quantifiers.{position-Some}
 use Rattle.std.proofs.lemmas.Option.{get_or_from_slice_get, none-some, same_Some, slice_get_within}
@@ -14,21 +13,20 @@ use Rattle.cmap_values.specs.Files.{File}
 use Rattle.cmap_values.specs.FilesSeen.{file_seen}
 use Rattle.cmap_packed.specs.Bundles.{PrefixTables}
 use Rattle.cmap_writer.specs.Encoded.{HaveOneWordEach}
-use Rattle.cmap_writer.specs.Obstacles.{IsObstacle, IsPreparedFor}
+use Rattle.cmap_writer.specs.Obstacles.{IsPreparedFor}
 use Rattle.cmap_writer.specs.declared.obstacle.Obstacle.{Obstacle}
 use Rattle.cmap_writer.specs.declared.obstacle.Obstacle.TheVariants.{NoPlace, NoWord, TooLong}
 use Rattle.cmap_writer.proofs.EncodedAlone.{no_obstacle}
-use Rattle.cmap_maker.specs.Bundled.{AreSlotsOf}
 use Rattle.cmap_maker.specs.Gathered.{counts_in, deltas_in, segments_in}
 use Rattle.cmap_maker.specs.Slots.{AreSlotsFor, IsBundleOfSlots, IsFileFor, IsNamedBundle, IsSlotFor, IsSlotWritten, is_index, places, source_at}
 use Rattle.cmap_maker.specs.Tables.{table_for}
-use Rattle.cmap_maker.specs.Unwritables.{HasLongSlot, IsBundleObstacle, IsLongSlot, IsObstacleOf, IsPlaceless, IsUnwritable, IsUnwritableOf, IsWholeObstacle}
+use Rattle.cmap_maker.specs.Unwritables.{HasLongSlot, IsLongSlot, IsObstacleOf, IsPlaceless, IsUnwritable, IsUnwritableOf, IsWholeObstacle}
 use Rattle.cmap_maker.specs.declared.slots.Slot.{Slot}
 use Rattle.cmap_maker.specs.declared.slots.Slot.TheVariants as slot
 use Rattle.cmap_maker.specs.declared.source.Source.{Source}
 use Rattle.cmap_maker.specs.declared.unwritable.Unwritable.{Unwritable}
 use Rattle.cmap_maker.proofs.BundlesWritten.{slot_written}
-use Rattle.cmap_maker.proofs.SlotsAlone.{files_alone, numbers_alone}
+use Rattle.cmap_maker.proofs.SlotsAlone.{numbers_alone}
 
 -- ---- two answers to what is to be written
 -- they are of one file, or of one text, or of none
@@ -54,29 +52,6 @@ same_for (Some source) slot.Absent t first second = absurd first
 
 abbrev AreSameFrom : List Slot → List Slot → Type 0
 AreSameFrom a b = (k : ℕ) (d : Slot) → k < length a → SameSlot (get_or a k d) (get_or b k d)
-
-same_more : (s t : Slot) (a b : List Slot) → SameSlot s t → AreSameFrom a b → AreSameFrom (s ∷ a) (t ∷ b)
-same_more s t a b first each zero d within = first
-same_more s t a b first each (suc k) d within = each k d (omega (arith, within))
-
-same_files : (files : List File) (a b : List Slot) → AreSlotsOf files a → AreSlotsOf files b → AreSameFrom a b
-same_files [] [] b first second = λ k d within. absurd (omega (arith, within))
-same_files [] (s ∷ a) b first second = absurd first
-same_files (file ∷ files) [] b first second = absurd first
-same_files (file ∷ files) (slot.Text u ∷ a) b first second = absurd first
-same_files (file ∷ files) (slot.Absent ∷ a) b first second = absurd first
-same_files (file ∷ files) (slot.File p ∷ a) [] first second = absurd second
-same_files (file ∷ files) (slot.File p ∷ a) (slot.Text u ∷ b) first second = absurd second
-same_files (file ∷ files) (slot.File p ∷ a) (slot.Absent ∷ b) first second = absurd second
-same_files (file ∷ files) (slot.File p ∷ a) (slot.File q ∷ b) (here, first) (there, second) = same_more (slot.File p) (slot.File q) a b (file, here, there) (same_files files a b first second)
-
-files_length : (files : List File) (a : List Slot) → AreSlotsOf files a → length a ≡ length files
-files_length [] [] each = refl
-files_length [] (s ∷ a) each = absurd each
-files_length (file ∷ files) [] each = absurd each
-files_length (file ∷ files) (slot.File p ∷ a) (here, each) = ap suc (files_length files a each)
-files_length (file ∷ files) (slot.Text u ∷ a) each = absurd each
-files_length (file ∷ files) (slot.Absent ∷ a) each = absurd each
 
 -- ---- what all together can't be
 no_long : (tables : PrefixTables) → HaveOneWordEach tables → (s t : Slot) (text : List ℕ) → SameSlot s t → IsSlotWritten tables s text → IsLongSlot tables t → ⊥
@@ -111,19 +86,6 @@ module _ (a b : List Slot) (bytes : List ℕ) (bundle : IsBundleOfSlots a bytes)
   no_whole NoWord none = no_word_missing none
   no_whole TooLong long = no_long_slot long
   no_whole other h = absurd h
-
--- ---- files by their indices
-all_sayable : (files : List File) (slots : List Slot) → AreSlotsOf files slots → (o : Obstacle) → Any (λ file. IsObstacle file o) files → ⊥
-all_sayable [] slots made o (k, file, within, at, holds) = omega (arith, within)
-all_sayable (f ∷ files) [] made o any = absurd made
-all_sayable (f ∷ files) (slot.Text u ∷ slots) made o any = absurd made
-all_sayable (f ∷ files) (slot.Absent ∷ slots) made o any = absurd made
-all_sayable (f ∷ files) (slot.File p ∷ slots) (here, made) o (zero, file, within, at, holds) = here.sayable o (subst (λ file. IsObstacle file o) (sym at) holds)
-all_sayable (f ∷ files) (slot.File p ∷ slots) (here, made) o (suc k, file, within, at, holds) = all_sayable files slots made o (k, file, omega (arith, within), at, holds)
-
-pub no_bundle_obstacle : (files : List File) (slots : List Slot) (bytes : List ℕ) → AreSlotsOf files slots → IsBundleOfSlots slots bytes → (o : Obstacle) → IsBundleObstacle files o → ⊥
-no_bundle_obstacle files slots bytes made bundle o (inl any) = all_sayable files slots made o any
-no_bundle_obstacle files slots bytes made bundle o (inr (others, made_too, whole)) = no_whole slots others bytes bundle (files_length files slots made ∙ sym (files_length files others made_too)) (same_files files slots others made made_too) (files_alone files slots others made made_too) o whole
 
 -- ---- files by their names
 below_places : (name : CMapName) (place : ℕ) → index_of_name name ≡ Some place → place < places

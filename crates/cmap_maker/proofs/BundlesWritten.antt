@@ -6,15 +6,14 @@ use Rattle.std.specs.Option.{option_eq}
 use Rattle.std.proofs.lemmas.Option.{same_Some, slice_get_read}
 use Rattle.std.specs.List.{All}
 use Rattle.std.proofs.lemmas.List.Elements.{All-weaker}
-use Rattle.std.proofs.lemmas.List.{append-nil, drop_more, map-append, take_more}
+use Rattle.std.proofs.lemmas.List.{append-nil, drop_more, take_more}
 use Rattle.cmap_values.specs.CMapNames.{index_of_name}
 use Rattle.cmap_values.specs.Files.{File}
 use Rattle.cmap_values.specs.FilesSeen.{file_seen}
-use Rattle.cmap_values.specs.declared.file.File.{File as HeldFile}
 use Rattle.cmap_packed.specs.TableFronts.{TableAt}
 use Rattle.cmap_packed.specs.Bundles.{HoldsTables, IsBundle, PrefixTables, no_file_bytes}
 use Rattle.cmap_packed.specs.Fronts.{FramedAt, SizedAt}
-use Rattle.cmap_maker.specs.Bundled.{AreSlotsOf, AreWritten, HaveSymbols, IsBundleOf, IsFileWritten, files_seen}
+use Rattle.cmap_maker.specs.Bundled.{HaveSymbols, IsFileWritten}
 use Rattle.cmap_writer.specs.Encoded.{HaveOneWordEach}
 use Rattle.cmap_writer.specs.Obstacles.{IsPreparedFor}
 use Rattle.cmap_maker.specs.Gathered.{AreTablesFor}
@@ -51,37 +50,8 @@ bundle_written tables slots text mid bytes holds (first, first_is, sized) texts 
   alone,
 )
 
--- ---- a bundle of files by their indices
--- one file more
-pub slots_more : (files : List File) (slots : List Slot) (file : File) (prepared : Prepared) → AreSlotsOf files slots → IsPreparedFor file prepared → AreSlotsOf (files ++ file ∷ []) (slots ++ slot.File prepared ∷ [])
-slots_more [] [] file prepared each here = (here, tt)
-slots_more [] (s ∷ slots) file prepared each here = absurd each
-slots_more (f ∷ files) [] file prepared each here = absurd each
-slots_more (f ∷ files) (slot.File p ∷ slots) file prepared (first, each) here = (first, slots_more files slots file prepared each here)
-slots_more (f ∷ files) (slot.Text t ∷ slots) file prepared each here = absurd each
-slots_more (f ∷ files) (slot.Absent ∷ slots) file prepared each here = absurd each
-
-pub file_slots_more : (files : List HeldFile) (i : ℕ) (d : HeldFile) (now : List Slot) (prepared : Prepared) → i < length files → AreSlotsOf (files_seen (take i files)) now → IsPreparedFor (file_seen (get_or files i d)) prepared → AreSlotsOf (files_seen (take (i + 1) files)) (now ++ slot.File prepared ∷ [])
-file_slots_more files i d now prepared within each here =
-    let file = file_seen (get_or files i d) in
-    let seen : files_seen (take (i + 1) files) ≡ files_seen (take i files) ++ file ∷ [] = ap files_seen (take_more files i d within) ∙ map-append file_seen (take i files) (get_or files i d ∷ []) in
-    subst (λ fs. AreSlotsOf fs (now ++ slot.File prepared ∷ [])) (sym seen) (slots_more (files_seen (take i files)) now file prepared each here)
-
 file_written : (tables : PrefixTables) (file : File) (p : Prepared) (text : List ℕ) → IsPreparedFor file p → IsSlotWritten tables (slot.File p) text → IsFileWritten tables file text
 file_written tables file p text is written = record { encoded = (p, is, written.0); written = written.2 file is.says }
-
-each_written : (tables : PrefixTables) (files : List File) (slots : List Slot) (texts : List (List ℕ)) → AreSlotsOf files slots → AreSlotsWritten tables slots texts → AreWritten tables files texts
-each_written tables [] [] [] each written = tt
-each_written tables [] [] (t ∷ texts) each written = absurd written
-each_written tables [] (s ∷ slots) texts each written = absurd each
-each_written tables (f ∷ files) [] texts each written = absurd each
-each_written tables (f ∷ files) (slot.File p ∷ slots) [] each written = absurd written
-each_written tables (f ∷ files) (slot.File p ∷ slots) (t ∷ texts) (first, each) (here, written) = (file_written tables f p t first here, each_written tables files slots texts each written)
-each_written tables (f ∷ files) (slot.Text x ∷ slots) texts each written = absurd each
-each_written tables (f ∷ files) (slot.Absent ∷ slots) texts each written = absurd each
-
-pub bundle_of_files : (files : List File) (slots : List Slot) (bytes : List ℕ) → AreSlotsOf files slots → IsBundleOfSlots slots bytes → IsBundleOf files bytes
-bundle_of_files files slots bytes each (tables, texts, is, written, spelled, alone) = record { tables = tables; texts = texts; is = is; each = each_written tables files slots texts each written; slots = slots; made = each; spelled = spelled }
 
 -- ---- a bundle of files by their names
 for_source : (tables : PrefixTables) (source : Option Source) (s : Slot) (text : List ℕ) → IsSlotFor source s → IsSlotWritten tables s text → IsFileFor tables source text

@@ -9,7 +9,6 @@ use Rattle.cmap_writer.specs.Arranged.{SegmentSeen, segment_seen}
 use Rattle.cmap_writer.specs.declared.segments.Segment.{Segment}
 use Rattle.cmap_writer.proofs.EntriesAlone.{arranged_alone}
 use Rattle.cmap_maker.specs.Gathered.{counts_in, deltas_in, segments_in, slot_segments}
-use Rattle.cmap_maker.specs.Bundled.{AreSlotsOf}
 use Rattle.cmap_maker.specs.Slots.{AreSlotsFor, IsSlotFor, source_at}
 use Rattle.cmap_maker.specs.declared.slots.Slot.{Slot}
 use Rattle.cmap_maker.specs.declared.slots.Slot.TheVariants as slot
@@ -49,22 +48,4 @@ counts_seen a b same = sym (flat_map-map (λ (x : SegmentSeen). x.counts) segmen
 pub numbers_alone : (sources : List Source) (count : ℕ) (a b : List Slot) → AreSlotsFor sources a count → AreSlotsFor sources b count → (deltas_in (segments_in a) ≡ deltas_in (segments_in b)) × (counts_in (segments_in a) ≡ counts_in (segments_in b))
 numbers_alone sources count a b (size, each) (other, all) =
     let same = all_seen a b (size ∙ sym other) (λ k d within. let below : k < count = omega (arith, within, size) in one_seen (source_at sources k) (get_or a k d) (get_or b k d) (each k d below) (all k d below)) in
-    (deltas_seen (segments_in a) (segments_in b) same, counts_seen (segments_in a) (segments_in b) same)
-
-files_seen_alone : (files : List File) (a b : List Slot) → AreSlotsOf files a → AreSlotsOf files b → map segment_seen (segments_in a) ≡ map segment_seen (segments_in b)
-files_seen_alone [] [] [] first second = refl
-files_seen_alone [] [] (t ∷ b) first second = absurd second
-files_seen_alone [] (s ∷ a) b first second = absurd first
-files_seen_alone (file ∷ files) [] b first second = absurd first
-files_seen_alone (file ∷ files) (slot.Text u ∷ a) b first second = absurd first
-files_seen_alone (file ∷ files) (slot.Absent ∷ a) b first second = absurd first
-files_seen_alone (file ∷ files) (slot.File p ∷ a) [] first second = absurd second
-files_seen_alone (file ∷ files) (slot.File p ∷ a) (slot.Text u ∷ b) first second = absurd second
-files_seen_alone (file ∷ files) (slot.File p ∷ a) (slot.Absent ∷ b) first second = absurd second
-files_seen_alone (file ∷ files) (slot.File p ∷ a) (slot.File q ∷ b) (here, first) (there, second) = map-append segment_seen p.segments.items (segments_in a) ∙ ap (λ xs. xs ++ map segment_seen (segments_in a)) (arranged_alone file p q here.arranged there.arranged) ∙ ap (λ xs. map segment_seen q.segments.items ++ xs) (files_seen_alone files a b first second) ∙ sym (map-append segment_seen q.segments.items (segments_in b))
-
--- and files by their indices have one
-pub files_alone : (files : List File) (a b : List Slot) → AreSlotsOf files a → AreSlotsOf files b → (deltas_in (segments_in a) ≡ deltas_in (segments_in b)) × (counts_in (segments_in a) ≡ counts_in (segments_in b))
-files_alone files a b first second =
-    let same = files_seen_alone files a b first second in
     (deltas_seen (segments_in a) (segments_in b) same, counts_seen (segments_in a) (segments_in b) same)

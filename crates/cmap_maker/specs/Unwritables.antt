@@ -8,7 +8,7 @@ use Rattle.cmap_writer.specs.Obstacles.{HasNoWord, IsLarge, IsLongBy, IsObstacle
 use Rattle.cmap_writer.specs.declared.obstacle.Obstacle.{Obstacle}
 use Rattle.cmap_writer.specs.declared.obstacle.Obstacle.TheVariants.{NoPlace, NoWord, TooLong}
 use Rattle.cmap_writer.specs.declared.segments.Segment.{Segment}
-use Rattle.cmap_maker.specs.Bundled.{AreSlotsOf, HaveSymbols}
+use Rattle.cmap_maker.specs.Bundled.{HaveSymbols}
 use Rattle.cmap_maker.specs.Gathered.{AreTablesFor, deltas_in, segments_in, slot_segments}
 use Rattle.cmap_maker.specs.Slots.{AllHavePlaces, AreSlotsFor, places, source_at}
 use Rattle.cmap_maker.specs.Tables.{table_for}
@@ -65,10 +65,6 @@ IsObstacleOf sources None obstacle = AllHavePlaces sources × ((slots : List Slo
 
 abbrev pub IsUnwritableOf : List Source → Unwritable → Type 0
 IsUnwritableOf sources unwritable = IsObstacleOf sources unwritable.index unwritable.obstacle
-
--- why a bundle of these files can't be written: one of them can't, or all together
-abbrev pub IsBundleObstacle : List File → Obstacle → Type 0
-IsBundleObstacle files obstacle = Any (λ file. IsObstacle file obstacle) files ⊎ ((slots : List Slot) × AreSlotsOf files slots × IsWholeObstacle slots obstacle)
 
 -- ---- private aid
 -- the source at a place, which has no text and can't be written

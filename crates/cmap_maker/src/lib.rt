@@ -11,7 +11,7 @@ mod source;
 mod tables;
 mod unwritable;
 
-pub use bundle::{make_bundle, make_named_bundle};
+pub use bundle::make_named_bundle;
 pub use cmap_writer::{Encoder, Encoders, Obstacle, write_file};
 pub use source::Source;
 pub use unwritable::Unwritable;

@@ -2,8 +2,10 @@
 
 use crate::caller::cid_over_bundle;
 use crate::examples;
-use cmap_maker::make_bundle;
+use cmap_maker::{Source, make_named_bundle};
 use cmap_text::read_text;
+use cmap_values::file::File;
+use hayro_cmap::CMapName;
 use std::alloc::Global;
 use std::test::Fail;
 
@@ -11,7 +13,17 @@ use std::test::Fail;
 fn bundle_of(alloc: Global, first: &[u8], second: &[u8]) -> Option<Vec<u8>> {
     let first = read_text(alloc, first).ok()?;
     let second = read_text(alloc, second).ok()?;
-    make_bundle(alloc, &[first, second]).ok()
+    let sources = [
+        source(CMapName::N83pvRksjH, &first),
+        source(CMapName::N90msRksjH, &second),
+    ];
+    make_named_bundle(alloc, &sources).ok()
+}
+
+// A file for this name, which has no text.
+fn source<'s, 'd>(name: CMapName<'s>, file: &'s File<'d>) -> Source<'s, 'd> {
+    let text = None;
+    Source { name, file, text }
 }
 
 /// Codes, and their CIDs in the second file.

@@ -2,7 +2,7 @@
 use Rattle.std.specs.Prelude.{◌≡◌, ◌⊎◌, Bool, true, false, ℕ, ◌<◌}
 use Rattle.cmap_escape.specs.Counts.{counted, number_seen}
 use Rattle.cmap_files.specs.Statuses as statuses
-use Rattle.cmap_check.specs.declared.tally.Tally.{Tally}
+use Rattle.cmap.specs.declared.check.tally.Tally.{Tally}
 
 pub record Counts : Type 0 where
   pub checked : ℕ

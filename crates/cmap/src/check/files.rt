@@ -1,8 +1,8 @@
 //! `cmap check`: reports that a file is ok, or what is wrong with it.
 
-use crate::progress::Progress;
-use crate::tally::Tally;
-use crate::warnings::{LintOptions, push_warnings, subject_of};
+use crate::check::progress::Progress;
+use crate::check::tally::Tally;
+use crate::check::warnings::{LintOptions, push_warnings, subject_of};
 use cmap_escape::object::Object;
 use cmap_escape::value::Value;
 use cmap_escape::{escape, json};
@@ -17,17 +17,17 @@ use std::io;
 
 /// What the arguments of `check` ask for.
 #[derive(Clone, Copy)]
-pub struct CheckOptions<'m, 'w> {
+pub(crate) struct CheckOptions<'m, 'w> {
     /// The files and the folders.
-    pub paths: &'m [&'w str],
+    pub(crate) paths: &'m [&'w str],
     /// A file that lists more of them.
-    pub list: Option<PathList<'w>>,
+    pub(crate) list: Option<PathList<'w>>,
     /// How files are read.
-    pub manner: Manner,
+    pub(crate) manner: Manner,
     /// Which warnings are asked for.
-    pub lint: LintOptions<'m, 'w>,
+    pub(crate) lint: LintOptions<'m, 'w>,
     /// Whether the last line, with the number of files, is left out.
-    pub is_quiet: bool,
+    pub(crate) is_quiet: bool,
 }
 
 /// A run over many files.
@@ -39,7 +39,7 @@ struct Run<'r, 'm, 'w> {
 }
 
 /// Checks the files, and those in the folders, and gives the status.
-pub fn check(
+pub(crate) fn check(
     rt: &HostRuntime,
     options: &CheckOptions<'_, '_>,
     bases: &mut Bases<'_>,

@@ -1,6 +1,6 @@
 //! `cmap check --lint`: what looks wrong in a file that is accepted.
 
-use crate::printed::{push_finding, push_json};
+use crate::check::printed::{push_finding, push_json};
 use cmap_binary::is_marked_binary;
 use cmap_files::failure::{Failure, fault};
 use cmap_files::folders::name_of;
@@ -18,7 +18,7 @@ const ALL: &str = "all";
 
 /// Which warnings are asked for.
 #[derive(Clone, Copy)]
-pub struct LintOptions<'m, 'w> {
+pub(crate) struct LintOptions<'m, 'w> {
     /// Whether all warnings are asked for, and not only `nothing-declared`.
     is_asked: bool,
     to_unicode: bool,
@@ -29,7 +29,11 @@ impl<'m, 'w> LintOptions<'m, 'w> {
     /// All warnings, where they are asked for, where the files are meant as maps to Unicode (`to_unicode`), or where
     /// `denied` has a name; else only `nothing-declared`. A warning makes the status 1 where `denied` has its name or
     /// `all`.
-    pub fn new(is_asked: bool, to_unicode: bool, denied: &'m [&'w str]) -> LintOptions<'m, 'w> {
+    pub(crate) fn new(
+        is_asked: bool,
+        to_unicode: bool,
+        denied: &'m [&'w str],
+    ) -> LintOptions<'m, 'w> {
         LintOptions {
             is_asked: is_asked || to_unicode || !denied.is_empty(),
             to_unicode,

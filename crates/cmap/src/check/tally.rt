@@ -2,7 +2,7 @@
 
 ghost use Rattle.std.specs.Prelude.{◌≡◌};
 ghost use Rattle.cmap_escape.specs.Counts.{number_seen};
-ghost use Rattle.cmap_check.specs.Tallies.{IsStatus, none_but, tally_seen, with_file, with_unreadable};
+ghost use Rattle.cmap.specs.Tallies.{IsStatus, none_but, tally_seen, with_file, with_unreadable};
 
 use cmap_escape::count::Count;
 use cmap_files::status::{ACCEPTED, FAILED, REFUSED};
