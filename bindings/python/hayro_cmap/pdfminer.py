@@ -4,8 +4,9 @@
     hayro_cmap.pdfminer.install()
 
 From then on each font that pdfminer makes has its CMaps read by hayro_cmap: the ToUnicode CMap of any font, past its
-faults, and of a composite font its predefined or embedded CMap and the map of its character collection. `uninstall`
-ends this, and `installed` is both as a context manager. Fonts that were made stay as they are.
+faults, and of a composite font its predefined or embedded CMap and the map of its character collection. A code without
+a text there has that of its glyph, by the glyph's name or the embedded program. `uninstall` ends this, and `installed`
+is both as a context manager. Fonts that were made stay as they are.
 
 Without a change of pdfminer for all of a process, give a `ResourceManager` in the place of a PDFResourceManager.
 """

@@ -6,8 +6,9 @@
 It is experimental: pypdf has no public hook, and its private ones may change.
 
 From then on pypdf's `extract_text` has CMaps read by hayro_cmap: the ToUnicode CMap of any font, past its faults, and
-of a composite font its predefined or embedded CMap and the map of its character collection. `uninstall` ends this, and
-`installed` is both as a context manager.
+of a composite font its predefined or embedded CMap and the map of its character collection. A code without a text there
+has that of its glyph, by the glyph's name or the embedded program. `uninstall` ends this, and `installed` is both as a
+context manager.
 
 pypdf decodes a string by the name of a codec of Python, and looks up each character of what that gives. So an encoding
 has a codec here, named by what is in it, which gives one character for each code: that of its CID, by which pypdf finds
