@@ -46,8 +46,10 @@ Requires-Dist: pikepdf >= 6; extra == "pdf"
 Requires-Dist: fonttools; extra == "pdf"
 Provides-Extra: pdfminer
 Requires-Dist: pdfminer.six >= 20221105; extra == "pdfminer"
+Requires-Dist: fonttools; extra == "pdfminer"
 Provides-Extra: pypdf
 Requires-Dist: pypdf >= 3.4; extra == "pypdf"
+Requires-Dist: fonttools; extra == "pypdf"
 Classifier: Operating System :: OS Independent
 Classifier: Programming Language :: Python :: 3
 Classifier: Typing :: Typed

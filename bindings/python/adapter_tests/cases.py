@@ -1,10 +1,14 @@
 """Fonts that both adapters are asked for, and the texts that are right."""
 
 import multiprocessing
+import random
 import unittest
+import zlib
 from pathlib import Path
 
-from made import Name, Stream, composite, simple, to_unicode
+from made import DESCRIPTOR, Name, Stream, composite, simple, to_unicode, truetype, truetype_of_groups, with_program
+
+from hayro_cmap._glyphs import HAS_GLYPH_LIST
 
 if not Path("/usr/share/poppler/cMap/Adobe-Japan1").is_dir():
     raise unittest.SkipTest("Debian's package poppler-data isn't installed")
@@ -151,3 +155,98 @@ ENDLESS = to_unicode(b"1 beginbfrange <00000000> <FFFFFFFF> <0000> endbfrange", 
 
 #: The same of CIDs, many times.
 MANY = b"begincmap 999 begincidrange " + b"<0000> <FFFF> 0 " * 20000 + b"endcidrange endcmap"
+
+#: Of the glyphs 1 and 2 the first one is alpha and the second beta.
+ALPHA_BETA = truetype({0x3B1: 1, 0x3B2: 2})
+
+#: A part of a Type 1 program, up to its encrypted part.
+TYPE1 = b"%!PS-AdobeFont-1.0: F\n/Encoding 256 array dup 1 /alpha put dup 2 /beta put readonly def\neexec"
+
+
+def glyphs(entries=None, program=ALPHA_BETA, **of_cids):
+    """A composite font whose CIDs are the numbers of glyphs, and its ToUnicode CMap with these entries."""
+    below = {"Subtype": Name("CIDFontType2"), "FontDescriptor": with_program("FontFile2", program), **of_cids}
+    return composite(Name("Identity-H"), None if entries is None else to_unicode(entries), **below)
+
+
+#: Those whose codes have texts by an embedded program.
+PROGRAMS = [
+    ("no ToUnicode", glyphs(), b"\0\1\0\2", "αβ"),
+    ("ToUnicode first", glyphs(b"1 beginbfchar <0001> <0078> endbfchar"), b"\0\1\0\2", "xβ"),
+    ("ToUnicode with a fault", glyphs(b"2 beginbfchar <0001> <0078> <0002> <00x9> endbfchar"), b"\0\1\0\2", "xβ"),
+    ("a map of glyphs", glyphs(CIDToGIDMap=Stream(bytes([0, 0, 0, 2, 0, 1]))), b"\0\1\0\2", "βα"),
+    (
+        "an encoding that is a stream",
+        composite(
+            Stream(EMBEDDED + b" 1 begincidchar <42> 1 endcidchar", Type=Name("CMap"), CMapName=Name("Own-H")),
+            FontDescriptor=with_program("FontFile2", ALPHA_BETA),
+        ),
+        b"B",
+        "α",
+    ),
+    (
+        "a simple font by its codes",
+        simple(
+            to_unicode(b"1 beginbfchar <01> <0078> endbfchar", BYTES),
+            FontDescriptor=with_program("FontFile2", truetype({0x3B1: 1, 0x3B2: 2}, codes=[0, 2, 1, 2])),
+        ),
+        b"\1\2\3",
+        "xαβ",
+    ),
+    (
+        "numbers for names",
+        simple(
+            Encoding={"Type": Name("Encoding"), "Differences": [1, Name("a72"), Name("a105")]},
+            FontDescriptor=with_program("FontFile2", truetype({})),
+        ),
+        b"\1\2",
+        "Hi",
+    ),
+]
+
+if HAS_GLYPH_LIST:
+    PROGRAMS += [
+        ("names of glyphs", glyphs(program=truetype({0x3B1: 1}, names=[".notdef", "x", "beta"])), b"\0\1\0\2", "αβ"),
+        (
+            "a Type 1 program",
+            simple(
+                to_unicode(b"1 beginbfchar <01> <0078> endbfchar", BYTES),
+                Subtype=Name("Type1"),
+                FontDescriptor=with_program("FontFile", TYPE1, Length1=len(TYPE1)),
+            ),
+            b"\1\2",
+            "xβ",
+        ),
+    ]
+
+
+
+def hostile():
+    """Fonts whose programs are none, or are cut and changed, or whose entries aren't what they should be."""
+    chance, named = random.Random(1), truetype({0x3B1: 1, 0x3B2: 2}, [0, 2, 1], [".notdef", "alpha", "beta"])
+    programs = [b"", bytes(64), b"OTTO" + bytes(12), MANY_CODES]
+    for _ in range(40):
+        changed = bytearray(named[: chance.randrange(1, len(named))])
+        for _ in range(chance.randrange(9)):
+            changed[chance.randrange(len(changed))] = chance.randrange(256)
+        programs.append(bytes(changed))
+    for program in programs:
+        yield glyphs(program=program)
+        yield glyphs(FontDescriptor=with_program("FontFile3", program, Subtype=Name("CIDFontType0C")))
+        yield simple(FontDescriptor=with_program("FontFile2", program))
+        yield simple(Subtype=Name("Type1"), FontDescriptor=with_program("FontFile3", program, Subtype=Name("Type1C")))
+    for entry in (Name("x"), "x", 7, [7], {"x": 7}, True):
+        yield glyphs(FontDescriptor={**DESCRIPTOR, "FontFile3": entry}, CIDToGIDMap=entry)
+        yield simple(FontDescriptor={**DESCRIPTOR, "FontFile2": entry, "FontFile3": entry})
+
+
+#: A program with all characters, many times.
+MANY_CODES = truetype_of_groups([(0, 0x10FFFF, 1)] * 1000)
+
+#: A font whose program has a megabyte, and few bytes before it is decoded.
+LARGE = glyphs(
+    FontDescriptor={
+        **DESCRIPTOR,
+        "FontFile3": Stream(zlib.compress(truetype({0x3B1: 1}, size=1 << 20)), Filter=Name("FlateDecode")),
+    }
+)

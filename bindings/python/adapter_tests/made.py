@@ -1,6 +1,7 @@
 """PDF files that tests make: a page that shows strings with fonts."""
 
-from typing import Any, Callable, Dict, List, Tuple
+import struct
+from typing import Any, Callable, Dict, List, Sequence, Tuple
 
 
 class Name(str):
@@ -106,3 +107,33 @@ def to_unicode(entries: bytes, codespace: bytes = b"<0000> <FFFF>") -> bytes:
 1 begincodespacerange %s endcodespacerange
 %s
 endcmap CMapName currentdict /CMap defineresource pop end end""" % (codespace, entries)
+
+
+def truetype(characters: Dict[int, int], codes: Sequence[int] = (), names: Sequence[str] = (), size: int = 0) -> bytes:
+    """A TrueType program that has the glyphs of characters; those of codes, as a Macintosh has them; the names of the
+    glyphs from 0 on; and a table of this size with their outlines."""
+    return truetype_of_groups([(it, it, glyph) for it, glyph in sorted(characters.items())], codes, names, size)
+
+
+def truetype_of_groups(
+    groups: List[Tuple[int, int, int]], codes: Sequence[int] = (), names: Sequence[str] = (), size: int = 0
+) -> bytes:
+    """The same of rows of characters, each with its first one, its last one, and the glyph of the first one."""
+    rows = b"".join(struct.pack(">LLL", *group) for group in groups)
+    unicode = struct.pack(">HHLLL", 12, 0, 16 + len(rows), 0, len(groups)) + rows
+    mac = struct.pack(">HHH", 0, 262, 0) + bytes([*codes, *[0] * (256 - len(codes))])
+    cmap = struct.pack(">HHHHLHHL", 0, 2, 1, 0, 20, 3, 10, 20 + len(mac)) + mac + unicode
+    numbers = b"".join(struct.pack(">H", 258 + number) for number in range(len(names)))
+    spelled = b"".join(bytes([len(name)]) + name.encode() for name in names)
+    post = struct.pack(">L28xH", 0x20000, len(names)) + numbers + spelled
+    tables = {b"cmap": cmap, b"glyf": bytes(size), **({b"post": post} if names else {})}
+    records, at = b"", 12 + 16 * len(tables)
+    for tag, table in tables.items():
+        records += struct.pack(">4sLLL", tag, 0, at, len(table))
+        at += len(table)
+    return b"\0\1\0\0" + struct.pack(">HHHH", len(tables), 0, 0, 0) + records + b"".join(tables.values())
+
+
+def with_program(key: str, program: bytes, flags: int = 4, **entries: Any) -> Dict[str, Any]:
+    """A descriptor with an embedded program."""
+    return {**DESCRIPTOR, "Flags": flags, key: Stream(program, **entries)}

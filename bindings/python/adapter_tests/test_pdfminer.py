@@ -7,6 +7,7 @@ import pickle
 import threading
 import time
 import unittest
+from unittest import mock
 
 import cases
 
@@ -25,6 +26,8 @@ from pdfminer.pdfpage import PDFPage
 
 import hayro_cmap
 import hayro_cmap.pdfminer as adapter
+from hayro_cmap import _given_font
+from hayro_cmap._budget import Budget
 
 
 def text(font, string):
@@ -60,7 +63,7 @@ class Installed(unittest.TestCase):
         self.addCleanup(adapter.uninstall)
 
     def test_texts(self):
-        for name, font, string, expected in [*cases.RIGHT, *cases.BROKEN, *cases.COLLECTIONS]:
+        for name, font, string, expected in [*cases.RIGHT, *cases.BROKEN, *cases.COLLECTIONS, *cases.PROGRAMS]:
             with self.subTest(name):
                 self.assertEqual(text(font, string), expected)
 
@@ -117,11 +120,41 @@ class Installed(unittest.TestCase):
         self.assertEqual([texts.get_unichr(it) for it in cids], ["日", "本", "語"])
         self.assertEqual(texts.get_unichr(3284), "日")
 
+    def test_hostile_programs(self):
+        """None raises or takes long."""
+        start = time.process_time()
+        for font in cases.hostile():
+            text(font, b"\0\1\0\2")
+        self.assertLess(time.process_time() - start, 30)
+
+    def test_limits(self):
+        """Of a program, and of all programs of a resource manager."""
+        self.assertEqual(text(cases.LARGE, b"\0\1"), "α")
+        with mock.patch.object(_given_font, "MOST_OF_PROGRAM", 1 << 19):
+            self.assertEqual(text(cases.LARGE, b"\0\1"), "(cid:1)")
+        with mock.patch.object(Budget.__init__, "__defaults__", (1,)):
+            data = pdf({"F": cases.glyphs(), "G": cases.glyphs()}, [("F", b"\0\1"), ("G", b"\0\1")])
+            self.assertEqual(extract_text(io.BytesIO(data)).split(), ["α", "(cid:1)"])
+
+    def test_a_program_is_read_when_it_is_asked_for(self):
+        font = cases.glyphs(b"1 beginbfchar <0001> <0078> endbfchar")
+        with mock.patch.object(_given_font, "Program", wraps=_given_font.Program) as read:
+            self.assertEqual((text(font, b"\0\1\0\1"), read.call_count), ("xx", 0))
+            self.assertEqual((text(font, b"\0\1\0\2"), read.call_count), ("xβ", 1))
+
+    def test_texts_of_programs_are_pickled_without_the_programs(self):
+        font = cases.glyphs(program=cases.truetype({0x3B1: 1, 0x3B2: 2}, size=1 << 20))
+        made = pickle.dumps(font_of(font).unicode_map)
+        self.assertLess(len(made), 1 << 10)
+        for texts in (pickle.loads(made), pickle.loads(pickle.dumps(pickle.loads(made)))):
+            self.assertEqual((texts.get_unichr(1), texts.get_unichr(2)), ("α", "β"))
+            self.assertRaises(KeyError, texts.get_unichr, 3)
+
     def test_threads(self):
         wrong = []
 
         def work():
-            for name, font, string, expected in [*cases.RIGHT, *cases.COLLECTIONS[:5]]:
+            for name, font, string, expected in [*cases.RIGHT, *cases.COLLECTIONS[:5], *cases.PROGRAMS]:
                 if text(font, string) != expected:
                     wrong.append(name)
 

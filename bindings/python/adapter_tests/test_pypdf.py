@@ -4,6 +4,7 @@ import copy
 import gc
 import importlib
 import io
+import itertools
 import multiprocessing
 import pickle
 import sys
@@ -29,6 +30,9 @@ from made import Name, Stream, composite, pdf, simple, to_unicode
 
 import hayro_cmap
 import hayro_cmap.pypdf as adapter
+from hayro_cmap import _given_font
+from hayro_cmap._budget import Budget
+from hayro_cmap._given_font import KeptGlyphs
 
 #: An encoding with the codes 41, 8140 to 8142, and 42 with the CID 0.
 OWN = Stream(cases.EMBEDDED + b" 1 begincidchar <42> 0 endcidchar", Type=Name("CMap"), CMapName=Name("Own-H"))
@@ -58,7 +62,8 @@ def characters_of(name):
     """The texts of the characters of an encoding, and its codec."""
     maps = adapter.GivenMaps(True, adapter.CMapSource(name), None, b"Adobe-Japan1")
     codec = adapter.codec_name(maps)
-    return adapter.Characters(maps, codec, None), codec
+    font = adapter.GivenFont(maps, KeptGlyphs(True, {}))
+    return adapter.CharactersOfCodec(font, codec, None), codec
 
 
 def live():
@@ -69,7 +74,7 @@ def live():
 class Texts(unittest.TestCase):
     def test_texts(self):
         for library in LIBRARIES:
-            for name, font, string, expected in [*cases.RIGHT, *cases.BROKEN, *cases.COLLECTIONS]:
+            for name, font, string, expected in [*cases.RIGHT, *cases.BROKEN, *cases.COLLECTIONS, *cases.PROGRAMS]:
                 with self.subTest(f"{library.__name__}: {name}"), adapter.installed():
                     self.assertEqual(text(library, font, string), expected)
 
@@ -120,11 +125,56 @@ class Texts(unittest.TestCase):
             with adapter.installed():
                 self.assertEqual(text(library, composite(OWN, ordering="Japan1"), b"A"), "あ")
 
+    def test_hostile_programs(self):
+        """None raises or takes long."""
+        start = time.process_time()
+        with adapter.installed(missing="?"):
+            for font, library in itertools.product(cases.hostile(), LIBRARIES):
+                text(library, font, b"\0\1\0\2")
+        self.assertLess(time.process_time() - start, 30)
+
+    def test_limits(self):
+        """Of a program, and of all programs of a file."""
+        for library in LIBRARIES:
+            with adapter.installed(missing="?"):
+                self.assertEqual(text(library, cases.LARGE, b"\0\1"), "α")
+                with unittest.mock.patch.object(_given_font, "MOST_OF_PROGRAM", 1 << 19):
+                    self.assertEqual(text(library, cases.LARGE, b"\0\1"), "?")
+                with unittest.mock.patch.object(Budget.__init__, "__defaults__", (1,)):
+                    data = pdf({"F": cases.glyphs(), "G": cases.glyphs()}, [("F", b"\0\1"), ("G", b"\0\1")])
+                    page = library.PdfReader(io.BytesIO(data)).pages[0]
+                    self.assertEqual(page.extract_text().split(), ["α", "?"])
+
+    def test_a_program_is_read_when_it_is_asked_for(self):
+        font = cases.glyphs(b"1 beginbfchar <0001> <0078> endbfchar")
+        for library in LIBRARIES:
+            with adapter.installed(), unittest.mock.patch.object(
+                _given_font, "Program", wraps=_given_font.Program
+            ) as read:
+                self.assertEqual((text(library, font, b"\0\1\0\1"), read.call_count), ("xx", 0))
+                self.assertEqual((text(library, font, b"\0\1\0\2"), read.call_count), ("xβ", 1))
+
+    def test_a_program_is_read_once_for_all_pages(self):
+        for library in LIBRARIES:
+            reader = library.PdfReader(io.BytesIO(pdf({"F": cases.glyphs()}, [("F", b"\0\1")])))
+            with adapter.installed(), unittest.mock.patch.object(
+                _given_font, "Program", wraps=_given_font.Program
+            ) as read:
+                texts = [reader.pages[0].extract_text() for _ in range(3)]
+            self.assertEqual((["".join(it.split()) for it in texts], read.call_count), (["α"] * 3, 1))
+
+    def test_glyphs_end_with_their_font(self):
+        with adapter.installed():
+            for library in LIBRARIES:
+                text(library, cases.glyphs(), b"\0\1")
+                gc.collect()
+                self.assertEqual(len(adapter._glyphs), 0)
+
     def test_threads(self):
         wrong = []
 
         def work(library):
-            for name, font, string, expected in [*cases.RIGHT, *cases.COLLECTIONS[:5]]:
+            for name, font, string, expected in [*cases.RIGHT, *cases.COLLECTIONS[:5], *cases.PROGRAMS]:
                 if text(library, font, string) != expected:
                     wrong.append(name)
 
@@ -157,6 +207,18 @@ class Codecs(unittest.TestCase):
             self.assertEqual([other[it] for it in cases.WORD.decode(codec)], ["日", "本", "語"])
         self.assertNotIn(-1, characters)
         self.assertEqual(characters.get(-1, 5), 5)
+
+    def test_texts_of_programs_are_pickled_without_the_programs(self):
+        font = cases.glyphs(program=cases.truetype({0x3B1: 1, 0x3B2: 2}, size=1 << 20))
+        for library in LIBRARIES:
+            reader = library.PdfReader(io.BytesIO(pdf({"F": font}, [("F", b"\0\1")])))
+            [made] = reader.pages[0]["/Resources"]["/Font"].values()
+            with adapter.installed():
+                characters, _ = adapter._hooks[LIBRARIES.index(library)].read(made.get_object())
+            written = pickle.dumps(characters)
+            self.assertLess(len(written), 1 << 10)
+            other = pickle.loads(written)
+            self.assertEqual((other["\1"], other["\2"], other.get("\3")), ("α", "β", None))
 
     def test_a_codec_ends_with_its_fonts(self):
         characters, codec = characters_of(b"EUC-H")

@@ -312,16 +312,8 @@ class GivenMaps(FontMaps):
         return self.to_unicode_source is not None and self.to_unicode_source.name is None
 
     def codes(self, string: bytes) -> Iterator[Tuple[Code, Optional[str]]]:
-        """The whole codes of a string, each with the text that the CMaps give it, past their faults."""
-        for code, text in self._kept_extractor(True).characters(string):
-            if not code.cut_short:
-                yield code, text if text is not None else self.text_by_maps((*code[:3], text))[0]
-
-    def text(self, code: int, byte_len: int, cid: Optional[int]) -> Optional[str]:
-        """The text that the CMaps give a code with this CID, past their faults."""
-        to_unicode = self.to_unicode.lenient
-        own = None if to_unicode is None else to_unicode.text(code)
-        return self.text_by_maps((code, byte_len, cid, own))[0]
+        """The whole codes of a string, each with the text that the ToUnicode CMap gives it, past its faults."""
+        return (it for it in self._kept_extractor(True).characters(string) if not it[0].cut_short)
 
     def text_of_cid(self, cid: int) -> Optional[str]:
         """The text of a CID in the map of the collection."""

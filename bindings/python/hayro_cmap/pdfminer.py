@@ -4,21 +4,25 @@
     hayro_cmap.pdfminer.install()
 
 From then on each font that pdfminer makes has its CMaps read by hayro_cmap: the ToUnicode CMap of any font, past its
-faults, and of a composite font its predefined or embedded CMap and the map of its character collection. `uninstall`
-ends this, and `installed` is both as a context manager. Fonts that were made stay as they are.
+faults, and of a composite font its predefined or embedded CMap and the map of its character collection. A code without
+a text there has that of its glyph, by the glyph's name or the embedded program. `uninstall` ends this, and `installed`
+is both as a context manager. Fonts that were made stay as they are.
 
 Without a change of pdfminer for all of a process, give a `ResourceManager` in the place of a PDFResourceManager.
 """
 
 import contextlib
 import threading
+import weakref
 from typing import Any, Callable, Dict, Iterator, List, Mapping, Optional, Tuple
 
 from pdfminer import cmapdb, pdffont, pdfinterp
-from pdfminer.pdftypes import PDFStream, resolve1
+from pdfminer.pdftypes import LITERALS_FLATE_DECODE, PDFStream, resolve1
 
 from . import CMapSource
-from ._font_maps import MOST_IN_CHAIN, GivenMaps
+from ._budget import Budget
+from ._font_maps import COLLECTIONS, MOST_IN_CHAIN, GivenMaps
+from ._given_font import GivenFont, GivenGlyphs, Objects, bounded
 
 __all__ = ["ResourceManager", "install", "installed", "uninstall"]
 
@@ -39,26 +43,29 @@ class Cid(int):
 
 
 class Texts(cmapdb.UnicodeMap):
-    """The texts of codes that are CIDs, or single bytes, each looked up when it is first asked for."""
+    """The texts of codes that are CIDs, or single bytes, each looked up when it is first asked for; then those of the
+    map that pdfminer has made."""
 
-    def __init__(self, maps: GivenMaps):
+    def __init__(self, font: GivenFont, own: Optional[cmapdb.UnicodeMap] = None):
         super().__init__()
-        self._maps = maps
+        self._font, self._own = font, own
         self._known: Dict[int, Optional[str]] = {}
 
     def get_unichr(self, cid: int) -> str:
         if cid not in self._known:
             self._known[cid] = self._text(cid)
         text = self._known[cid]
-        if text is None:
+        if text is not None:
+            return text
+        if self._own is None:
             raise KeyError(cid)
-        return text
+        return self._own.get_unichr(cid)
 
     def _text(self, cid: int) -> Optional[str]:
-        return self._maps.text(cid, 2, cid) if self._maps.is_composite else self._maps.text(cid, 1, None)
+        return self._font.text(cid, 2, cid) if self._font.maps.is_composite else self._font.text(cid, 1, None)
 
     def __reduce__(self) -> Any:
-        return type(self), (self._maps,)
+        return type(self), (self._font, self._own)
 
 
 class TextsOfCodes(Texts):
@@ -66,14 +73,14 @@ class TextsOfCodes(Texts):
 
     def get_unichr(self, cid: int) -> str:
         if not isinstance(cid, Cid):
-            # a CID that no string has given: what it stands for in the collection
+            # a CID that no string has given: what it stands for in the collection, or the text of its glyph
             return super().get_unichr(cid)
         if cid.text is None:
             raise KeyError(cid)
         return cid.text
 
     def _text(self, cid: int) -> Optional[str]:
-        return self._maps.text_of_cid(cid)
+        return self._font.text_of_glyph(cid)
 
 
 class Identity(cmapdb.IdentityCMap):
@@ -86,11 +93,11 @@ class Identity(cmapdb.IdentityCMap):
 class Encoding(cmapdb.CMapBase):
     """The CMap of a composite font, which gives CIDs with texts."""
 
-    def __init__(self, maps: GivenMaps):
-        source = maps.encoding_source
+    def __init__(self, font: GivenFont):
+        source = font.maps.encoding_source
         name = {} if source is None or source.name is None else {"CMapName": source.name.decode("latin-1")}
-        super().__init__(WMode=int(maps.is_vertical), **name)
-        self._maps = maps
+        super().__init__(WMode=int(font.maps.is_vertical), **name)
+        self._font = font
         self._known: Dict[Tuple[int, int], Cid] = {}
 
     def __repr__(self) -> str:
@@ -98,37 +105,76 @@ class Encoding(cmapdb.CMapBase):
 
     def decode(self, code: bytes) -> List[Cid]:
         found = []
-        for it, text in self._maps.codes(code):
+        for it, own in self._font.maps.codes(code):
             cid = self._known.get(it[:2])
             if cid is None:
                 cid = self._known[it[:2]] = Cid(it.cid or 0)
-                cid.text, cid.is_shown = text, it.cid is not None or text is not None
+                cid.text = self._font.text_of((*it[:3], own))
+                cid.is_shown = it.cid is not None or cid.text is not None
             # pdfminer has nothing for a code that the CMap gives no CID
             if cid.is_shown:
                 found.append(cid)
         return found
 
     def __reduce__(self) -> Any:
-        return type(self), (self._maps,)
+        return type(self), (self._font,)
 
 
 class PDFCIDFont(pdffont.PDFCIDFont):
-    """A CIDFont of a composite font, whose CMaps hayro_cmap reads."""
+    """A CIDFont of a composite font, whose CMaps and glyphs hayro_cmap reads."""
 
     def __init__(self, rsrcmgr: Any, spec: Mapping[str, Any], *arguments: Any, **options: Any):
-        maps = maps_of(spec)
-        self._cmap = cmap_of(maps, spec)
+        font = given(rsrcmgr, spec, maps_of(spec))
+        maps = font.maps
+        self._cmap = cmap_of(font, spec)
         # pdfminer reads a name under ToUnicode itself
         has_name = maps.to_unicode_source is not None and not maps.has_to_unicode
-        is_ours = not has_name and (maps.has_to_unicode or maps.texts_of_cids is not None)
+        # pdfminer knows texts of collections, and raises over many a program
+        is_own = maps.collection_of_cid_font in COLLECTIONS and maps.texts_of_cids is None and not maps.has_to_unicode
+        is_ours = not has_name and not is_own
         super().__init__(rsrcmgr, without_texts(spec) if is_ours else spec, *arguments, **options)
-        if isinstance(self._cmap, Encoding) and not has_name:
-            self.unicode_map = TextsOfCodes(maps)
-        elif is_ours:
-            self.unicode_map = Texts(maps)
+        if not has_name:
+            kind = TextsOfCodes if isinstance(self._cmap, Encoding) else Texts
+            self.unicode_map = kind(font, None if is_ours else self.unicode_map)
 
     def get_cmap_from_spec(self, spec: Mapping[str, Any], strict: bool) -> Any:
         return super().get_cmap_from_spec(spec, strict) if self._cmap is None else self._cmap
+
+
+class ObjectsOfPdfminer(Objects):
+    """The objects of pdfminer."""
+
+    def object(self, value: Any) -> Any:
+        return resolve1(value)
+
+    def at(self, holder: Any, key: str) -> Any:
+        return resolve1(holder.get(key)) if isinstance(holder, (Mapping, PDFStream)) else None
+
+    def name(self, value: Any) -> Optional[str]:
+        name = getattr(value, "name", None)
+        return name if isinstance(name, str) else None
+
+    def decoded(self, value: Any) -> Optional[bytes]:
+        if not isinstance(value, PDFStream):
+            return None
+        raw = value.get_rawdata()
+        if raw is None:
+            return bytes(value.get_data())
+        [(name, parameters)] = value.get_filters() if len(value.get_filters()) == 1 else [(None, None)]
+        is_deflated = name in LITERALS_FLATE_DECODE and not parameters and value.decipher is None
+        return bounded(raw, is_deflated, lambda: bytes(value.get_data()))
+
+
+OBJECTS = ObjectsOfPdfminer()
+
+#: What may still be taken of the programs of the fonts of a resource manager.
+_budgets: "weakref.WeakKeyDictionary[Any, Budget]" = weakref.WeakKeyDictionary()
+
+
+def given(manager: Any, spec: Mapping[str, Any], maps: GivenMaps) -> GivenFont:
+    """The font of a resource manager with these CMaps."""
+    budget = _budgets.setdefault(manager, Budget())
+    return GivenFont(maps, GivenGlyphs(maps.is_composite, lambda: spec, OBJECTS, lambda: budget))
 
 
 def maps_of(spec: Mapping[str, Any]) -> GivenMaps:
@@ -159,12 +205,13 @@ def source_of(value: Any, over: int = 0) -> Optional[CMapSource]:
     return CMapSource(SAME.get(name, name).encode()) if isinstance(name, str) and name not in OF_PDFMINER else None
 
 
-def cmap_of(maps: GivenMaps, spec: Mapping[str, Any]) -> Optional[cmapdb.CMapBase]:
+def cmap_of(font: GivenFont, spec: Mapping[str, Any]) -> Optional[cmapdb.CMapBase]:
     """The CMap as pdfminer takes it; None where pdfminer's own is to be taken."""
+    maps = font.maps
     if maps.encoding.lenient is None:
         name = getattr(resolve1(spec.get("Encoding")), "name", None)
-        return Encoding(maps) if maps.has_to_unicode and name not in OF_PDFMINER else None
-    return Identity(WMode=int(maps.is_vertical)) if maps.is_identity else Encoding(maps)
+        return Encoding(font) if maps.has_to_unicode and name not in OF_PDFMINER else None
+    return Identity(WMode=int(maps.is_vertical)) if maps.is_identity else Encoding(font)
 
 
 def without_texts(spec: Mapping[str, Any]) -> Dict[str, Any]:
@@ -182,11 +229,11 @@ def made(manager: Any, objid: Any, spec: Mapping[str, Any], get_font: Callable[.
         if objid and manager.caching:
             manager._cached_fonts[objid] = font
         return font
-    maps = GivenMaps(False, to_unicode_source=None if subtype == "Type0" else source_of(spec.get("ToUnicode")))
-    if not maps.has_to_unicode:
+    if subtype == "Type0":
         return get_font(manager, objid, spec)
-    font = get_font(manager, objid, without_texts(spec))
-    font.unicode_map = Texts(maps)
+    maps = GivenMaps(False, to_unicode_source=source_of(spec.get("ToUnicode")))
+    font = get_font(manager, objid, without_texts(spec) if maps.has_to_unicode else spec)
+    font.unicode_map = Texts(given(manager, spec, maps))
     return font
 
 

@@ -6,8 +6,9 @@
 It is experimental: pypdf has no public hook, and its private ones may change.
 
 From then on pypdf's `extract_text` has CMaps read by hayro_cmap: the ToUnicode CMap of any font, past its faults, and
-of a composite font its predefined or embedded CMap and the map of its character collection. `uninstall` ends this, and
-`installed` is both as a context manager.
+of a composite font its predefined or embedded CMap and the map of its character collection. A code without a text there
+has that of its glyph, by the glyph's name or the embedded program. `uninstall` ends this, and `installed` is both as a
+context manager.
 
 pypdf decodes a string by the name of a codec of Python, and looks up each character of what that gives. So an encoding
 has a codec here, named by what is in it, which gives one character for each code: that of its CID, by which pypdf finds
@@ -22,10 +23,12 @@ import hashlib
 import importlib
 import threading
 import weakref
-from typing import Any, Dict, Iterator, List, Optional, Set, Tuple
+from typing import Any, Callable, Dict, Iterator, List, Optional, Set, Tuple
 
 from . import CMapSource, Code
+from ._budget import Budget
 from ._font_maps import MOST_IN_CHAIN, GivenMaps
+from ._given_font import GivenFont, GivenGlyphs, Objects, bounded
 
 __all__ = ["install", "installed", "uninstall"]
 
@@ -84,19 +87,72 @@ class Encoding:
 
 
 class Characters(dict):
-    """The texts of characters of a codec, of which those that were looked up are there."""
+    """The texts of characters that stand for the codes of a font, of which those that were looked up are there."""
 
-    def __init__(self, maps: GivenMaps, codec: Optional[str], missing: Optional[str]):
+    def __init__(self, font: GivenFont, missing: Optional[str] = None):
         super().__init__()
-        self._of, self._maps, self._missing = (maps, codec, missing), maps, missing
-        self._encoding = encoding_of(maps) if codec else None
+        self._font, self._missing = font, missing
+        #: Those that have no text.
+        self._without: Set[str] = set()
+
+    @property
+    def _of(self) -> Tuple[Any, ...]:
+        """What another one is made of."""
+        return self._font, self._missing
+
+    def _text(self, char: str) -> Optional[str]:
+        """The text of a character whose number is the code."""
+        return self._font.text(ord(char), 2, ord(char))
+
+    def __missing__(self, char: Any) -> str:
+        if not isinstance(char, str) or len(char) != 1 or char in self._without:
+            raise KeyError(char)
+        text = self._text(char)
+        if text is None:
+            text = self._missing
+        if text is None:
+            self._without.add(char)
+            raise KeyError(char)
+        self[char] = text
+        return text
+
+    def __contains__(self, char: Any) -> bool:
+        return super().__contains__(char) or self.get(char) is not None
+
+    def get(self, char: Any, default: Any = None) -> Any:
+        try:
+            return self[char]
+        except KeyError:
+            return default
+
+    def copy(self) -> "Characters":
+        other = type(self)(*self._of)
+        other.update(self)
+        return other
+
+    def __reduce__(self) -> Any:
+        return type(self), self._of, None, None, iter(list(self.items()))
+
+
+class CharactersOfCodec(Characters):
+    """The texts of characters of a codec, or of those whose numbers are the codes where there is none."""
+
+    def __init__(self, font: GivenFont, codec: Optional[str], missing: Optional[str]):
+        super().__init__(font, missing)
+        self._codec = codec
+        self._encoding = encoding_of(font.maps) if codec else None
         self._find_space()
+
+    @property
+    def _of(self) -> Tuple[Any, ...]:
+        return self._font, self._codec, self._missing
 
     def _find_space(self) -> None:
         """pypdf looks for the character whose text is a space."""
-        for code in [code for code, text in self._maps.texts.items() if text == " "][:1]:
+        maps = self._font.maps
+        for code in [code for code, text in maps.texts.items() if text == " "][:1]:
             self._seed(code)
-        if self._maps.texts_of_cids is not None and " " not in self.values():
+        if maps.texts_of_cids is not None and " " not in self.values():
             self._seed(0x20 if self._encoding else 1)
 
     def _seed(self, code: int) -> None:
@@ -114,40 +170,44 @@ class Characters(dict):
     def _text(self, char: str) -> Optional[str]:
         """The text of a character; the empty one where its code has neither a CID nor a text."""
         if self._encoding is None:
-            return self._maps.text(ord(char), 2, ord(char))
+            return super()._text(char)
         found = self._encoding.code(char)
         if found is None:
             return None
-        text = self._maps.text(*found[:3])
+        text = self._font.text(*found[:3])
         return "" if text is None and found.cid is None else text
 
-    def __missing__(self, char: Any) -> str:
-        if not isinstance(char, str) or len(char) != 1:
-            raise KeyError(char)
-        text = self._text(char)
-        if text is None:
-            text = self._missing
-        if text is None:
-            raise KeyError(char)
-        self[char] = text
-        return text
 
-    def __contains__(self, char: Any) -> bool:
-        return self.get(char) is not None
+class OwnTexts:
+    """What pypdf has for the codes of a simple font by its encoding, once it is asked for."""
 
-    def get(self, char: Any, default: Any = None) -> Any:
-        try:
-            return self[char]
-        except KeyError:
-            return default
+    def __init__(self, read: Callable[[], Any]):
+        self._read = read
 
-    def copy(self) -> "Characters":
-        other = Characters(*self._of)
-        other.update(self)
-        return other
+    @functools.cached_property
+    def found(self) -> Dict[int, str]:
+        found = self._read()
+        return dict(found) if isinstance(found, dict) else {}
 
     def __reduce__(self) -> Any:
-        return Characters, self._of
+        return OwnTexts, (functools.partial(dict, self.found),)
+
+
+class CharactersOfBytes(Characters):
+    """The texts of the characters whose numbers are the codes of a simple font; then those that pypdf has."""
+
+    def __init__(self, font: GivenFont, own: OwnTexts):
+        super().__init__(font)
+        self._own = own
+
+    @property
+    def _of(self) -> Tuple[Any, ...]:
+        return self._font, self._own
+
+    def _text(self, char: str) -> Optional[str]:
+        code = ord(char)
+        text = self._font.text(code, 1, None) if code < 256 else None
+        return self._own.found.get(code) if text is None else text
 
 
 _encodings: "weakref.WeakValueDictionary[str, Encoding]" = weakref.WeakValueDictionary()
@@ -216,14 +276,19 @@ def kept_maps(*given: Any) -> GivenMaps:
     return GivenMaps(*given)
 
 
+def descendant_of(font: Any) -> Dict[str, Any]:
+    """The CIDFont of a composite font; an empty one where there is none."""
+    below = object_of(font.get("/DescendantFonts"))
+    descendant = object_of(below[0]) if isinstance(below, list) and below else None
+    return descendant if isinstance(descendant, dict) else {}
+
+
 def maps_of(font: Any) -> GivenMaps:
     """The CMaps of a font."""
     to_unicode = source_of(font.get("/ToUnicode"))
     if font.get("/Subtype") != "/Type0":
         return kept_maps(False, None, to_unicode)
-    below, encoding = object_of(font.get("/DescendantFonts")), object_of(font.get("/Encoding"))
-    descendant = object_of(below[0]) if isinstance(below, list) and below else None
-    descendant = descendant if isinstance(descendant, dict) else {}
+    descendant, encoding = descendant_of(font), object_of(font.get("/Encoding"))
     info = object_of(descendant.get("/CIDSystemInfo"))
     names = [text_of(object_of(info.get(key))) for key in ("/Registry", "/Ordering")] if isinstance(info, dict) else []
     mode = object_of(encoding.get("/WMode")) if hasattr(encoding, "get_data") else 0
@@ -258,6 +323,63 @@ def source_of(value: Any, over: int = 0) -> Optional[CMapSource]:
             return CMapSource(unreadable=str(fault))
         return CMapSource(data=data.encode("latin-1") if isinstance(data, str) else bytes(data), base=base)
     return CMapSource(str(value)[1:].encode()) if isinstance(value, str) and value[:1] == "/" else None
+
+
+class ObjectsOfPypdf(Objects):
+    """The objects of pypdf."""
+
+    def object(self, value: Any) -> Any:
+        return object_of(value)
+
+    def at(self, holder: Any, key: str) -> Any:
+        return object_of(holder.get("/" + key)) if isinstance(holder, dict) else None
+
+    def name(self, value: Any) -> Optional[str]:
+        return str(value)[1:] if isinstance(value, str) and value[:1] == "/" else None
+
+    def decoded(self, value: Any) -> Optional[bytes]:
+        if not hasattr(value, "get_data"):
+            return None
+        raw, filters = getattr(value, "_data", b""), self.at(value, "Filter")
+        is_deflated = filters in ("/FlateDecode", ["/FlateDecode"]) and "/DecodeParms" not in value
+        raw = raw if isinstance(raw, bytes) else b""
+        return bounded(raw, is_deflated, lambda: bytes(value.get_data()))
+
+
+OBJECTS = ObjectsOfPypdf()
+
+#: The glyphs of the fonts that are there, by the numbers of their dictionaries: what was read of a program is kept as
+#: long as the file.
+_glyphs: Dict[int, Tuple["weakref.ref[Any]", GivenGlyphs]] = {}
+
+#: What may still be taken of the programs of the fonts of a file.
+_budgets: "weakref.WeakKeyDictionary[Any, Budget]" = weakref.WeakKeyDictionary()
+
+
+def glyphs_of(font: Any) -> GivenGlyphs:
+    """The glyphs of a font, which doesn't live longer by them."""
+    key = id(font)
+    found = _glyphs.get(key)
+    if found is not None and found[0]() is font:
+        return found[1]
+    is_composite = font.get("/Subtype") == "/Type0"
+    of_font = weakref.ref(font, lambda _: _glyphs.pop(key, None))
+
+    def holder() -> Any:
+        there = of_font()
+        return descendant_of(there) if is_composite and there is not None else there
+
+    glyphs = GivenGlyphs(is_composite, holder, OBJECTS, lambda: budget_of(holder()))
+    _glyphs[key] = of_font, glyphs
+    return glyphs
+
+
+def budget_of(holder: Any) -> Budget:
+    """What may still be taken of the file of a font, which its descriptor names: a program is an indirect object."""
+    descriptor = OBJECTS.at(holder, "FontDescriptor")
+    files = (getattr(it, "pdf", None) for it in (descriptor.values() if isinstance(descriptor, dict) else ()))
+    file = next((it for it in files if it is not None), None)
+    return Budget() if file is None else _budgets.setdefault(file, Budget())
 
 
 class Hook:
@@ -305,23 +427,32 @@ class Hook:
 
     def read(self, font: Any) -> Optional[Tuple[Dict[Any, Any], List[int]]]:
         """The texts of a font by characters, and the codes of a simple one; None where pypdf is to read them."""
-        maps = maps_of(font)
-        if not maps.is_composite:
-            return self.whole(maps, 1) if maps.has_to_unicode else None
+        given = GivenFont(maps_of(font), glyphs_of(font))
+        maps = given.maps
         if maps.to_unicode_source is not None and not maps.has_to_unicode:
             return None
+        if not maps.is_composite:
+            own = OwnTexts(functools.partial(self.own_encoding, font))
+            return self.filled(CharactersOfBytes(given, own), 1), list(range(256))
         codec = self.codec(maps)
-        if codec is None and maps.texts_of_cids is None and self.missing is None and not maps.has_unicode_codes:
-            return self.whole(maps, 2) if maps.has_to_unicode else None
         missing = REPLACEMENT if self.missing is None and codec is not None else self.missing
-        characters = Characters(maps, codec, missing)
+        characters = CharactersOfCodec(given, codec, missing)
+        if codec is None:
+            return self.filled(characters, 2), []
         characters.update(self.length(2))
         return characters, []
 
-    def whole(self, maps: GivenMaps, byte_len: int) -> Tuple[Dict[Any, Any], List[int]]:
-        """All texts of a ToUnicode CMap by the characters of the codes, and the codes."""
-        texts = maps.texts
-        return {**self.length(byte_len), **{chr(code): text for code, text in texts.items()}}, list(texts)
+    def own_encoding(self, font: Any) -> Any:
+        """What pypdf reads of the encoding of a simple font."""
+        if not self.is_old:
+            return self.originals[0](font)
+        return self.originals[0](font, ord(" "))[0]
+
+    def filled(self, characters: Characters, byte_len: int) -> Characters:
+        """The same with all texts of the ToUnicode CMap, whose codes are the numbers of the characters."""
+        texts = characters._font.maps.texts
+        characters.update({**self.length(byte_len), **{chr(code): text for code, text in texts.items()}})
+        return characters
 
     def length(self, byte_len: int) -> Dict[int, int]:
         """Up to version 5, -1 stands for the length of codes."""

@@ -8,9 +8,9 @@ from unittest import mock
 
 from pikepdf import Array, Dictionary, Name
 
-from hayro_cmap import pdf
-from hayro_cmap.pdf import Source, _encodings, _programs, _sfnt
-from hayro_cmap.pdf._budget import Budget
+from hayro_cmap import _encodings, _programs, _sfnt, pdf
+from hayro_cmap._budget import Budget
+from hayro_cmap.pdf import Source
 
 from made import File, needs_glyph_list, needs_resources, truetype
 from test_texts import cff_program
@@ -164,7 +164,7 @@ class Composite(unittest.TestCase):
         """Where its glyphs have CIDs, the CIDs of the font are these, and no names."""
         program = _programs.Program(truetype(["x", "y"], (3, 1, 4, {0x3B1: "x", 0x3B2: "y"})))
         program.__dict__["_charset"] = ([".notdef", "cid00907", "cid00005"], True)
-        glyphs = _programs.GlyphsOfCids(Dictionary(), program, None)
+        glyphs = _programs.GlyphsOfCids(program)
         self.assertEqual([glyphs.text(cid) for cid in (907, 5, 1, 2)], ["α", "β", None, None])
         self.assertEqual(program.names, [])
 
@@ -183,6 +183,18 @@ class Composite(unittest.TestCase):
         with mock.patch.object(Budget.__init__, "__defaults__", (1,)):
             fonts = pdf.Document(file.pdf).fonts
         self.assertEqual([font.characters(b"\0\1")[0].text for font in fonts], ["α", None])
+
+    def test_standard_names(self):
+        """The spelled names begin at 258, the number after dcroat. They begin at 257 where that is used and each name
+        has a number, as Prawn writes them."""
+        for numbers, names in (
+            ([0, 257, 258, 259], [".notdef", "dcroat", "alpha", "beta"]),
+            ([0, 258, 259], [".notdef", "alpha", "beta"]),
+            ([0, 257, 258], [".notdef", "alpha", "beta"]),
+            ([0, 257], [".notdef", "dcroat"]),
+        ):
+            post = struct.pack(f">L28xH{len(numbers)}H", 0x20000, len(numbers), *numbers) + b"\5alpha\4beta"
+            self.assertEqual(_sfnt.names_of(post), names)
 
     def test_many_characters_of_a_glyph(self):
         """No time that grows with the square of their number."""

@@ -5,8 +5,8 @@ from unittest import mock
 
 from pikepdf import Array, Dictionary, Name
 
-from hayro_cmap import Code, Grade, pdf
-from hayro_cmap.pdf import Source, _encodings, _fonts, _glyphs, _interpreter
+from hayro_cmap import Code, Grade, _encodings, _glyphs, pdf
+from hayro_cmap.pdf import Source, _fonts, _interpreter
 
 from made import BAD, GOOD, WIDE, File, needs_glyph_list, needs_resources, showing
 

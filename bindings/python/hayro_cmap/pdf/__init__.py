@@ -25,10 +25,11 @@ try:
 except ImportError as fault:
     raise missing("pikepdf is missing: pip install pikepdf, or Debian's python3-pikepdf") from fault
 
+from .._glyphs import HAS_GLYPH_LIST
 from ._check import CMapWarning, FontReport, Report, ShownCode, check
 from ._content import Content, Document, Shown, characters
+from ._embedded import glyph_names
 from ._fonts import Character, Fault, Font, Read, Source, fonts
-from ._glyphs import HAS_GLYPH_LIST, glyph_names
 from ._many import check_files
 from ._objects import TooLarge, Undecodable
 from ._repair import Repaired, Signed, repair, save

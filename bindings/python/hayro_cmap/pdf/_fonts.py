@@ -1,15 +1,18 @@
 """The fonts of a PDF file, with their CMaps."""
 
 import functools
-from typing import Any, Callable, Dict, Iterable, Iterator, List, NamedTuple, Optional, Tuple
+from typing import Any, Dict, Iterable, Iterator, List, NamedTuple, Optional, Tuple
 
 import pikepdf
 
 from .. import CMapSource, Code, Extractor
+from .._budget import Budget
+from .._font_glyphs import FontGlyphs, text_and_source
 from .._font_maps import MOST_IN_CHAIN, Fault, FontMaps, Read, Source
+from .._glyphs import Names
+from .._programs import GlyphsOfCids, Program
 from .._room import Row
-from ._budget import Budget
-from ._glyphs import Names, differences_of, glyph_names, guessed_texts, is_symbolic, texts_of_names
+from ._embedded import differences_of, glyph_map, glyph_names, is_symbolic, program_of
 from ._objects import (
     MALFORMED,
     Streams,
@@ -24,7 +27,6 @@ from ._objects import (
     text_of,
     values,
 )
-from ._programs import GlyphsOfCids, Program, glyphs_of_codes, program_of
 from ._widths import Widths
 
 __all__ = ["Character", "Fault", "Font", "Fonts", "Read", "Source", "fonts"]
@@ -48,8 +50,8 @@ class Character(NamedTuple):
     source: Source
 
 
-class Font(FontMaps):
-    """A font of a PDF file. Its CMaps are read when they are first asked for, while the file is open."""
+class Font(FontMaps, FontGlyphs):
+    """A font of a PDF file. Its CMaps and its glyphs are read when they are first asked for, while the file is open."""
 
     def __init__(
         self, dictionary: pikepdf.Dictionary, streams: Optional[Streams] = None, budget: Optional[Budget] = None
@@ -136,9 +138,22 @@ class Font(FontMaps):
             return [None] * 256
 
     @functools.cached_property
-    def glyph_texts(self) -> List[Optional[str]]:
-        """The texts of the codes 0 to 255 of a simple font, by its encoding and the names of its glyphs."""
-        return texts_of_names(self.glyph_names, self.base_font or "")
+    def differences(self) -> Dict[int, str]:
+        """The names of the glyphs of codes of a simple font that Differences has."""
+        try:
+            return differences_of(self.dictionary)
+        except MALFORMED:
+            return {}
+
+    @property
+    def has_encoding(self) -> bool:
+        """Whether the font has an encoding."""
+        return self.encoding_kind != "none"
+
+    @property
+    def is_symbolic(self) -> bool:
+        """Whether its descriptor says that it has other glyphs than those of Latin text."""
+        return is_symbolic(self.dictionary)
 
     @functools.cached_property
     def program(self) -> Program:
@@ -146,32 +161,11 @@ class Font(FontMaps):
         holder = self.dictionary if self.descendant is None else self.descendant
         return program_of(holder, self._streams, self.budget)
 
-    @property
-    def names_in_program(self) -> Optional[Names]:
-        """The names by which the glyphs of a simple font are found in its program; None where its codes are looked up
-        (ISO 32000-1, 9.6.6.4)."""
-        is_by_code = self.encoding_kind == "none" or is_symbolic(self.dictionary)
-        return None if self.subtype == "TrueType" and is_by_code else self.glyph_names
-
-    @functools.cached_property
-    def program_texts(self) -> List[Optional[str]]:
-        """The texts of the codes 0 to 255 of a simple font by its embedded TrueType or OpenType program."""
-        if not self.program.sfnt:
-            return [None] * 256
-        return [self.program.text(glyph) for glyph in glyphs_of_codes(self.names_in_program, self.program)]
-
-    @functools.cached_property
-    def guessed_texts(self) -> Dict[int, str]:
-        """The texts of codes of a simple font to which Differences gives numbers for the names of glyphs."""
-        try:
-            return guessed_texts(differences_of(self.dictionary))
-        except MALFORMED:
-            return {}
-
     @functools.cached_property
     def glyphs_of_cids(self) -> Optional[GlyphsOfCids]:
         """The glyphs of the CIDs of a composite font in its embedded program."""
-        return None if self.descendant is None else GlyphsOfCids(self.descendant, self.program, self._streams)
+        it = self.descendant
+        return None if it is None else GlyphsOfCids(self.program, glyph_map(it, self._streams))
 
     @functools.cached_property
     def widths(self) -> Widths:
@@ -190,7 +184,8 @@ class Font(FontMaps):
         """What `characters` gives, with less of each code. Nothing is kept: it is for codes that are looked up once."""
         rows = self._kept_extractor(lenient)._rows(string)
         return [
-            row if row[3] is not None else (*row[:3], self._text_and_source(row, lenient, guesses)[0]) for row in rows
+            row if row[3] is not None else (*row[:3], text_and_source(self, self, row, lenient, guesses)[0])
+            for row in rows
         ]
 
     def characters_of(
@@ -208,48 +203,10 @@ class Font(FontMaps):
             key = code[:2] if not code.cut_short else (code.code, -code.byte_len)
             character = known.get(key)
             if character is None:
-                text, source = self._text_and_source((*code[:3], text), lenient, guesses)
+                text, source = text_and_source(self, self, (*code[:3], text), lenient, guesses)
                 character = known[key] = Character(self, code, text, source)
             found.append(character)
         return found
-
-    def _text_and_source(self, row: Row, lenient: bool, guesses: bool) -> Tuple[Optional[str], Source]:
-        """The text of a code, to which the ToUnicode CMap gives the one of this row, and where it comes from."""
-        found = self.text_by_maps(row, lenient)
-        if found[0] is None:
-            found = self._text_of_glyph(row[2]) if self.is_composite else self._text_of_simple(row[0])
-        return found if guesses or not found[1].is_guess else (None, Source.NONE)
-
-    def _text_of_glyph(self, cid: Optional[int]) -> Tuple[Optional[str], Source]:
-        """The text that the program has for the glyph of a CID of a composite font."""
-        text = None if cid is None or self.glyphs_of_cids is None else self.glyphs_of_cids.text(cid)
-        return text, Source.NONE if text is None else Source.FONT_PROGRAM
-
-    def _text_of_simple(self, code: int) -> Tuple[Optional[str], Source]:
-        """The text of a code of a simple font without one in the ToUnicode CMap."""
-        found = ((text_of(self, code), source) for source, text_of in self._ways)
-        return next(((text, source) for text, source in found if text is not None), (None, Source.NONE))
-
-    @functools.cached_property
-    def _ways(self) -> List[Tuple[Source, Callable[["Font", int], Optional[str]]]]:
-        """How a code of a simple font has a text without a ToUnicode CMap, the best way first."""
-        by_name = (Source.GLYPH_NAME, Font._text_of_name)
-        by_program = (Source.FONT_PROGRAM, Font._text_of_program)
-        by_number = (Source.GLYPH_NUMBER, Font._text_of_number)
-        is_by_code = self.subtype == "TrueType" and self.encoding_kind == "none"
-        return [by_program, by_name, by_number] if is_by_code else [by_name, by_program, by_number]
-
-    def _text_of_name(self, code: int) -> Optional[str]:
-        """The text of the name of the glyph of a code of a simple font."""
-        return texts_of_names([self.glyph_names[code]], self.base_font or "")[0]
-
-    def _text_of_program(self, code: int) -> Optional[str]:
-        """That of the glyph of the code in the embedded program."""
-        return self.program_texts[code]
-
-    def _text_of_number(self, code: int) -> Optional[str]:
-        """That of the number that the glyph has for a name, which is a guess."""
-        return self.guessed_texts.get(code)
 
     @property
     def faults(self) -> List[Fault]:

@@ -94,7 +94,7 @@ def filters_of(stream: pikepdf.Stream) -> List[str]:
 
 def bytes_of(name: pikepdf.Name) -> bytes:
     """The bytes of a name, without the slash before it."""
-    return unescaped(name.unparse()[1:])
+    return unescaped(name.unparse(resolved=True)[1:])
 
 
 def unescaped(written: bytes) -> bytes:

@@ -11,8 +11,9 @@ from typing import TYPE_CHECKING, Any, Callable, Dict, Iterator, List, NamedTupl
 
 import pikepdf
 
-from ._budget import Budget
-from ._glyphs import Names
+from .._budget import Budget
+from .._glyphs import Names
+from .._programs import CIDS, glyphs_of_codes
 from ._metrics import (
     COURIERS,
     HELVETICA,
@@ -25,7 +26,6 @@ from ._metrics import (
     ZAPF_DINGBATS,
 )
 from ._objects import MALFORMED, dictionary_at, integer_at
-from ._programs import CIDS, glyphs_of_codes
 
 if TYPE_CHECKING:
     from ._fonts import Font

@@ -167,7 +167,10 @@ def names_of(post: bytes) -> List[str]:
         return list(standardGlyphOrder)
     [count] = struct.unpack_from(">H", post, 32)
     numbers = struct.unpack_from(f">{count}H", post, 34)
-    names = [*standardGlyphOrder, *spelled(post[34 + 2 * count :])]
+    own, last = list(spelled(post[34 + 2 * count :])), len(standardGlyphOrder) - 1
+    # Prawn's programs lack the last standard name: the names that they spell, which are all used, begin at its number
+    is_short = last in numbers and max(numbers) == last + len(own) - 1
+    names = [*standardGlyphOrder[: last if is_short else None], *own]
     return [names[it] if it < len(names) else ".notdef" for it in numbers]
 
 

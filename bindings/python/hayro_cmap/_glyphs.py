@@ -8,12 +8,9 @@ import functools
 import importlib.util
 import io
 import re
-from typing import Any, Dict, List, Optional, Tuple, Union
-
-import pikepdf
+from typing import Any, Callable, Dict, Iterable, List, Optional, Tuple, Union
 
 from ._encodings import BY_NAME, EXPERT, STANDARD, SYMBOL, ZAPF_DINGBATS
-from ._objects import MALFORMED, Streams, dictionary_at, integer_at, name_at, stream_at, text_of, unescaped
 from ._sfnt import Sfnt
 
 #: Whether names of glyphs have texts: whether fontTools is there.
@@ -64,9 +61,6 @@ SYMBOLIC = 1 << 2
 ENTRY = re.compile(rb"dup\s+(?:(\d+)#)?(\w+)\s*/([^\s/\[\](){}<>%]+)\s+put\b")
 ENCODING = re.compile(rb"/Encoding\s+(StandardEncoding\b|.*?(?:\breadonly|\bdef)\b)", re.DOTALL)
 
-#: A code or a name of an array Differences that stands there itself.
-DIRECT = re.compile(rb"/|[0-9]{1,9}\Z")
-
 #: The encodings of Adobe that the first places stand for where an encoding of a CFF font program may stand.
 OF_CFF = (STANDARD, EXPERT)
 
@@ -84,79 +78,49 @@ PRINTED = frozenset([*range(0x20, 0x7F), *range(0xA0, 0x100)])
 MOST_OF_ENCODING = 1 << 16
 
 
-def glyph_names(font: pikepdf.Dictionary, streams: Streams) -> Names:
-    """The names of the glyphs of a simple font: those of Differences over a base encoding (ISO 32000-1, 9.6.6)."""
-    encoding = font.get("/Encoding")
-    if isinstance(encoding, pikepdf.Name):
-        return list(BY_NAME.get(text_of(encoding)) or built_in(font, streams))
-    if not isinstance(encoding, pikepdf.Dictionary):
-        return built_in(font, streams)
-    names = list(BY_NAME.get(name_at(encoding, "/BaseEncoding") or "") or built_in(font, streams))
-    for code, name in differences_of(font).items():
+def names_of_codes(encoding: Optional[str], differences: Dict[int, str], built_in: Callable[[], Names]) -> Names:
+    """The names of the glyphs of a simple font: those of Differences over the encoding of a name, or over the one that
+    the font has of itself (ISO 32000-1, 9.6.6)."""
+    names = list(BY_NAME.get(encoding or "") or built_in())
+    for code, name in differences.items():
         names[code] = name
     return names
 
 
-def differences_of(font: pikepdf.Dictionary) -> Dict[int, str]:
-    """The names of the glyphs of codes that Differences has (ISO 32000-1, 9.6.6.1)."""
+def names_of_differences(entries: Iterable[Union[int, str, None]]) -> Dict[int, str]:
+    """The names of the glyphs of codes in an array Differences (ISO 32000-1, 9.6.6.1), whose entries are the numbers of
+    codes, names, or None for anything else."""
     found: Dict[int, str] = {}
     code = 0
-    for it in entries_of(dictionary_at(font, "/Encoding").get("/Differences")):
+    for it in entries:
         if isinstance(it, str):
             if 0 <= code < 256:
                 found[code] = it
             code += 1
-        else:
+        elif it is not None:
             code = it
     return found
 
 
-def entries_of(differences: Any) -> List[Union[int, str]]:
-    """The codes and the names of an array Differences."""
-    if not isinstance(differences, pikepdf.Array):
-        return []
-    # to make objects of each takes longer
-    words = differences.unparse(resolved=True).split()[1:-1]
-    if all(DIRECT.match(it) for it in words):
-        return [unescaped(it[1:]).decode("utf-8", "replace") if it[:1] == b"/" else int(it) for it in words]
-    entries = [text_of(it) if isinstance(it, pikepdf.Name) else it for it in list(differences)]
-    return [it for it in entries if isinstance(it, (int, str))]
-
-
-def is_symbolic(font: pikepdf.Dictionary) -> bool:
-    """Whether the descriptor of a font says that it has other glyphs than those of Latin text (ISO 32000-1, 9.8.2)."""
-    return bool(integer_at(dictionary_at(font, "/FontDescriptor"), "/Flags") & SYMBOLIC)
-
-
-def built_in(font: pikepdf.Dictionary, streams: Streams) -> Names:
-    """The encoding that a font has of itself: that of its program, or of the standard font of its name."""
-    base = (name_at(font, "/BaseFont") or "").rpartition("+")[2]
-    descriptor = font.get("/FontDescriptor")
-    if isinstance(descriptor, pikepdf.Dictionary):
-        program = stream_at(descriptor, "/FontFile"), stream_at(descriptor, "/FontFile3")
-        try:
-            found = of_program(*program, streams)
-        except MALFORMED:
-            found = None
-        if found is not None:
-            return found
+def built_in_names(of_program: Optional[Names], base_font: str, has_own_glyphs: bool) -> Names:
+    """The encoding that a font has of itself: that of its program, or of the standard font of its name. A symbolic font
+    and a Type 3 font have glyphs of their own."""
+    base = base_font.rpartition("+")[2]
+    if of_program is not None:
+        return of_program
     if base == "Symbol":
         return list(SYMBOL)
     if base == "ZapfDingbats":
         return list(ZAPF_DINGBATS)
-    is_type3 = name_at(font, "/Subtype") == "Type3"
-    return [None] * 256 if is_symbolic(font) or is_type3 else list(STANDARD)
+    return [None] * 256 if has_own_glyphs else list(STANDARD)
 
 
-def of_program(type1: Optional[pikepdf.Stream], cff: Optional[pikepdf.Stream], streams: Streams) -> Optional[Names]:
-    """The encoding of an embedded font program, or None where there is none that is known."""
-    if type1 is not None:
-        return of_type1(streams.decoded(type1))
-    if cff is not None and name_at(cff, "/Subtype") == "Type1C":
-        return of_cff(streams.decoded(cff))
-    if cff is not None and name_at(cff, "/Subtype") == "OpenType":
-        return of_cff(Sfnt(streams.decoded(cff)).table(b"CFF "))
-    return None
+def of_font_file(kind: Optional[str], decoded: Callable[[], bytes]) -> Optional[Names]:
+    """The encoding of a program that isn't Type 1 or TrueType, in a stream of this Subtype, or None where there is none
+    that is known."""
+    if kind == "Type1C":
+        return of_cff(decoded())
+    return of_cff(Sfnt(decoded()).table(b"CFF ")) if kind == "OpenType" else None
 
 
 def of_type1(program: bytes) -> Optional[Names]:

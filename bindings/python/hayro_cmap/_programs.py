@@ -2,14 +2,11 @@
 
 import functools
 import unicodedata
-from typing import Dict, List, Optional, Set, Tuple
-
-import pikepdf
+from typing import Dict, Iterable, List, Optional, Set, Tuple
 
 from ._budget import Budget
 from ._encodings import MAC_ROMAN
 from ._glyphs import Names, cff_font, text_of_glyph
-from ._objects import MALFORMED, Streams, TooLarge, Undecodable, dictionary_at, stream_at
 from ._sfnt import MAC_ROMAN as MAC_ROMAN_CODES
 from ._sfnt import SYMBOL, UNICODE, VERSIONS, Sfnt
 
@@ -125,36 +122,27 @@ def best_of(characters: Set[str]) -> str:
     return min(characters, key=rank)
 
 
-def program_of(font: pikepdf.Dictionary, streams: Streams, budget: Budget) -> Program:
-    """The embedded TrueType, OpenType or CFF program of a simple font or a CIDFont (ISO 32000-1, 9.9)."""
-    descriptor = dictionary_at(font, "/FontDescriptor")
-    truetype, other = stream_at(descriptor, "/FontFile2"), stream_at(descriptor, "/FontFile3")
-    try:
-        if truetype is not None:
-            return Program(streams.decoded(truetype), budget=budget)
-        return Program() if other is None else Program(streams.decoded(other), is_cff=True, budget=budget)
-    except (TooLarge, Undecodable, *MALFORMED):
-        return Program()
-
-
 class GlyphsOfCids:
     """The glyphs of the CIDs of a CIDFont (ISO 32000-1, 9.7.4.2)."""
 
-    def __init__(self, descendant: pikepdf.Dictionary, program: Program, streams: Streams):
+    def __init__(self, program: Program, listed: Optional[bytes] = None):
         self._program = program
-        stream = stream_at(descendant, "/CIDToGIDMap")
-        self._listed: Optional[bytes] = None
-        if stream is not None:
-            try:
-                self._listed = streams.decoded(stream)
-            except (TooLarge, Undecodable):
-                self._listed = b""
+        #: The bytes of a CIDToGIDMap that is a stream.
+        self._listed = listed
 
     def glyph(self, cid: int) -> int:
         """The glyph of a CID; 0 where it has none."""
         if self._listed is not None:
             return int.from_bytes(self._listed[GLYPH_BYTES * cid : GLYPH_BYTES * (cid + 1)], "big")
         return self._program.glyphs_of_cids.get(cid, 0) if self._program.has_cids else cid
+
+    def cids(self) -> Iterable[int]:
+        """The CIDs that may have a glyph with a text."""
+        if self._listed is not None:
+            return range(min(len(self._listed) // GLYPH_BYTES, CIDS))
+        if self._program.has_cids:
+            return self._program.glyphs_of_cids
+        return {*self._program.characters, *range(len(self._program.names))}
 
     def text(self, cid: int) -> Optional[str]:
         """The text that the program has for the glyph of a CID."""
