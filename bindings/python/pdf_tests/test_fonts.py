@@ -80,6 +80,13 @@ class Facts(unittest.TestCase):
         self.assertEqual((font.encoding.strict, font.collection, font.encoding_kind), (None, None, "none"))
         self.assertRegex(str(font), r"^font \d+ Simple \(TrueType, none, ToUnicode \d+\)$")
 
+    def test_a_name_that_is_an_object(self):
+        file = File()
+        font = file.simple(GOOD)
+        font.Subtype = file.pdf.make_indirect(Name.Type1)
+        file.show(b"", F=font)
+        self.assertEqual([it.subtype for it in pdf.fonts(file.pdf)], ["Type1"])
+
     def test_an_encoding_that_is_a_stream(self):
         file = File()
         above = file.stream(b"", CMapName=Name("/Over"), UseCMap=file.stream(BASE))
