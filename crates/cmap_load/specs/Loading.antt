@@ -158,10 +158,11 @@ IsCost None count cost = Unit {0}
 IsCost (Some budget) count cost = count ≡ cost
 
 -- ---- one file
--- it is within what is left, and means this file alone
-abbrev pub IsOpened : Option PrefixTables → Option (List ℕ) → Option ℕ → File → Type 0
-IsOpened tables given left file = OfBytes given (λ bytes. MeansOnly tables bytes file)
+-- there is one, and its bytes mean this alone
+abbrev pub IsOpened : Option PrefixTables → Option (List ℕ) → File → Type 0
+IsOpened tables given file = OfBytes given (λ bytes. MeansOnly tables bytes file)
 
+-- there is none, it would pass what is left of the budget, or it is outside the grammar
 abbrev pub FailsToOpen : Option PrefixTables → Option (List ℕ) → Option ℕ → Cause → Type 0
 FailsToOpen tables given left (Malformed stop) = OfBytes given (λ bytes. IsOwnFault tables (IsAnswered []) bytes (Malformed stop) × (IsOver left (length bytes) → ⊥))
 FailsToOpen tables given left OverBudget = OfBytes given (λ bytes. IsOver left (length bytes))

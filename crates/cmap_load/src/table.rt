@@ -322,7 +322,7 @@ fn open_file<'a>(
     left: Option<u64>,
 ) -> Result<File<'a>, Fault<Cause>>
     ensures { Outcome
-        (λ file. IsOpened (tables_given bundle.entry) (option_copied bytes.entry) left (file_seen file))
+        (λ file. IsOpened (tables_given bundle.entry) (option_copied bytes.entry) (file_seen file))
         (FailsToOpen (tables_given bundle.entry) (option_copied bytes.entry) left) result }
 {
     let Some(bytes) = bytes else {
