@@ -1,8 +1,8 @@
 //! The C library of hayro_cmap, whose calls `include/hayro_cmap.h` describes.
 //!
 //! The modules below `reader` are the sources of the proved library, without their contracts; `exports` is made of their
-//! calls for C. By hand are `given`, `lookup`, `alone`, `fallible` and `reader::cmap_handles::loose`. Unsafe code is in the modules
-//! that allow it. A null pointer with a length other than 0 is a status. A panic ends the program.
+//! calls for C. By hand are `given`, `lookup`, `alone`, `fallible` and `reader::cmap_handles::loose`. Unsafe code is in
+//! the modules that allow it. A null pointer with a length other than 0 is a status. A panic ends the program.
 #![no_std]
 #![deny(unsafe_code)]
 
