@@ -2,10 +2,9 @@
 
 import functools
 import zlib
-from typing import Any, Callable, Dict, Iterator, List, Optional, Tuple, Union
+from typing import Any, Callable, Dict, Optional, Union
 
 from ._budget import Budget
-from ._extractor import Code
 from ._font_glyphs import NOT_FOUND, FontGlyphs, Found, text_and_source
 from ._font_maps import GivenMaps
 from ._glyphs import (
@@ -133,31 +132,32 @@ class GivenGlyphs(FontGlyphs):
     def _names_of_program(self) -> Optional[Names]:
         """The encoding of its Type 1 or CFF program."""
         try:
-            type1 = self._objects.decoded(self._at("FontDescriptor", "FontFile"))
+            type1 = self._decoded("FontDescriptor", "FontFile")
             if type1 is not None:
                 return of_type1(type1)
             kind = self._objects.name(self._at("FontDescriptor", "FontFile3", "Subtype"))
-            return of_font_file(kind, lambda: self._of_descriptor("FontFile3") or b"")
+            return of_font_file(kind, lambda: self._decoded("FontDescriptor", "FontFile3") or b"")
         except Exception:
             return None
 
     @functools.cached_property
     def program(self) -> Program:
-        truetype = self._of_descriptor("FontFile2")
+        truetype = self._decoded("FontDescriptor", "FontFile2")
         if truetype is not None:
             return Program(truetype, budget=self._budget())
-        return Program(self._of_descriptor("FontFile3") or b"", is_cff=True, budget=self._budget())
+        other = self._decoded("FontDescriptor", "FontFile3")
+        return Program(other or b"", is_cff=True, budget=self._budget())
 
-    def _of_descriptor(self, key: str) -> Optional[bytes]:
-        """The bytes of a stream of the descriptor of the font; None where there is none."""
+    def _decoded(self, *keys: str) -> Optional[bytes]:
+        """The bytes of a stream, none where it can't be decoded; None where there is none."""
         try:
-            return self._objects.decoded(self._at("FontDescriptor", key))
+            return self._objects.decoded(self._at(*keys))
         except Exception:
-            return None
+            return b""
 
     @functools.cached_property
     def glyphs_of_cids(self) -> GlyphsOfCids:
-        return GlyphsOfCids(self.program, self._objects.decoded(self._at("CIDToGIDMap")))
+        return GlyphsOfCids(self.program, self._decoded("CIDToGIDMap"))
 
 
 class KeptGlyphs:
