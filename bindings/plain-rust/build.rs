@@ -16,7 +16,7 @@ use sources::{fallible, reader};
 
 /// The reader of the crate, by which a bundle is checked.
 #[cfg(feature = "embed-cmaps")]
-#[allow(clippy::all, dead_code, unused_imports, unused_variables)]
+#[allow(clippy::all, dead_code, unused_imports, unused_labels, unused_variables)]
 #[path = "src"]
 mod sources {
     pub mod fallible;

@@ -19,7 +19,7 @@ ADDED = "\npub mod rc;\n"
 # the modules by hand
 MODULES = ["fallible", "host", "kit", "sources"]
 # proofs read some arguments alone, the library has more than the command, and the style is that of the sources
-ALLOWED = "#![allow(clippy::all, dead_code, unused_imports, unused_variables)]\n"
+ALLOWED = "#![allow(clippy::all, dead_code, unused_imports, unused_labels, unused_variables)]\n"
 
 
 def write_command(out):

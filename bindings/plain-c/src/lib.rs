@@ -21,7 +21,7 @@ mod fallible;
 mod given;
 mod lookup;
 // Proofs read some arguments alone, other crates of the project use some items, and the style is that of the sources.
-#[allow(clippy::all, dead_code, unused_imports, unused_variables)]
+#[allow(clippy::all, dead_code, unused_imports, unused_labels, unused_variables)]
 mod reader;
 
 #[cfg(target_pointer_width = "16")]
