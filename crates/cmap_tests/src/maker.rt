@@ -10,7 +10,7 @@ use std::alloc::Global;
 use std::test::Fail;
 
 // A bundle with these files for 83pv-RKSJ-H and 90ms-RKSJ-H.
-fn bundle_of(alloc: Global, first: &[u8], second: &[u8]) -> Option<Vec<u8>> {
+fn bundle_of<'t>(alloc: Global, first: &'t [u8], second: &'t [u8]) -> Option<Vec<u8>> {
     let first = read_text(alloc, first).ok()?;
     let second = read_text(alloc, second).ok()?;
     let sources = [
