@@ -6,24 +6,34 @@ use cmap_maker::{Source, make_named_bundle};
 use cmap_text::read_text;
 use cmap_values::file::File;
 use hayro_cmap::CMapName;
-use std::alloc::Global;
+use std::alloc::{AllocError, Global};
 use std::test::Fail;
 
 // A bundle with these files for 83pv-RKSJ-H and 90ms-RKSJ-H.
 fn bundle_of<'t>(alloc: Global, first: &'t [u8], second: &'t [u8]) -> Option<Vec<u8>> {
-    let first = read_text(alloc, first).ok()?;
-    let second = read_text(alloc, second).ok()?;
-    let sources = [
-        source(CMapName::N83pvRksjH, &first),
-        source(CMapName::N90msRksjH, &second),
-    ];
+    let mut files = Vec::new(alloc);
+    files.push(read_text(alloc, first).ok()?).ok()?;
+    files.push(read_text(alloc, second).ok()?).ok()?;
+    let sources = sources_of(alloc, &files).ok()?;
     make_named_bundle(alloc, &sources).ok()
 }
 
-// A file for this name, which has no text.
-fn source<'s, 'd>(name: CMapName<'s>, file: &'s File<'d>) -> Source<'s, 'd> {
-    let text = None;
-    Source { name, file, text }
+// Files for these names, in order, which have no text.
+fn sources_of<'f, 'd>(
+    alloc: Global,
+    files: &'f [File<'d>],
+) -> Result<Vec<Source<'f, 'd>>, AllocError> {
+    let mut sources = Vec::with_capacity(alloc, files.len())?;
+    for file in files {
+        let name = if sources.is_empty() {
+            CMapName::N83pvRksjH
+        } else {
+            CMapName::N90msRksjH
+        };
+        let text = None;
+        sources.push(Source { name, file, text })?;
+    }
+    Ok(sources)
 }
 
 /// Codes, and their CIDs in the second file.
