@@ -727,7 +727,8 @@ hayro_cmap_status hayro_cmap_encode_lossy(hayro_cmap_encoder *encoder, const uin
                                           size_t text_len, const uint8_t *missing, size_t missing_len,
                                           uint8_t *room, size_t room_len, size_t *needed);
 
-/* The version of the library, such as 1.0.0, written like the text of hayro_cmap_text. */
+/* The version of the library, such as 1.0.0, or 1.0.0+plain of the library in plain Rust, written like the text of
+   hayro_cmap_text. */
 hayro_cmap_status hayro_cmap_version(uint8_t *room, size_t room_len, size_t *needed);
 
 #ifdef __cplusplus

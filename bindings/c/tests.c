@@ -1050,8 +1050,10 @@ static void a_map_that_no_file_answers_is_not_written(void) {
 static void the_library_has_its_version(void) {
     uint8_t room[16] = {0};
     size_t needed = 0;
-    CHECK(hayro_cmap_version(room, 16, &needed) == HAYRO_CMAP_OK && needed == sizeof HAYRO_CMAP_VERSION - 1);
-    CHECK(same(room, HAYRO_CMAP_VERSION, needed));
+    static const char proved[] = HAYRO_CMAP_VERSION, plain[] = HAYRO_CMAP_VERSION "+plain";
+    CHECK(hayro_cmap_version(room, 16, &needed) == HAYRO_CMAP_OK);
+    CHECK(needed == sizeof proved - 1 || needed == sizeof plain - 1);
+    CHECK(same(room, plain, needed));
 }
 
 int main(void) {

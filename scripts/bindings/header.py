@@ -7,6 +7,7 @@ import shutil
 
 from common import materials
 from common.links import dead_links_under
+from plain_rust.c_library import PLAIN_VERSION
 
 from .checks import needs, run
 from .library import C_TESTS, COMPILERS, TOP, WARNINGS
@@ -232,10 +233,11 @@ def test_versions_are_one(checks, setting):
     numbers = [re.search(rf"HAYRO_CMAP_VERSION_{part} (\d+)", HEADER)[1] for part in ("MAJOR", "MINOR", "PATCH")]
     checks.same("HAYRO_CMAP_VERSION_MAJOR and the others", ".".join(numbers), VERSION)
     checks.same("the version of the crate", re.search(r'put\(b"(.*?)"', source("cmap_c/src/version.rt"))[1], VERSION)
+    expected = PLAIN_VERSION if setting.library.is_plain else VERSION
     room, needed = ctypes.create_string_buffer(64), ctypes.c_size_t()
     version = ctypes.CDLL(str(setting.library.shared)).hayro_cmap_version
     status = version(room, ctypes.c_size_t(len(room)), ctypes.byref(needed))
-    checks.same("the version of the library", (status, room.raw[: needed.value]), (0, VERSION.encode()))
+    checks.same("the version of the library", (status, room.raw[: needed.value].decode()), (0, expected))
 
 
 def test_installed_headers_are_those_of_the_project(checks, setting):

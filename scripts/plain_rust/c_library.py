@@ -12,6 +12,9 @@ BY_HAND = TOP / "bindings" / "plain-c"
 # the crates with calls for C, and the one with their handles
 WITH_CALLS = ["cmap_c", "cmap_c_encoder", "cmap_c_maps", "cmap_c_writer"]
 HANDLES = "cmap_handles"
+VERSION = (TOP / "VERSION").read_text().strip()
+# what hayro_cmap_version gives
+PLAIN_VERSION = f"{VERSION}+plain"
 # what `fallible` has here beside that of the reader
 ADDED = """
 #[allow(unsafe_code)]
@@ -28,11 +31,22 @@ def write_c_library(out):
     copy_licenses(out)
     write_reader(out, crates_of_c_library())
     write_exports(out)
+    write_version(out)
 
 
 def crates_of_c_library():
     """The crates of the C library."""
     return sorted({name for crate in WITH_CALLS for name in and_below(crate)})
+
+
+def write_version(out):
+    """The version, which says that the library is in plain Rust."""
+    path = out / "src" / "reader" / "cmap_c" / "version.rs"
+    before = path.read_text()
+    after = before.replace(f'b"{VERSION}"', f'b"{PLAIN_VERSION}"')
+    if after == before:
+        raise ValueError(f"{path} has no version {VERSION}")
+    path.write_text(after)
 
 
 def write_exports(out):

@@ -417,7 +417,7 @@ class WhatFilesSay(unittest.TestCase):
             self.assertEqual(cmap.metadata.name, b"x" * 1000)
 
     def test_version(self):
-        self.assertRegex(hayro_cmap.__version__, r"^\d+\.\d+\.\d+$")
+        self.assertRegex(hayro_cmap.__version__, r"^\d+\.\d+\.\d+(\+plain)?$")
 
 
 @needs_resources
