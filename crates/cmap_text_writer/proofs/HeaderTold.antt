@@ -9,8 +9,8 @@ use Rattle.cmap_tokens.specs.Bytes.{is_regular}
 use Rattle.cmap_tokens.specs.Numbers.{numeral, integer, radix_integer, is_real}
 use Rattle.cmap_tokens.specs.Gaps.{comment_after, ends_comment}
 use Rattle.cmap_tokens.specs.Tokens.{IsToken, Token, is_bracket}
-use Rattle.cmap_text.specs.TextFiles.{Item, other, use_word}
-use Rattle.cmap_text.specs.TextReading.{is_executable, key_in, opened_by}
+use Rattle.cmap_text.specs.TextFiles.{Item, other}
+use Rattle.cmap_text.specs.TextReading.{is_executable, key_in, opened_by, use_word}
 use Rattle.cmap_text_writer.specs.FileItems.{comments_text, end_text, footer_items, footer_text, header_items, header_text, name, number, resource_text, type_text, word}
 use Rattle.cmap_text_writer.specs.Fits.{IsSayableName}
 use Rattle.cmap_text_writer.specs.Told.{TellsItems, TellsTokens}

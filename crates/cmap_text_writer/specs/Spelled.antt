@@ -3,7 +3,8 @@ use Rattle.std.specs.Prelude.{ℕ, ◌+◌, ◌/◌, ◌%◌, ◌^◌, nat_lt, L
 use Rattle.std.specs.Int.{bytes_high_first}
 use Rattle.cmap_values.specs.Files.{BfEntry, CidEntry, Codespace}
 use Rattle.cmap_tokens.specs.Ascii.{byte}
-use Rattle.cmap_text.specs.TextFiles.{Extent, Section, closer, opener, range, single}
+use Rattle.cmap_text.specs.TextFiles.{Extent, Section, range, single}
+use Rattle.cmap_text.specs.TextReading.{closer, opener}
 
 -- the hexadecimal digit of a number below 16
 abbrev pub hex_digit : ℕ → ℕ
