@@ -77,12 +77,14 @@ def read_module(name, text):
         indent = indent_of(line)
         while around and line.strip() and indent <= indent_of(around[-1]):
             around.pop()
-        if current and (not line.strip() or indent > current[1] or line.split()[0] in (current[0].name, "}")):
-            current[0].lines.append(line)
+        if current and (not line.strip() or indent > current[1] or line.split()[0] in (current[0].name, "}", "]")):
+            current[0].lines += [*comment, line]
+            comment = []
             continue
         if line.strip().startswith("--"):
             comment.append(line)
-        elif line.strip().startswith("module "):
+            continue
+        if line.strip().startswith("module "):
             around.append(line)
         elif is_begin(line):
             found = Definition(BEGIN.match(line)[1], [*comment, line], tuple(around))

@@ -5,9 +5,9 @@ use Rattle.std.specs.List.{All}
 use Rattle.std.proofs.lemmas.Bool.{cases_Bool}
 use Rattle.std.proofs.lemmas.List.Elements.{All-head, All-tail}
 use Rattle.cmap_values.specs.Files.{File}
-use Rattle.cmap_tokens.specs.Bytes.{is_white}
+use Rattle.cmap_tokens.specs.Bytes.{begins, is_regular, is_white}
 use Rattle.cmap_tokens.specs.Gaps.{IsBlank, IsGap, comment_after, ends_comment}
-use Rattle.cmap_tokens.specs.Tokens.{Front, Token, Tokens, begins_regular}
+use Rattle.cmap_tokens.specs.Tokens.{Front, Token, Tokens}
 use Rattle.cmap_tokens.proofs.Fronts.{has_tokens}
 use Rattle.cmap_text.specs.TextFiles.{IsTextFile}
 use Rattle.cmap_binary.specs.BinaryFiles.{IsMarkedBinary}
@@ -48,7 +48,7 @@ blank_amid front text spaces gap white blank =
     let (after, is) = some_value (comment_after false text) blank in
     rw (comments_join false false front (text ++ spaces) gap, comments_join false after text spaces is, spaces_stay after spaces white) refl
 
-regular_amid : (rest spaces : List ℕ) → All (λ b. b ≡ 32) spaces → begins_regular rest ≡ false → begins_regular (rest ++ spaces) ≡ false
+regular_amid : (rest spaces : List ℕ) → All (λ b. b ≡ 32) spaces → begins is_regular rest ≡ false → begins is_regular (rest ++ spaces) ≡ false
 regular_amid [] [] white e = refl
 regular_amid [] (b ∷ spaces) white e = let is : b ≡ 32 = All-head (λ b. b ≡ 32) b spaces white in rw is refl
 regular_amid (b ∷ rest) spaces white e = e

@@ -15,8 +15,8 @@ use Rattle.cmap_values.specs.declared.fault.Reason.{Reason}
 use Rattle.cmap_values.specs.declared.fault.Reason.TheVariants.{BracketExpected, TextExpected, UnequalLengths}
 use Rattle.cmap_text.specs.Rows.{parts_on, rows_at, rows_of}
 use Rattle.cmap_text.specs.declared.salvage.rows.Row.{Row}
-use Rattle.cmap_text.specs.TextFiles.{CidKind, IsCid, IsCode, IsDestination, IsEntry, Section, bf_char, bf_range, cids, codespace_range, declares_cid, range, single, use_word}
-use Rattle.cmap_text.specs.TextReading.{Code, adding, cid_in, code_in, codespace, destination_in, filed, is_executable, key_in, opened_by, text_of, value_in, with_other}
+use Rattle.cmap_text.specs.TextFiles.{CidKind, IsCid, IsCode, IsDestination, IsEntry, Section, bf_char, bf_range, cids, codespace_range, declares_cid, range, single}
+use Rattle.cmap_text.specs.TextReading.{Code, adding, cid_in, code_in, codespace, destination_in, filed, is_executable, key_in, opened_by, text_of, value_in, with_other, use_word}
 use Rattle.cmap_text.specs.Salvage.{Class, Entry, Filled, Mended, Parts, Rest, Salvaged, State, Texts, adding_empty, after_entry, after_malformed, after_part, alone, at_fault, begin_item, begin_line, class_of, close_bracket, code_of_piece, empty_text_in, empty_text_of, end_list, entry_fault, fault_of, fill, fill_cid, fill_end, fill_high, fill_texts, first_read, if_cid, if_code, if_text, finished, having_lists, in_brackets, in_entry, in_line, in_list, is_closer, is_nominal, is_read_in_rows, is_short, is_stray, item, known, lacks_bracket, list_after, list_begun, losing, mend, mend_high, mend_text, new_entry, no_parts, no_text, none, nothing_salvaged, one, open_bracket, own_fault, part, pass_in_entry, pass_in_line, pass_in_list, passed_over, past_texts, places_of, read_in_rows, rest_of, rest_of_list, salvaged, saying, second_filled, second_mended, short_list, take_after_texts, take_all, take_in_entry, take_in_list, take_in_row, take_item, take_part, take_piece, take_rows, take_text, take_unless_stray, take_use, take_value, taken, text_in, third_filled, third_mended, two, value, widened, with_fault, with_piece}
 use Rattle.cmap_text.specs.Salvage as salvage
 use Rattle.cmap_text.specs.Standing.{AreDeclared, AreParts, AreTexts, IsEmptyString, Stands, StandsAs, a_list, a_longer_end, an_empty_text, an_entry, between, empty_texts, entered, lone_piece, next_part, next_text, no_part, nothing, other_part, outside, passed, place_after, place_at, stray_name, within}

@@ -9,8 +9,8 @@ use Rattle.cmap_tokens.specs.Tokens.{Token}
 use Rattle.cmap_tokens.specs.TokensLeft.{Left}
 use Rattle.cmap_values.specs.Files.{Declaration, Lists}
 use Rattle.cmap_values.proofs.ListsMade.{added_more, append_lists-none}
-use Rattle.cmap_text.specs.TextFiles.{Section, codespace_range, cids, range, single, bf_range, bf_char, closer, declares_bf, declares_cid, IsCode, IsDestination, IsEntry, AreEntries}
-use Rattle.cmap_text.specs.TextReading.{adding, body_in, Code, code_fault, code_in, code_or_closer, codespace, destination_in, entry_after, is_executable, list_in, text_of, texts_from}
+use Rattle.cmap_text.specs.TextFiles.{Section, codespace_range, cids, range, single, bf_range, bf_char, declares_bf, declares_cid, IsCode, IsDestination, IsEntry, AreEntries}
+use Rattle.cmap_text.specs.TextReading.{adding, body_in, Code, code_fault, code_in, code_or_closer, codespace, destination_in, entry_after, is_executable, list_in, text_of, texts_from, closer}
 use Rattle.cmap_text.specs.TokenParsers.{followed_by, head_in, Refused, round, run, token_in}
 use Rattle.cmap_text.proofs.TokensRead.{some_bound, some_mapped, tested, written, code_is, code_found, cid_is, cid_found, destination_is, destination_found, is_executable-found, is_executable-own}
 use Rattle.cmap_text.proofs.TokenParsers.{Implies, Means, Relation, Rounds, repeat_next}

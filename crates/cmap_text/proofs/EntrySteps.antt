@@ -11,8 +11,8 @@ use Rattle.cmap_values.specs.declared.code_length.CodeLength.{CodeLength}
 use Rattle.cmap_values.specs.declared.code_length.CodeLength.TheVariants.{One, Two, Three, Four}
 use Rattle.cmap_values.specs.declared.fault.Reason.{Reason}
 use Rattle.cmap_values.specs.declared.fault.Reason.TheVariants.{BracketExpected, TextExpected, UnequalLengths}
-use Rattle.cmap_text.specs.TextFiles.{CidKind, Extent, Section, bf_char, bf_range, cids, closer, codespace_range, declares_cid}
-use Rattle.cmap_text.specs.TextReading.{adding, cids_after, Code, code_fault, code_in, code_or_closer, codespace, codespace_fault, codespace_to, destination_in, entry_after, is_executable, list_in, list_or_destination, next_code, next_destination, text_of, texts_from}
+use Rattle.cmap_text.specs.TextFiles.{CidKind, Extent, Section, bf_char, bf_range, cids, codespace_range, declares_cid}
+use Rattle.cmap_text.specs.TextReading.{adding, cids_after, Code, code_fault, code_in, code_or_closer, codespace, codespace_fault, codespace_to, destination_in, entry_after, is_executable, list_in, list_or_destination, next_code, next_destination, text_of, texts_from, closer}
 use Rattle.cmap_text.specs.TokenParsers.{Found, followed_by, or_wrong, Refused, run, token_in, wrong}
 use Rattle.cmap_text.proofs.TokenParsers.{err-ok, same_Err, same_Ok}
 

@@ -11,8 +11,8 @@ use Rattle.cmap_values.specs.declared.fault.Reason.TheVariants.{BracketExpected,
 use Rattle.cmap_values.specs.declared.fault.Stop.{Stop}
 use Rattle.cmap_text.specs.Rows.{parts_on, rows_at, rows_of}
 use Rattle.cmap_text.specs.declared.salvage.rows.Row.{Row}
-use Rattle.cmap_text.specs.TextFiles.{Section, bf_range, use_word}
-use Rattle.cmap_text.specs.TextReading.{is_executable, key_in, opened_by, with_other}
+use Rattle.cmap_text.specs.TextFiles.{Section, bf_range}
+use Rattle.cmap_text.specs.TextReading.{is_executable, key_in, opened_by, with_other, use_word}
 use Rattle.cmap_text.specs.Salvage.{Entry, Filled, Rest, Salvaged, State, Texts, at_fault, begin_item, begin_line, class_of, empty_text_in, end_list, entry_fault, fault_of, fill, finished, in_brackets, in_entry, in_line, in_list, is_closer, is_nominal, is_short, is_stray, item, lacks_bracket, losing, mend, missing, new_entry, no_parts, no_text, nothing_salvaged, own_fault, pass_in_entry, pass_in_line, pass_in_list, past_texts, first_read, is_read_in_rows, read_in_rows, rest_of, salvaged, saying, take_after_texts, take_all, take_in_entry, take_in_list, take_in_row, take_item, take_part, take_piece, take_rows, take_text, take_unless_stray, take_use, take_value, taken, text_in, value, with_fault, with_piece}
 use Rattle.cmap_text.proofs.FaultsAdded.{by_bool, by_class, by_option}
 

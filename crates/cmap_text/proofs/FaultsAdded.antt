@@ -7,8 +7,8 @@ use Rattle.cmap_values.specs.declared.fault.Reason.TheVariants.{BracketExpected}
 use Rattle.cmap_values.specs.declared.fault.Stop.{Stop}
 use Rattle.cmap_text.specs.Rows.{parts_on, rows_at}
 use Rattle.cmap_text.specs.declared.salvage.rows.Row.{Row}
-use Rattle.cmap_text.specs.TextFiles.{Section, bf_range, use_word}
-use Rattle.cmap_text.specs.TextReading.{is_executable, key_in, opened_by, with_other}
+use Rattle.cmap_text.specs.TextFiles.{Section, bf_range}
+use Rattle.cmap_text.specs.TextReading.{is_executable, key_in, opened_by, with_other, use_word}
 use Rattle.cmap_text.specs.Salvage.{Class, Entry, Rest, Salvaged, State, Texts, Filled, alone, at_fault, begin_item, class_of, close_bracket, empty_text_in, end_list, begin_line, entry_fault, fault_of, fill, finished, in_brackets, in_entry, in_line, in_list, is_closer, is_nominal, is_short, is_stray, item, known, lacks_bracket, losing, mend, new_entry, no_parts, no_text, open_bracket, own_fault, part, pass_in_entry, pass_in_line, pass_in_list, passed_over, past_texts, rest_of, saying, take_after_texts, take_all, take_in_entry, take_in_list, take_in_row, take_item, take_part, take_piece, take_rows, take_text, take_unless_stray, take_use, take_value, taken, text_in, value, with_fault, with_piece}
 
 -- ---- some more faults

@@ -12,8 +12,8 @@ use Rattle.cmap_values.specs.ListsAppended.{no_lists}
 use Rattle.cmap_values.specs.declared.fault.Stop.{Stop}
 use Rattle.cmap_text.specs.Rows.{rows_of}
 use Rattle.cmap_text.specs.declared.salvage.rows.Row.{Row}
-use Rattle.cmap_text.specs.TextFiles.{Item, Section, closer, key, opener, declared_by, IsItem, names_used}
-use Rattle.cmap_text.specs.TextReading.{Said, adding, code_fault, code_or_closer, entry_after, is_executable, item_said, nothing_said, opened_by, with_key, with_other}
+use Rattle.cmap_text.specs.TextFiles.{Item, Section, key, declared_by, IsItem, names_used}
+use Rattle.cmap_text.specs.TextReading.{Said, adding, code_fault, code_or_closer, entry_after, is_executable, item_said, nothing_said, opened_by, with_key, with_other, closer, opener}
 use Rattle.cmap_text.specs.TokenParsers.{after, head}
 use Rattle.cmap_text.specs.Salvage.{AreFirstEntries, BeginWithItems, Fronts, KeepsFronts, OpenSection, Salvaged, State, at_fault, begin_item, finished, first_read, having_lists, in_brackets, in_entry, in_line, in_list, is_read_in_rows, item, new_entry, nothing_salvaged, read_in_rows, salvaged, saying, take_all, take_rows, tokens_before, value}
 use Rattle.cmap_text.proofs.EntriesRead.{entry_found}

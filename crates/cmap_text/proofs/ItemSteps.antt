@@ -15,8 +15,8 @@ use Rattle.cmap_values.specs.declared.fault.Fault.{Fault}
 use Rattle.cmap_values.specs.declared.fault.Fault.TheVariants as fault
 use Rattle.cmap_values.specs.declared.fault.Reason.TheVariants.{UseWithoutName}
 use Rattle.cmap_text.specs.EntriesSeen.{RefusesAt}
-use Rattle.cmap_text.specs.TextFiles.{Section, literal_head, other, use_word}
-use Rattle.cmap_text.specs.TextReading.{Said, body_in, is_executable, item_after, item_said, key_in, opened_by, with_key, with_lists, with_use, with_value}
+use Rattle.cmap_text.specs.TextFiles.{Section, literal_head, other}
+use Rattle.cmap_text.specs.TextReading.{Said, body_in, is_executable, item_after, item_said, key_in, opened_by, with_key, with_lists, with_use, with_value, use_word}
 use Rattle.cmap_text.specs.TokenParsers.{followed_by, giving, next_in, reads, run, run_item, takes_value, wanted}
 use Rattle.cmap_text.specs.declared.wrong_token.WrongToken.{WrongToken}
 use Rattle.cmap_text.proofs.ItemsRead.{key_in-found, opened_by-found}

@@ -8,9 +8,9 @@ use Rattle.cmap_values.specs.Only.{HoldsOfNone, IsOnly}
 use Rattle.cmap_tokens.specs.Tokens.{Token}
 use Rattle.cmap_tokens.specs.TokensLeft.{EndedToken, Left}
 use Rattle.cmap_values.specs.declared.fault.Reason.TheVariants.{UseWithoutName}
-use Rattle.cmap_text.specs.TextFiles.{Section, cids, mapped, notdef, range, keys, opener, use_word, Item, key, entries, use_of_base, other, IsKey, IsOtherToken, Opens, IsItem, AreItems}
+use Rattle.cmap_text.specs.TextFiles.{Section, cids, mapped, notdef, range, keys, Item, key, entries, use_of_base, other, IsKey, IsOtherToken, Opens, IsItem, AreItems}
 use Rattle.cmap_text.specs.TokenParsers.{after, followed_by, ItemParser, reads, done, giving, wanted, takes_value, next_in, repeated, repeated_within, round, run_item}
-use Rattle.cmap_text.specs.TextReading.{adding, all_said, body_in, is_executable, item_after, item_said, key_in, opened_by, Said, sections, with_key, with_lists, with_other, with_use}
+use Rattle.cmap_text.specs.TextReading.{adding, all_said, body_in, is_executable, item_after, item_said, key_in, opened_by, Said, sections, with_key, with_lists, with_other, with_use, opener, use_word}
 use Rattle.cmap_text.proofs.TokensRead.{some_bound, is_executable-found}
 use Rattle.cmap_text.proofs.TokenParsers.{bound, same_Ok, err-ok, having, length-words, words, Implies, Means, Relation, IsThere, is_there, IsFound, is_found, known, then_found, repeated_next, wrong_there}
 use Rattle.cmap_text.proofs.EntriesRead.{entries_there, entries_found}

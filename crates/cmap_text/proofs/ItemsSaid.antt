@@ -6,8 +6,8 @@ use Rattle.std.proofs.lemmas.Bool.{cases_Bool}
 use Rattle.cmap_tokens.specs.Tokens.{Token}
 use Rattle.cmap_values.specs.Files.{Lists, lists_of}
 use Rattle.cmap_values.specs.ListsAppended.{append_lists}
-use Rattle.cmap_text.specs.TextFiles.{Item, key, entries, use_of_base, other, declared_by, literal_head, names_used, value_under, Values, last_values}
-use Rattle.cmap_text.specs.TextReading.{Said, no_values, with_key, with_lists, with_other, with_use, with_value}
+use Rattle.cmap_text.specs.TextFiles.{Item, key, entries, use_of_base, other, declared_by, literal_head, names_used, value_under}
+use Rattle.cmap_text.specs.TextReading.{Said, no_values, with_key, with_lists, with_other, with_use, with_value, Values, last_values}
 use Rattle.cmap_values.proofs.ListsMade.{append_lists-none, added_more}
 
 -- what is said with one item more; a use needs an operand

@@ -8,8 +8,8 @@ use Rattle.cmap_values.specs.Files.{Declaration, Lists}
 use Rattle.cmap_values.specs.declared.fault.Reason.{Reason}
 use Rattle.cmap_values.specs.declared.fault.Reason.TheVariants.{BracketExpected, TextExpected, UnequalLengths}
 use Rattle.cmap_values.specs.declared.fault.Stop.{Stop}
-use Rattle.cmap_text.specs.TextFiles.{Section, bf_char, bf_range, cids, closer, codespace_range, mapped, notdef, range, single, use_word}
-use Rattle.cmap_text.specs.TextReading.{Code, adding, cid_in, code_in, codespace, destination_in, is_executable, key_in, opened_by, text_of, value_in, with_other}
+use Rattle.cmap_text.specs.TextFiles.{Section, bf_char, bf_range, cids, codespace_range, mapped, notdef, range, single}
+use Rattle.cmap_text.specs.TextReading.{Code, adding, cid_in, code_in, codespace, destination_in, is_executable, key_in, opened_by, text_of, value_in, with_other, closer, use_word}
 use Rattle.cmap_text.specs.Salvage.{Class, Entry, Filled, Mended, Parts, Rest, Salvaged, State, Texts, adding_empty, after_entry, after_malformed, after_part, alone, at_fault, begin_item, begin_line, class_of, class_of_malformed, class_of_name, class_of_token, close_bracket, code_of_piece, empty_text_in, empty_text_of, end_list, entry_fault, fault_of, fill, fill_texts, having_lists, if_cid, if_code, if_text, in_brackets, in_entry, in_line, in_list, is_closer, is_short, is_stray, item, known, lacks_bracket, list_after, losing, mend, new_entry, no_parts, none, one, open_bracket, own_fault, part, pass_in_entry, pass_in_line, pass_in_list, passed_over, past_texts, places_of, rest_of, rest_of_list, saying, short_list, take_after_texts, take_in_entry, take_in_list, take_in_row, take_item, take_part, take_piece, take_text, take_unless_stray, take_use, take_value, taken, text_in, two, value, widened, with_fault, with_piece}
 use Rattle.cmap_text.specs.Salvage as salvage
 use Rattle.cmap_text.specs.Standing.{Place, begun_by, key_value, outside, place_after, place_at, within}

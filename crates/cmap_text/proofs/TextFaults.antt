@@ -12,8 +12,8 @@ use Rattle.cmap_tokens.proofs.Fronts.{has_tokens}
 use Rattle.cmap_tokens.specs.TokensLeft.{Left, start_of, tokens_of}
 use Rattle.cmap_text.specs.Rows.{rows_of}
 use Rattle.cmap_text.specs.Salvage.{BeginsRefused, IsFirstOf, SalvagesFile, Salvaged, first_read, is_read_in_rows, read_in_rows, refusal_of, refused_at, salvaged}
-use Rattle.cmap_text.specs.TextFiles.{IsMetadata, IsTextFile}
-use Rattle.cmap_text.specs.TextReading.{Said, StopsText, all_said, nothing_said}
+use Rattle.cmap_text.specs.TextFiles.{IsTextFile}
+use Rattle.cmap_text.specs.TextReading.{Said, StopsText, all_said, nothing_said, AreSaid}
 use Rattle.cmap_text.specs.TokenParsers.{Found, Refused}
 use Rattle.cmap_text.proofs.FaultPlaces.{ascend_within, first_ascends}
 use Rattle.cmap_text.proofs.RowsRead.{NoLater, read_no_later}
@@ -79,7 +79,7 @@ module _ (text : List ℕ) where
       where
         by : (r : Found Said) → Reads r → IsTextFile text file
         by (Ok p) is =
-            let values : IsMetadata p.0.values file.metadata = subst (λ s. IsMetadata s.said.values file.metadata) (whole p is) metadata_is in
+            let values : AreSaid p.0.values file.metadata = subst (λ s. AreSaid s.said.values file.metadata) (whole p is) metadata_is in
             let read = said_file text (tokens_of (start_of text)) (has_tokens text) p.0 p.1 file.metadata is values in
             let same_lists : file.lists ≡ p.0.lists = lists ∙ ap (λ s. s.said.lists) (whole p is) in
             let same_uses : file.uses ≡ p.0.uses = uses ∙ ap (λ s. s.said.uses) (whole p is) in
@@ -102,13 +102,13 @@ module _ (text : List ℕ) where
 
   -- ---- what is given
   -- of a file, just that
-  pub salvage_file : (metadata : FileMetadata) → IsOnly (IsMetadata (salvaged text).said.values) metadata → (file : File) → IsTextFile text file
+  pub salvage_file : (metadata : FileMetadata) → IsOnly (AreSaid (salvaged text).said.values) metadata → (file : File) → IsTextFile text file
       → (record { metadata = metadata; lists = (salvaged text).said.lists; uses = (salvaged text).said.uses } ≡ file) × ((salvaged text).faults ≡ [])
   salvage_file metadata only file is_file = by (all_said nothing_said (tokens_of (start_of text))) refl
     where
       by : (r : Found Said) → Reads r → (record { metadata = metadata; lists = (salvaged text).said.lists; uses = (salvaged text).said.uses } ≡ file) × ((salvaged text).faults ≡ [])
       by (Ok p) is =
-          let values : IsOnly (IsMetadata p.0.values) metadata = subst (λ s. IsOnly (IsMetadata s.said.values) metadata) (whole p is) only in
+          let values : IsOnly (AreSaid p.0.values) metadata = subst (λ s. IsOnly (AreSaid s.said.values) metadata) (whole p is) only in
           let read = text_file text (tokens_of (start_of text)) (has_tokens text) p.0 p.1 metadata is values in
           let Gives : Salvaged → Type 0 = λ s. (record { metadata = metadata; lists = s.said.lists; uses = s.said.uses } ≡ file) × (s.faults ≡ []) in
           subst Gives (sym (whole p is)) (sym (read.alone file is_file), refl)
@@ -117,12 +117,12 @@ module _ (text : List ℕ) where
           absurd ((refused_text text begins.refusal begins.stops).0 file is_file)
 
   -- of another text, first the fault for which it is refused, or in rows one before it
-  pub salvage_first : (metadata : FileMetadata) → IsOnly (IsMetadata (salvaged text).said.values) metadata → HoldsOfNone (IsTextFile text) → BeginsRefused text (salvaged text).faults
+  pub salvage_first : (metadata : FileMetadata) → IsOnly (AreSaid (salvaged text).said.values) metadata → HoldsOfNone (IsTextFile text) → BeginsRefused text (salvaged text).faults
   salvage_first metadata only no_file = by (all_said nothing_said (tokens_of (start_of text))) refl
     where
       by : (r : Found Said) → Reads r → BeginsRefused text (salvaged text).faults
       by (Ok p) is =
-          let values : IsOnly (IsMetadata p.0.values) metadata = subst (λ s. IsOnly (IsMetadata s.said.values) metadata) (whole p is) only in
+          let values : IsOnly (AreSaid p.0.values) metadata = subst (λ s. IsOnly (AreSaid s.said.values) metadata) (whole p is) only in
           let read = text_file text (tokens_of (start_of text)) (has_tokens text) p.0 p.1 metadata is values in
           absurd (no_file _ read.holds)
       by (Err e) is = let begins = refused e is in (begins.fault, begins.more, begins.refusal, begins.is, begins.stops, begins.first)

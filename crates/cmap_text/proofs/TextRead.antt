@@ -5,8 +5,8 @@ use Rattle.cmap_tokens.specs.Tokens.{Token, Tokens}
 use Rattle.cmap_tokens.specs.TokensLeft.{HasTokens, Left}
 use Rattle.cmap_values.specs.Only.{IsOnly, HoldsOfNone}
 use Rattle.cmap_values.specs.Files.{FileMetadata}
-use Rattle.cmap_text.specs.TextFiles.{Item, names_used, last_values, IsMetadata, IsTextFile, AreItems}
-use Rattle.cmap_text.specs.TextReading.{Said, nothing_said, all_said}
+use Rattle.cmap_text.specs.TextFiles.{Item, names_used, IsTextFile, AreItems}
+use Rattle.cmap_text.specs.TextReading.{Said, nothing_said, all_said, AreSaid, last_values}
 use Rattle.cmap_text.specs.TokenParsers.{Refused}
 use Rattle.cmap_text.proofs.TokensRead.{some_mapped}
 use Rattle.cmap_text.proofs.TokenParsers.{err-ok, same_Ok}
@@ -23,15 +23,15 @@ module _ (text : List ℕ) (left : Left) (has : HasTokens text left) where
       let (same, ends) = (has tokens).0 at in
       all_found items nothing_said left _ (subst (λ l. AreItems l items) (sym same) are) ends (said_of items ∙ ap (option_map (said_after nothing_said items)) used)
 
-  pub said_file : (said : Said) (rest : Left) (metadata : FileMetadata) → all_said nothing_said left ≡ Ok (said, rest) → IsMetadata said.values metadata → IsTextFile text (record { metadata = metadata; lists = said.lists; uses = said.uses })
+  pub said_file : (said : Said) (rest : Left) (metadata : FileMetadata) → all_said nothing_said left ≡ Ok (said, rest) → AreSaid said.values metadata → IsTextFile text (record { metadata = metadata; lists = said.lists; uses = said.uses })
   unfolding IsTextFile said_after
   said_file said rest metadata is metadata_is =
       let (ends, items, are, sayings) = all_there nothing_said left (said, rest) is in
       let (names, used, after) = some_mapped (said_after nothing_said items) (names_used None items) said (sym (said_of items) ∙ sayings) in
       let values_are : last_values items ≡ said.values = values_said items ∙ ap (λ s. s.values) after in
-      (_, items, (has _).1 (refl, ends), are, used ∙ ap (λ s. Some s.uses) after, subst (λ v. IsMetadata v metadata) (sym values_are) metadata_is, ap (λ s. s.lists) (sym after))
+      (_, items, (has _).1 (refl, ends), are, used ∙ ap (λ s. Some s.uses) after, subst (λ v. AreSaid v metadata) (sym values_are) metadata_is, ap (λ s. s.lists) (sym after))
 
-  pub text_file : (said : Said) (rest : Left) (metadata : FileMetadata) → all_said nothing_said left ≡ Ok (said, rest) → IsOnly (IsMetadata said.values) metadata → IsOnly (IsTextFile text) (record { metadata = metadata; lists = said.lists; uses = said.uses })
+  pub text_file : (said : Said) (rest : Left) (metadata : FileMetadata) → all_said nothing_said left ≡ Ok (said, rest) → IsOnly (AreSaid said.values) metadata → IsOnly (IsTextFile text) (record { metadata = metadata; lists = said.lists; uses = said.uses })
   unfolding IsTextFile said_after
   text_file said rest metadata is only =
       record {
@@ -39,7 +39,7 @@ module _ (text : List ℕ) (left : Left) (has : HasTokens text left) where
         alone = λ file (tokens, others, at, others_are, others_used, metadata_is, others_lists).
             let (end, reads) = read_items tokens others file.uses at others_are others_used in
             let same : said_after nothing_said others file.uses ≡ said = ap (λ p. p.0) (same_Ok _ (said, rest) (sym reads ∙ is)) in
-            let metadata_same : file.metadata ≡ metadata = only.alone file.metadata (subst (λ v. IsMetadata v file.metadata) (values_said others ∙ ap (λ s. s.values) same) metadata_is) in
+            let metadata_same : file.metadata ≡ metadata = only.alone file.metadata (subst (λ v. AreSaid v file.metadata) (values_said others ∙ ap (λ s. s.values) same) metadata_is) in
             let lists_same : file.lists ≡ said.lists = others_lists ∙ ap (λ s. s.lists) same in
             let uses_same : file.uses ≡ said.uses = ap (λ s. s.uses) same in
             let file_is : file ≡ record { metadata = file.metadata; lists = file.lists; uses = file.uses } = refl in

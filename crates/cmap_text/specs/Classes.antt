@@ -5,8 +5,8 @@ use Rattle.cmap_tokens.specs.Malformed as malformed
 use Rattle.cmap_tokens.specs.Malformed.{Malformed}
 use Rattle.cmap_tokens.specs.Pieces.{Piece}
 use Rattle.cmap_tokens.specs.Tokens.{Token}
-use Rattle.cmap_text.specs.TextFiles.{Section, bf_char, bf_range, cids, closer, codespace_range, opener, range, single}
-use Rattle.cmap_text.specs.TextReading.{sections}
+use Rattle.cmap_text.specs.TextFiles.{Section, bf_char, bf_range, cids, codespace_range, range, single}
+use Rattle.cmap_text.specs.TextReading.{sections, closer, opener}
 
 pub data Class : Type 0 where
   -- an executable name that ends a section

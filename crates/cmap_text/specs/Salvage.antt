@@ -11,8 +11,8 @@ use Rattle.cmap_values.specs.declared.fault.Stop.{Stop}
 pub use Rattle.cmap_text.specs.Classes.{Class, alone, class_of, class_of_malformed, class_of_name, class_of_token, close_bracket, is_name, is_name_piece, is_string, is_string_piece, known, known_words, lone_brackets, open_bracket, part, places_of}
 pub use Rattle.cmap_text.specs.Rows.{are_rows, parts_on, rows_at, rows_of}
 use Rattle.cmap_text.specs.declared.salvage.rows.Row.{Row}
-use Rattle.cmap_text.specs.TextFiles.{CidKind, IsEntry, IsItem, IsMetadata, Item, Section, declared_by, names_used, bf_char, bf_range, cids, closer, codespace_range, opener, range, single, use_word, declares_cid}
-use Rattle.cmap_text.specs.TextReading.{Code, Said, StopsText, adding, cid_in, code_fault, code_in, codespace, destination_in, filed, is_executable, key_in, nothing_said, opened_by, text_of, value_in, with_other, with_value}
+use Rattle.cmap_text.specs.TextFiles.{CidKind, IsEntry, IsItem, Item, Section, declared_by, names_used, bf_char, bf_range, cids, codespace_range, range, single, declares_cid}
+use Rattle.cmap_text.specs.TextReading.{Code, Said, StopsText, adding, cid_in, code_fault, code_in, codespace, destination_in, filed, is_executable, key_in, nothing_said, opened_by, text_of, value_in, with_other, with_value, AreSaid, closer, opener, use_word}
 use Rattle.cmap_text.specs.TokenParsers.{malformed_reason}
 
 -- ---- faults
@@ -455,7 +455,7 @@ salvaged text = if is_read_in_rows text then read_in_rows (rows_of text) text el
 
 -- ---- the whole text
 abbrev pub SalvagesFile : List ℕ → File → List Stop → Type 0
-SalvagesFile text file faults = let found = salvaged text in IsMetadata found.said.values file.metadata × (file.lists ≡ found.said.lists) × (file.uses ≡ found.said.uses) × (faults ≡ found.faults)
+SalvagesFile text file faults = let found = salvaged text in AreSaid found.said.values file.metadata × (file.lists ≡ found.said.lists) × (file.uses ≡ found.said.uses) × (faults ≡ found.faults)
 
 -- ---- the first fault
 -- the offset at which a text of this length is refused for a fault: only the end shows that a string isn't closed

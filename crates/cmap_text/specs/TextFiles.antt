@@ -1,5 +1,5 @@
 -- CMap files as text: tokens read as items, nothing executed. Adobe Technical Notes 5014 and 5411, with what PDF writers make of them.
-use Rattle.std.specs.Prelude.{◌≡◌, ◌≢◌, ℕ, ℤ, pos, negsuc, ◌+◌, ◌-◌, ◌<◌, ◌≤◌, ◌^◌, true, false, ◌&&◌, List, [], ◌∷◌, ◌++◌, ◌⊎◌, length, map, filter_map, flat_map, bytes_eq, codes, Contains, Option, Some, None, option_map, option_and_then, neg_ℤ, int_le, if◌then◌else◌}
+use Rattle.std.specs.Prelude.{◌≡◌, ◌≢◌, ℕ, ℤ, pos, ◌+◌, ◌-◌, ◌<◌, ◌≤◌, ◌^◌, true, false, ◌&&◌, List, [], ◌∷◌, ◌++◌, ◌⊎◌, length, map, filter_map, flat_map, bytes_eq, codes, Contains, Option, Some, None, option_map, option_and_then, neg_ℤ, int_le, if◌then◌else◌}
 use Rattle.std.specs.List.{AllZip, last_or, enumerate_from}
 use Rattle.cmap_values.specs.BigEndian.{big_endian}
 use Rattle.cmap_tokens.specs.Numbers.{Number}
@@ -33,26 +33,15 @@ pub data Section : Type 0 where
   bf_range : Section
   bf_char : Section
 
-abbrev pub opener : Section → List ℕ
-opener codespace_range = codes "begincodespacerange"
-opener (cids mapped range) = codes "begincidrange"
-opener (cids mapped single) = codes "begincidchar"
-opener (cids notdef range) = codes "beginnotdefrange"
-opener (cids notdef single) = codes "beginnotdefchar"
-opener bf_range = codes "beginbfrange"
-opener bf_char = codes "beginbfchar"
-
-abbrev pub closer : Section → List ℕ
-closer codespace_range = codes "endcodespacerange"
-closer (cids mapped range) = codes "endcidrange"
-closer (cids mapped single) = codes "endcidchar"
-closer (cids notdef range) = codes "endnotdefrange"
-closer (cids notdef single) = codes "endnotdefchar"
-closer bf_range = codes "endbfrange"
-closer bf_char = codes "endbfchar"
-
-abbrev pub use_word : List ℕ
-use_word = codes "usecmap"
+-- its name, after begin where it is opened and after end where it is closed
+abbrev pub section_name : Section → List ℕ
+section_name codespace_range = codes "codespacerange"
+section_name (cids mapped range) = codes "cidrange"
+section_name (cids mapped single) = codes "cidchar"
+section_name (cids notdef range) = codes "notdefrange"
+section_name (cids notdef single) = codes "notdefchar"
+section_name bf_range = codes "bfrange"
+section_name bf_char = codes "bfchar"
 
 -- a string of one to four bytes
 abbrev pub IsCode : Token → List ℕ → Type 0
@@ -66,9 +55,6 @@ IsCid t n = (t ≡ Token.Numeral (Number.Integer (pos n))) × (n < 2 ^ 32)
 abbrev pub IsDestination : Token → List ℕ → Type 0
 IsDestination t units = (piece bytes : List ℕ) × (t ≡ Token.String piece) × IsValue piece bytes × (0 < length bytes) × (units ≡ units_of bytes)
 
-abbrev pub cid_entry : List ℕ → List ℕ → ℕ → CidEntry
-cid_entry start end cid = record { start = big_endian start; end = big_endian end; cid = cid }
-
 abbrev pub declares_bf : ℕ → ℕ → List ℕ → Declaration
 declares_bf start end units = Declaration.bf (record { start = start; end = end; units = units })
 
@@ -77,8 +63,8 @@ abbrev pub IsEntry : Section → List Token → List Declaration → List Token 
 IsEntry codespace_range tokens declared rest = (a b : Token) × (low high : List ℕ) × (tokens ≡ a ∷ b ∷ rest) × IsCode a low × IsCode b high × (length low ≡ length high)
     × (declared ≡ Declaration.codespace (record { len = length low; low = big_endian low; high = big_endian high }) ∷ [])
 -- code, code, CID, filed by the length of the first; or code, CID
-IsEntry (cids kind range) tokens declared rest = (a b c : Token) × (start end : List ℕ) × (n : ℕ) × (tokens ≡ a ∷ b ∷ c ∷ rest) × IsCode a start × IsCode b end × IsCid c n × (declared ≡ declares_cid kind (length start) (cid_entry start end n) ∷ [])
-IsEntry (cids kind single) tokens declared rest = (a c : Token) × (code : List ℕ) × (n : ℕ) × (tokens ≡ a ∷ c ∷ rest) × IsCode a code × IsCid c n × (declared ≡ declares_cid kind (length code) (cid_entry code code n) ∷ [])
+IsEntry (cids kind range) tokens declared rest = (a b c : Token) × (start end : List ℕ) × (n : ℕ) × (tokens ≡ a ∷ b ∷ c ∷ rest) × IsCode a start × IsCode b end × IsCid c n × (declared ≡ declares_cid kind (length start) (record { start = big_endian start; end = big_endian end; cid = n }) ∷ [])
+IsEntry (cids kind single) tokens declared rest = (a c : Token) × (code : List ℕ) × (n : ℕ) × (tokens ≡ a ∷ c ∷ rest) × IsCode a code × IsCid c n × (declared ≡ declares_cid kind (length code) (record { start = big_endian code; end = big_endian code; cid = n }) ∷ [])
 IsEntry bf_char tokens declared rest = (a d : Token) × (code units : List ℕ) × (tokens ≡ a ∷ d ∷ rest) × IsCode a code × IsDestination d units × (declared ≡ declares_bf (big_endian code) (big_endian code) units ∷ [])
 IsEntry bf_range tokens declared rest = (a b : Token) × (start end : List ℕ) × IsCode a start × IsCode b end
     × (((d : Token) × (units : List ℕ) × (tokens ≡ a ∷ b ∷ d ∷ rest) × IsDestination d units × (declared ≡ declares_bf (big_endian start) (big_endian end) units ∷ []))
@@ -86,9 +72,9 @@ IsEntry bf_range tokens declared rest = (a b : Token) × (start end : List ℕ) 
     ⊎ ((ds : List Token) × (texts : List (List ℕ)) × (tokens ≡ a ∷ b ∷ Token.Name false (codes "[") ∷ ds ++ Token.Name false (codes "]") ∷ rest) × AllZip IsDestination ds texts
     × (length texts ≡ big_endian end + 1 - big_endian start) × (declared ≡ map (λ p. declares_bf p.0 p.0 p.1) (enumerate_from (big_endian start) texts))))
 
--- entries, what each declares, and the closer
+-- entries, what each declares, and the end of the section
 abbrev pub AreEntries : Section → List Token → List (List Declaration) → List Token → Type 0
-AreEntries section tokens [] rest = tokens ≡ Token.Name false (closer section) ∷ rest
+AreEntries section tokens [] rest = tokens ≡ Token.Name false (codes "end" ++ section_name section) ∷ rest
 AreEntries section tokens (declared ∷ others) rest = (mid : List Token) × IsEntry section tokens declared mid × AreEntries section mid others rest
 
 -- what the tokens of a file are read as
@@ -106,18 +92,18 @@ IsKey t = (k : List ℕ) × Contains keys k × (t ≡ Token.Name true k)
 
 -- a token that opens this section
 abbrev pub Opens : Token → Section → Type 0
-Opens t section = t ≡ Token.Name false (opener section)
+Opens t section = t ≡ Token.Name false (codes "begin" ++ section_name section)
 
--- a token that is an item by itself: no key, no opener and no use
+-- a token that is an item by itself: no key, no use, and none that opens a section
 abbrev pub IsOtherToken : Token → Type 0
-IsOtherToken t = ((k : List ℕ) → Contains keys k → t ≢ Token.Name true k) × ((section : Section) → t ≢ Token.Name false (opener section)) × (t ≢ Token.Name false use_word)
+IsOtherToken t = ((k : List ℕ) → Contains keys k → t ≢ Token.Name true k) × ((section : Section) → t ≢ Token.Name false (codes "begin" ++ section_name section)) × (t ≢ Token.Name false (codes "usecmap"))
 
 -- the item that tokens begin with, and the tokens after it; only the last item may be a key without a value
 abbrev pub IsItem : List Token → Item → List Token → Type 0
 IsItem tokens (key k None) rest = Contains keys k × (tokens ≡ Token.Name true k ∷ []) × (rest ≡ [])
 IsItem tokens (key k (Some value)) rest = Contains keys k × (tokens ≡ Token.Name true k ∷ value ∷ rest)
-IsItem tokens (entries declared) rest = (section : Section) × (body : List Token) × (each : List (List Declaration)) × (tokens ≡ Token.Name false (opener section) ∷ body) × AreEntries section body each rest × (declared ≡ flat_map (λ ds. ds) each)
-IsItem tokens use_of_base rest = tokens ≡ Token.Name false use_word ∷ rest
+IsItem tokens (entries declared) rest = (section : Section) × (body : List Token) × (each : List (List Declaration)) × (tokens ≡ Token.Name false (codes "begin" ++ section_name section) ∷ body) × AreEntries section body each rest × (declared ≡ flat_map (λ ds. ds) each)
+IsItem tokens use_of_base rest = tokens ≡ Token.Name false (codes "usecmap") ∷ rest
 IsItem tokens (other t) rest = IsOtherToken t × (tokens ≡ t ∷ rest)
 
 -- the tokens, item by item
@@ -135,9 +121,7 @@ literal_head _ = None
 abbrev pub names_used : Option (List ℕ) → List Item → Option (List (List ℕ))
 names_used before [] = Some []
 names_used before (use_of_base ∷ items) = option_and_then (λ name. option_map (λ names. name ∷ names) (names_used None items)) before
-names_used before (key k value ∷ items) = names_used (Some k) items
-names_used before (entries declared ∷ items) = names_used None items
-names_used before (other t ∷ items) = names_used (literal_head (other t)) items
+names_used before (item ∷ items) = names_used (literal_head item) items
 
 abbrev pub declared_by : Item → List Declaration
 declared_by (entries declared) = declared
@@ -148,27 +132,9 @@ abbrev pub value_under : List ℕ → Item → Option (Option Token)
 value_under name (key k value) = if bytes_eq k name then Some value else None
 value_under name _ = None
 
--- the value of the last item with this key
+-- the value of the last item with this key; none where that item has none
 abbrev pub last_value : List ℕ → List Item → Option Token
 last_value name items = option_and_then (λ value. value) (last_or None (filter_map (value_under name) items))
-
--- the values of the keys of a file, where it has them
-pub record Values : Type 0 where
-  pub registry : Option Token
-  pub ordering : Option Token
-  pub supplement : Option Token
-  pub name : Option Token
-  pub mode : Option Token
-
--- the last one with each key decides, also where it has no value
-abbrev pub last_values : List Item → Values
-last_values items = record {
-  registry = last_value (codes "Registry") items;
-  ordering = last_value (codes "Ordering") items;
-  supplement = last_value (codes "Supplement") items;
-  name = last_value (codes "CMapName") items;
-  mode = last_value (codes "WMode") items;
-}
 
 -- registry and ordering: the value of a string, or the bytes of a name
 abbrev pub GivesText : Option Token → Option (List ℕ) → Type 0
@@ -176,39 +142,33 @@ GivesText (Some (Token.Name literal bytes)) text = text ≡ Some bytes
 GivesText (Some (Token.String piece)) text = (value : List ℕ) × IsValue piece value × (text ≡ Some value)
 GivesText _ text = text ≡ None
 
-abbrev pub integer_in : Option Token → Option ℤ
-integer_in (Some (Token.Numeral (Number.Integer n))) = Some n
-integer_in _ = None
-
 -- a supplement has 32 bits with sign
 abbrev pub supplement_in : Option Token → Option ℤ
-supplement_in t = option_and_then (λ n. if int_le (neg_ℤ (pos (2 ^ 31))) n && int_le n (pos (2 ^ 31 - 1)) then Some n else None) (integer_in t)
+supplement_in (Some (Token.Numeral (Number.Integer n))) = if int_le (neg_ℤ (pos (2 ^ 31))) n && int_le n (pos (2 ^ 31 - 1)) then Some n else None
+supplement_in _ = None
 
 abbrev pub name_in : Option Token → Option (List ℕ)
 name_in (Some (Token.Name literal bytes)) = Some bytes
 name_in _ = None
 
-abbrev pub mode_of_integer : ℤ → Option Mode
-mode_of_integer (pos n) = mode_numbered n
-mode_of_integer (negsuc n) = None
-
 abbrev pub mode_in : Option Token → Option Mode
-mode_in t = option_and_then mode_of_integer (integer_in t)
+mode_in (Some (Token.Numeral (Number.Integer (pos n)))) = mode_numbered n
+mode_in _ = None
 
 -- present only where all its parts are
 abbrev pub collection_of : Option (List ℕ) → Option (List ℕ) → Option ℤ → Option Collection
 collection_of registry ordering supplement = option_and_then (λ r. option_and_then (λ o. option_map (λ s. record { family = family_of r o; supplement = s }) supplement) ordering) registry
 
--- the character collection that the values name
-abbrev pub IsCollection : Values → Option Collection → Type 0
-IsCollection values collection = (registry ordering : Option (List ℕ)) × GivesText values.registry registry × GivesText values.ordering ordering
-    × (collection ≡ collection_of registry ordering (supplement_in values.supplement))
+-- the character collection that the values of its three keys name
+abbrev pub IsCollection : Option Token → Option Token → Option Token → Option Collection → Type 0
+IsCollection registry ordering supplement collection = (r o : Option (List ℕ)) × GivesText registry r × GivesText ordering o × (collection ≡ collection_of r o (supplement_in supplement))
 
--- what the values say of the file
-abbrev pub IsMetadata : Values → FileMetadata → Type 0
-IsMetadata values metadata = IsCollection values metadata.collection × (metadata.name ≡ name_in values.name) × (metadata.mode ≡ mode_in values.mode)
+-- what the items say of the file
+abbrev pub IsMetadata : List Item → FileMetadata → Type 0
+IsMetadata items metadata = IsCollection (last_value (codes "Registry") items) (last_value (codes "Ordering") items) (last_value (codes "Supplement") items) metadata.collection
+    × (metadata.name ≡ name_in (last_value (codes "CMapName") items)) × (metadata.mode ≡ mode_in (last_value (codes "WMode") items))
 
 -- the bytes are a text that says what the file says
 unfoldable pub IsTextFile : List ℕ → File → Type 0
 IsTextFile bytes file = (tokens : List Token) × (items : List Item) × Tokens bytes tokens × AreItems tokens items
-    × (names_used None items ≡ Some file.uses) × IsMetadata (last_values items) file.metadata × (file.lists ≡ lists_of (flat_map declared_by items))
+    × (names_used None items ≡ Some file.uses) × IsMetadata items file.metadata × (file.lists ≡ lists_of (flat_map declared_by items))

@@ -6,13 +6,13 @@ use Rattle.cmap_tokens.specs.Texts.{units_of}
 use Rattle.cmap_tokens.specs.TokenReading.{string_value}
 use Rattle.cmap_tokens.specs.Tokens.{Token}
 use Rattle.cmap_tokens.specs.TokensLeft.{Left, start_of, tokens_of}
-use Rattle.cmap_values.specs.Files.{CidEntry, Declaration, Lists, lists_of}
+use Rattle.cmap_values.specs.Files.{CidEntry, Declaration, FileMetadata, Lists, lists_of}
 use Rattle.cmap_values.specs.ListsAppended.{no_lists, append_lists}
 use Rattle.cmap_values.specs.declared.fault.Reason.{Reason}
 use Rattle.cmap_values.specs.declared.fault.Reason.TheVariants.{BracketExpected, CidExpected, CodeExpected, CodeLength, TextExpected, UnequalLengths, UseWithoutName}
 use Rattle.cmap_values.specs.declared.fault.Stop.{Stop}
 use Rattle.cmap_text.specs.TokenParsers.{Found, Refused, offset_of, Parser, done, head, giving, chain, repeat, ItemParser, reads, takes_value, wanted, run_item, next_in, repeated}
-use Rattle.cmap_text.specs.TextFiles.{Extent, range, single, Section, codespace_range, cids, bf_range, bf_char, mapped, notdef, keys, opener, closer, use_word, declares_bf, declares_cid, other, literal_head, Values}
+use Rattle.cmap_text.specs.TextFiles.{Extent, range, single, Section, codespace_range, cids, bf_range, bf_char, mapped, notdef, section_name, keys, declares_bf, declares_cid, Item, other, literal_head, last_value, name_in, mode_in, IsCollection}
 
 -- ---- single tokens
 -- whether a token is this executable name
@@ -108,6 +108,9 @@ entry_after (cids kind extent) start lists = giving (λ p. adding lists (declare
 entry_after bf_range start lists = chain next_code (λ end. chain (head (λ t. TextExpected) list_or_destination) (texts_from start.number end.number lists))
 entry_after bf_char start lists = giving (λ units. adding lists (text_of start.number start.number units)) next_destination
 
+abbrev pub closer : Section → List ℕ
+closer section = codes "end" ++ section_name section
+
 -- the code that an entry of a section begins with, or none at the closer
 abbrev pub code_or_closer : Section → Token → Option (Option Code)
 code_or_closer section t = if is_executable (closer section) t then Some None else option_map Some (code_in t)
@@ -117,6 +120,12 @@ abbrev pub body_in : Section → Lists → Parser Lists
 body_in section lists = repeat code_fault (code_or_closer section) (λ now start. entry_after section start now) lists
 
 -- ---- items
+abbrev pub use_word : List ℕ
+use_word = codes "usecmap"
+
+abbrev pub opener : Section → List ℕ
+opener section = codes "begin" ++ section_name section
+
 -- the section that a token opens
 abbrev pub sections : List Section
 sections = cids mapped range ∷ cids mapped single ∷ bf_range ∷ bf_char ∷ cids notdef range ∷ cids notdef single ∷ codespace_range ∷ []
@@ -132,6 +141,27 @@ key_named name = find (bytes_eq name) keys
 abbrev pub key_in : Token → Option (List ℕ)
 key_in (Token.Name true name) = key_named name
 key_in _ = None
+
+-- the values of the keys, where they have one
+pub record Values : Type 0 where
+  pub registry : Option Token
+  pub ordering : Option Token
+  pub supplement : Option Token
+  pub name : Option Token
+  pub mode : Option Token
+
+abbrev pub last_values : List Item → Values
+last_values items = record {
+  registry = last_value (codes "Registry") items;
+  ordering = last_value (codes "Ordering") items;
+  supplement = last_value (codes "Supplement") items;
+  name = last_value (codes "CMapName") items;
+  mode = last_value (codes "WMode") items;
+}
+
+-- what values say of the file
+abbrev pub AreSaid : Values → FileMetadata → Type 0
+AreSaid values metadata = IsCollection values.registry values.ordering values.supplement metadata.collection × (metadata.name ≡ name_in values.name) × (metadata.mode ≡ mode_in values.mode)
 
 -- what items say, as far as they are read
 pub record Said : Type 0 where

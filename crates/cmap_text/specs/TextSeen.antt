@@ -43,7 +43,7 @@ key_name Supplement = codes "Supplement"
 key_name CMapName = codes "CMapName"
 key_name WMode = codes "WMode"
 
-abbrev pub values_seen : Values → files.Values
+abbrev pub values_seen : Values → reading.Values
 values_seen values = record {
   registry = option_map token_seen values.registry;
   ordering = option_map token_seen values.ordering;

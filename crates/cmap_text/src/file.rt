@@ -7,8 +7,8 @@ ghost use Rattle.cmap_values.specs.Outcomes.{DecidedBy, ReadsFile, RefusesWith};
 ghost use Rattle.cmap_values.specs.MetadataSeen.{metadata_seen};
 ghost use Rattle.cmap_tokens.specs.TokensLeft.{Left, start_of, tokens_of};
 ghost use Rattle.cmap_text.specs.EntriesSeen.{RefusesAt};
-ghost use Rattle.cmap_text.specs.TextFiles.{IsMetadata, IsTextFile};
-ghost use Rattle.cmap_text.specs.TextReading.{StopsAt, StopsText, all_said};
+ghost use Rattle.cmap_text.specs.TextFiles.{IsTextFile};
+ghost use Rattle.cmap_text.specs.TextReading.{AreSaid, StopsAt, StopsText, all_said};
 ghost use Rattle.cmap_text.specs.TextReading as reading;
 ghost use Rattle.cmap_text.specs.TokenParsers.{Refused};
 ghost use Rattle.cmap_text.specs.TextSeen.{said_seen, values_seen};
@@ -50,7 +50,7 @@ fn read_said<'d>(
     ensures says { IfOk result (λ metadata.
         ((rest : Left) × (all_said (said_seen said.old) (tokens_of (start_of text.now))
         ≡ Ok (said_seen said.new, rest)))
-        × IsOnly (IsMetadata (values_seen said.new.values)) (metadata_seen metadata)) }
+        × IsOnly (AreSaid (values_seen said.new.values)) (metadata_seen metadata)) }
     ensures stops { IfErr result (RefusesWith (StopsAt (length text.now)
         (all_said (said_seen said.old) (tokens_of (start_of text.now))))) }
 {

@@ -4,8 +4,8 @@ ghost use Rattle.std.specs.Prelude.{◌≡◌, ◌↔◌, IfOk, IsTrue, is_some,
 ghost use Rattle.cmap_tokens.specs.TokenSeen.{token_seen};
 ghost use Rattle.cmap_values.specs.MetadataSeen.{collection_seen, metadata_seen, mode_seen};
 ghost use Rattle.cmap_values.specs.Only.{IsOnly};
-ghost use Rattle.cmap_text.specs.TextFiles.{GivesText, IsCollection, IsKey, IsMetadata, collection_of, mode_in, name_in, supplement_in};
-ghost use Rattle.cmap_text.specs.TextReading.{key_in, key_named, no_values, with_value};
+ghost use Rattle.cmap_text.specs.TextFiles.{GivesText, IsCollection, IsKey, collection_of, mode_in, name_in, supplement_in};
+ghost use Rattle.cmap_text.specs.TextReading.{AreSaid, key_in, key_named, no_values, with_value};
 ghost use Rattle.cmap_text.specs.TextSeen.{key_name, values_seen};
 
 use cmap_tokens::token::{Number, Token};
@@ -110,7 +110,7 @@ impl<'d> Values<'d> {
     /// What the values say of the file.
     pub(crate) fn metadata(&self, alloc: Global) -> Result<Metadata, AllocError>
         ensures { IfOk result
-            (λ metadata. IsOnly (IsMetadata (values_seen self.now)) (metadata_seen metadata)) }
+            (λ metadata. IsOnly (AreSaid (values_seen self.now)) (metadata_seen metadata)) }
     {
         Ok(Metadata {
             character_collection: self.character_collection(alloc)?,
@@ -121,8 +121,9 @@ impl<'d> Values<'d> {
 
     /// The character collection; `None` unless all its parts are there.
     fn character_collection(&self, alloc: Global) -> Result<Option<CharacterCollection>, AllocError>
-        ensures { IfOk result (λ found.
-            IsOnly (IsCollection (values_seen self.now)) (option_map collection_seen found)) }
+        ensures { let values = values_seen self.now in IfOk result (λ found.
+            IsOnly (IsCollection values.registry values.ordering values.supplement)
+            (option_map collection_seen found)) }
     {
         let registry = text_of(alloc, self.registry)?;
         let ordering = text_of(alloc, self.ordering)?;

@@ -14,7 +14,7 @@ ghost use Rattle.cmap_text.specs.Salvage as salvage;
 ghost use Rattle.cmap_text.specs.Salvage.{BeginsRefused, KeepsFronts, SalvagesFile, nothing_salvaged};
 ghost use Rattle.cmap_text.specs.SalvageSeen.{entry_seen, found_seen, rest_seen, state_seen};
 ghost use Rattle.cmap_text.specs.Standing.{AreDeclared};
-ghost use Rattle.cmap_text.specs.TextFiles.{IsMetadata, IsTextFile};
+ghost use Rattle.cmap_text.specs.TextFiles.{IsTextFile};
 ghost use Rattle.cmap_text.specs.TextSeen.{key_name, section_seen, values_seen};
 
 mod entries;

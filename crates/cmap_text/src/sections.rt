@@ -7,7 +7,7 @@ ghost use Rattle.cmap_values.specs.Outcomes.{Finds};
 ghost use Rattle.cmap_values.specs.declared.fault.Fault.TheVariants.{Memory};
 ghost use Rattle.cmap_text.specs.EntriesSeen.{AddsDeclarations, ReadsAs, ReadsOn, WhereRefused};
 ghost use Rattle.cmap_text.specs.TextFiles as files;
-ghost use Rattle.cmap_text.specs.TextReading.{body_in, code_fault, code_in, code_or_closer, entry_after, opened_by};
+ghost use Rattle.cmap_text.specs.TextReading.{body_in, closer, code_fault, code_in, code_or_closer, entry_after, opened_by, opener};
 ghost use Rattle.cmap_text.specs.TextSeen.{code_seen, extent_seen, kind_seen, section_seen};
 ghost use Rattle.cmap_text.specs.TokenParsers.{head_in, or_wrong, token_in};
 ghost use Rattle.cmap_tokens.specs.Tokens.{Name, String};
@@ -77,7 +77,7 @@ impl Section {
 
     /// The name that opens it.
     pub fn opener(self) -> &'static [u8]
-        ensures { result.now ≡ files.opener (section_seen self) }
+        ensures { result.now ≡ opener (section_seen self) }
     {
         match self {
             Section::Codespaces => b"begincodespacerange",
@@ -92,7 +92,7 @@ impl Section {
 
     /// The name that closes it.
     pub fn closer(self) -> &'static [u8]
-        ensures { result.now ≡ files.closer (section_seen self) }
+        ensures { result.now ≡ closer (section_seen self) }
     {
         match self {
             Section::Codespaces => b"endcodespacerange",

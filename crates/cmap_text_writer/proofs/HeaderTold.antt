@@ -7,11 +7,10 @@ use Rattle.std.proofs.lemmas.List.{append_assoc}
 use Rattle.cmap_tokens.proofs.ByteTests.{all_weaker, none_of}
 use Rattle.cmap_tokens.specs.Bytes.{is_regular}
 use Rattle.cmap_tokens.specs.Numbers.{numeral, integer, radix_integer, is_real}
-use Rattle.cmap_tokens.specs.Ascii.{carriage_return, form_feed, line_feed}
 use Rattle.cmap_tokens.specs.Gaps.{comment_after, ends_comment}
 use Rattle.cmap_tokens.specs.Tokens.{IsToken, Token, is_bracket}
-use Rattle.cmap_text.specs.TextFiles.{Item, other, use_word}
-use Rattle.cmap_text.specs.TextReading.{is_executable, key_in, opened_by}
+use Rattle.cmap_text.specs.TextFiles.{Item, other}
+use Rattle.cmap_text.specs.TextReading.{is_executable, key_in, opened_by, use_word}
 use Rattle.cmap_text_writer.specs.FileItems.{comments_text, end_text, footer_items, footer_text, header_items, header_text, name, number, resource_text, type_text, word}
 use Rattle.cmap_text_writer.specs.Fits.{IsSayableName}
 use Rattle.cmap_text_writer.specs.Told.{TellsItems, TellsTokens}
@@ -84,7 +83,7 @@ comment_passed [] rest all = refl
 comment_passed (b ∷ text) rest all = let (first, later) = and_parts (goes_on b) (list_all goes_on text) all in rw (first, comment_after) (comment_passed text rest later)
 
 abbrev line_ends : List ℕ
-line_ends = line_feed ∷ form_feed ∷ carriage_return ∷ []
+line_ends = codes "\n\u{c}\r"
 
 -- a name has no end of a line
 name_goes_on : (bytes : List ℕ) → IsSayableName bytes → list_all goes_on bytes ≡ true

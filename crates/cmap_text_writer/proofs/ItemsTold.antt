@@ -5,8 +5,8 @@ use Rattle.std.proofs.lemmas.Bool.{false≢true}
 use Rattle.std.proofs.lemmas.List.{append_assoc}
 use Rattle.std.proofs.lemmas.Option.{none-some}
 use Rattle.cmap_tokens.specs.Tokens.{Token}
-use Rattle.cmap_text.specs.TextFiles.{AreItems, IsItem, IsOtherToken, Item, key, keys, other, use_word}
-use Rattle.cmap_text.specs.TextReading.{is_executable, key_in, opened_by}
+use Rattle.cmap_text.specs.TextFiles.{AreItems, IsItem, IsOtherToken, Item, key, keys, other}
+use Rattle.cmap_text.specs.TextReading.{is_executable, key_in, opened_by, use_word}
 use Rattle.cmap_text.proofs.ItemsRead.{key_in-own, opened_by-own}
 use Rattle.cmap_text_writer.specs.Told.{TellsItems, TellsTokens}
 use Rattle.cmap_text_writer.proofs.TokensTold.{no_tokens, tokens_both}

@@ -8,7 +8,8 @@ use Rattle.std.proofs.lemmas.List.Elements.{All-cons, All-head, All-nil, All-tai
 use Rattle.cmap_values.specs.Files.{BfEntry, CidEntry, Codespace, Declaration}
 use Rattle.cmap_tokens.specs.Numbers.{numeral, integer, radix_integer, is_real}
 use Rattle.cmap_tokens.specs.Tokens.{IsToken, Token}
-use Rattle.cmap_text.specs.TextFiles.{AreEntries, CidKind, Extent, Item, Section, bf_char, bf_range, cids, closer, codespace_range, declared_by, declares_cid, entries, mapped, notdef, opener, other, range, single}
+use Rattle.cmap_text.specs.TextFiles.{AreEntries, CidKind, Extent, Item, Section, bf_char, bf_range, cids, codespace_range, declared_by, declares_cid, entries, mapped, notdef, other, range, single}
+use Rattle.cmap_text.specs.TextReading.{closer, opener}
 use Rattle.cmap_text_writer.specs.Fits.{BeginsFitting, HasUnits, IsOfExtent, IsSmallCid, IsSmallText, IsSpaceFitting}
 use Rattle.cmap_text_writer.specs.Layout.{Block, IsSection, IsSingleLine, Serves, block_spelled, char_spelled, chars, declared_in, declares, line_spelled, lines, section_spelled, spaces}
 use Rattle.cmap_text_writer.specs.Spelled.{cid_spelled, closer_spelled, opener_spelled, space_spelled}
@@ -61,12 +62,15 @@ body_told section ds body h =
       sym h.flat,
     ))
 
+opener_parts : (count word rest : List ℕ) → (count ++ 32 ∷ []) ++ ((word ++ 10 ∷ []) ++ rest) ≡ (count ++ (32 ∷ word ++ 10 ∷ [])) ++ rest
+opener_parts count word rest = simp append_assoc
+
 -- with the count before it
 section_told : (lengths : ℕ → ℕ) (block : Block) (section : Section) (count : ℕ) (body : List ℕ) → count < 2 ^ 63 → length (declared_in block) ≤ 100 → IsSection block → TellsEntries section (declared_in block) body → opener_spelled count section ++ (body ++ closer_spelled section) ≡ block_spelled lengths block
     → TellsSections lengths (declared_in block) (block_spelled lengths block)
 section_told lengths block section count body small few serves told same =
     let t = number_token count in
-    let parts : (decimal count ++ 32 ∷ []) ++ ((opener section ++ 10 ∷ []) ++ (body ++ closer_spelled section)) ≡ opener_spelled count section ++ (body ++ closer_spelled section) = simp append_assoc in
+    let parts : (decimal count ++ 32 ∷ []) ++ ((opener section ++ 10 ∷ []) ++ (body ++ closer_spelled section)) ≡ opener_spelled count section ++ (body ++ closer_spelled section) = opener_parts (decimal count) (opener section) (body ++ closer_spelled section) in
     let items = items_both (other t ∷ []) (entries (declared_in block) ∷ []) _ _ (other_item t _ (spaced (decimal count) t (decimal_is_token count small)) refl refl refl) (body_told section (declared_in block) body told) in record {
       items = other t ∷ entries (declared_in block) ∷ [];
       told = subst (TellsItems (other t ∷ entries (declared_in block) ∷ [])) (parts ∙ same) items;

@@ -11,7 +11,7 @@ use Rattle.cmap_values.specs.Names.{ordering_of, registry_of}
 use Rattle.cmap_tokens.specs.Bytes.{is_regular}
 use Rattle.cmap_tokens.specs.Numbers.{Integer}
 use Rattle.cmap_tokens.specs.Tokens.{Token}
-use Rattle.cmap_text.specs.TextFiles.{GivesText, IsCollection, IsMetadata, Item, collection_of, entries, key, last_value, last_values, mode_in, name_in, other, supplement_in, use_of_base, value_under}
+use Rattle.cmap_text.specs.TextFiles.{GivesText, IsCollection, IsMetadata, Item, collection_of, entries, key, last_value, mode_in, name_in, other, supplement_in, use_of_base, value_under}
 use Rattle.cmap_text_writer.specs.FileItems.{collection_items, file_items, footer_items, from_option, is_key, metadata_items, mode_items, mode_number, name_items, no_value, number, string_spelled, use_items}
 use Rattle.cmap_text_writer.specs.Fits.{CollectionFits}
 use Rattle.cmap_text_writer.specs.Told.{IsOfSections}
@@ -135,7 +135,7 @@ no_collection (Some r) None = refl
 no_collection (Some r) (Some o) = refl
 
 module _ (type : ℕ) (uses : List (List ℕ)) (sections : List Item) (all : AllByRecursion IsOfSections sections) where
-  collection_told : (c : Option Collection) (n : Option (List ℕ)) (w : Option Mode) → IfSome c CollectionFits → IsCollection (last_values (file_items type (made c n w) uses sections)) c
+  collection_told : (c : Option Collection) (n : Option (List ℕ)) (w : Option Mode) → IfSome c CollectionFits → let items = file_items type (made c n w) uses sections in IsCollection (last_value (codes "Registry") items) (last_value (codes "Ordering") items) (last_value (codes "Supplement") items) c
   collection_told (Some c) n w fits =
       let m = made (Some c) n w in
       let g = given (Some c) n w in
@@ -167,5 +167,5 @@ module _ (type : ℕ) (uses : List (List ℕ)) (sections : List Item) (all : All
   mode_told c n (Some w) = sym (ap mode_in (last_is type (made c n (Some w)) uses sections all (codes "WMode") (number (mode_number w)) (given c n (Some w)).mode) ∙ mode_back w)
   mode_told c n None = mute_mode _ (none_is type (made c n None) uses sections all (codes "WMode") (given c n None).mode)
 
-  pub metadata_told : (m : FileMetadata) → IfSome m.collection CollectionFits → IsMetadata (last_values (file_items type m uses sections)) m
+  pub metadata_told : (m : FileMetadata) → IfSome m.collection CollectionFits → IsMetadata (file_items type m uses sections) m
   metadata_told m fits = (collection_told m.collection m.name m.mode fits, name_told m.collection m.name m.mode, mode_told m.collection m.name m.mode)

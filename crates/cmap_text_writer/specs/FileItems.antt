@@ -4,7 +4,7 @@ use Rattle.std.specs.Fmt.{signed_decimal}
 use Rattle.std.specs.List.{list_all}
 use Rattle.cmap_values.specs.Files.{Collection, FileMetadata, Mode, horizontal, vertical}
 use Rattle.cmap_values.specs.Names.{ordering_of, registry_of}
-use Rattle.cmap_tokens.specs.Ascii.{backslash, close_parenthesis, open_parenthesis, slash}
+use Rattle.cmap_tokens.specs.Ascii.{byte}
 use Rattle.cmap_tokens.specs.Bytes.{is_regular}
 use Rattle.cmap_tokens.specs.Numbers.{Integer}
 use Rattle.cmap_tokens.specs.Tokens.{Token}
@@ -23,11 +23,11 @@ number n = Token.Numeral (Integer (pos n))
 
 -- a byte that stands for itself in ( .. ), and that a terminal prints
 abbrev pub is_plain : ℕ → Bool
-is_plain b = nat_le 32 b && nat_le b 126 && not (b == open_parenthesis) && not (b == close_parenthesis) && not (b == backslash)
+is_plain b = nat_le 32 b && nat_le b 126 && not (b == byte "(") && not (b == byte ")") && not (b == byte "\\")
 
 -- ( bytes ) where all are plain, and else < digits >
 abbrev pub string_spelled : List ℕ → List ℕ
-string_spelled bytes = if list_all is_plain bytes then open_parenthesis ∷ bytes ++ close_parenthesis ∷ [] else hex_string bytes
+string_spelled bytes = if list_all is_plain bytes then byte "(" ∷ bytes ++ byte ")" ∷ [] else hex_string bytes
 
 -- ---- items
 -- what the codes of a file stand for: 2 is Unicode, and 1 are CIDs
@@ -104,7 +104,7 @@ abbrev pub footer_text : Bool → List ℕ
 footer_text has_name = codes "endcmap\nCMapName currentdict /CMap defineresource pop\nend\nend\n" ++ end_text has_name
 
 abbrev pub use_text : List ℕ → List ℕ
-use_text bytes = slash ∷ bytes ++ (if is_key bytes then codes " () usecmap\n" else codes " usecmap\n")
+use_text bytes = byte "/" ∷ bytes ++ (if is_key bytes then codes " () usecmap\n" else codes " usecmap\n")
 
 abbrev pub collection_text : Collection → List ℕ
 collection_text c =
@@ -113,7 +113,7 @@ collection_text c =
     ++ (codes " def\n/Supplement " ++ (signed_decimal c.supplement ++ codes " def\nend def\n")))))
 
 abbrev pub name_spelled : List ℕ → List ℕ
-name_spelled bytes = if list_all is_regular bytes then slash ∷ bytes else bytes
+name_spelled bytes = if list_all is_regular bytes then byte "/" ∷ bytes else bytes
 
 abbrev pub name_text : List ℕ → List ℕ
 name_text bytes = codes "/CMapName " ++ (name_spelled bytes ++ codes " def\n")

@@ -2,7 +2,7 @@
 use Rattle.std.specs.Prelude.{◌≡◌, ℕ, ◌+◌, ◌<◌, ◌==◌, ◌&&◌, All, Bool, not, List, [], ◌∷◌, ◌++◌, codes, flat_map, length, map, is_some}
 use Rattle.cmap_values.specs.Files.{BfEntry, ByLength, CidEntry, Codespace, Declaration, File, FileMetadata, Lists}
 use Rattle.cmap_values.specs.ListsByKind.{declarations_of}
-use Rattle.cmap_tokens.specs.Ascii.{space}
+use Rattle.cmap_tokens.specs.Ascii.{byte}
 use Rattle.cmap_text.specs.TextFiles.{CidKind, Extent, Section, bf_char, bf_range, codespace_range, declares_cid, range, single}
 use Rattle.cmap_text_writer.specs.FileItems.{collection_text, comments_text, footer_text, from_option, header_text, mode_text, name_text, use_text}
 use Rattle.cmap_text_writer.specs.Spelled.{cid_spelled, closer_spelled, codes_spelled, opener_spelled, space_spelled, text_spelled, units_spelled}
@@ -13,7 +13,7 @@ abbrev pub char_spelled : (ℕ → ℕ) → BfEntry → List ℕ
 char_spelled lengths e = text_spelled (lengths e.start) single e
 
 abbrev pub next_text_spelled : List ℕ → List ℕ
-next_text_spelled units = space ∷ units_spelled units
+next_text_spelled units = byte " " ∷ units_spelled units
 
 abbrev pub array_spelled : List (List ℕ) → List ℕ
 array_spelled [] = []

@@ -8,11 +8,11 @@ use Rattle.std.proofs.lemmas.Option.{none-some, same_Some}
 use Rattle.std.proofs.Math.Seq.{drop-cons}
 use Rattle.std.proofs.lemmas.Bool.{and_parts, eqb-true, false≢true, leb-true, ltb-true, or_right}
 use Rattle.std.proofs.lemmas.List.{drop_at, drop_more, take-append-drop, take_more}
-use Rattle.cmap_tokens.specs.Bytes.{is_white, is_regular}
+use Rattle.cmap_tokens.specs.Bytes.{begins, is_white, is_regular}
 use Rattle.cmap_tokens.specs.Numbers.{Integer, decimal_front, digits_len, digits_value, digits_number}
 use Rattle.cmap_tokens.specs.Scanner.{FirstToken, OnlyFront, closed_number, closed_pairs, closed_parts, short_pairs, spaced_pairs, spaced_parts, spaced_decimal, spaced_two_bytes}
 use Rattle.cmap_tokens.specs.Strings.{IsOnlyValue, WritesBytes, WritesParts, WritesTwoBytes, hex_value, inside}
-use Rattle.cmap_tokens.specs.Tokens.{Token, Name, Numeral, String, Front, IsHexString, IsToken, begins_name, begins_regular, is_hex_body}
+use Rattle.cmap_tokens.specs.Tokens.{Token, Name, Numeral, String, Front, IsHexString, IsToken, begins_name, is_hex_body}
 use Rattle.cmap_tokens.proofs.ByteTests.{all_append, all_front, byte_within, chosen, all_weaker, other_byte}
 use Rattle.cmap_tokens.proofs.Digits.{pairs_read, pairs_split, digit_regular, digits_numeral, digits_small, paired, written}
 use Rattle.cmap_tokens.proofs.Fronts.{front_only}
@@ -22,7 +22,7 @@ fails : (test : Bool) → not test ≡ true → test ≡ false
 fails false e = refl
 fails true e = absurd (false≢true e)
 
-first_after_blank : (text : List ℕ) (blank len : ℕ) (piece rest : List ℕ) (token : Token) → text ≡ blank ∷ piece ++ rest → is_white blank ≡ true → IsToken piece token → (IsTrue (begins_name piece) → begins_regular rest ≡ false) → len ≡ 1 + length piece → FirstToken text token len
+first_after_blank : (text : List ℕ) (blank len : ℕ) (piece rest : List ℕ) (token : Token) → text ≡ blank ∷ piece ++ rest → is_white blank ≡ true → IsToken piece token → (IsTrue (begins_name piece) → begins is_regular rest ≡ false) → len ≡ 1 + length piece → FirstToken text token len
 first_after_blank text blank len piece rest token whole white is longest long =
     let not_percent : (blank == 37) ≡ false = other_byte is_white 37 blank refl white in
     let front : Front text (blank ∷ []) piece token rest = record { whole = whole; gap_is = rw (not_percent, white) refl; piece_is = is; longest = longest } in
@@ -224,7 +224,7 @@ decimal_first (blank ∷ text) number len e =
     let spelled = digits_numeral piece (omega (arith, long, is.filled)) digits (omega (arith, small)) in (
       first_after_blank (blank ∷ text) blank (1 + len) piece (drop len text) (Numeral (Integer (pos number))) (ap (λ t. blank ∷ t) (sym (take-append-drop len text))) white
           (inl ((omega (arith, long, is.filled), all_weaker p is_regular piece digit_regular digits), sym (ap (λ n. option_map_or Numeral n (Name false piece)) (spelled ∙ ap (λ n. Some (Integer (pos n))) is.number_is))))
-          (λ _. ap begins_regular (drop-cons text len 0 is.within) ∙ is.special) (omega (arith, long)),
+          (λ _. ap (begins is_regular) (drop-cons text len 0 is.within) ∙ is.special) (omega (arith, long)),
       omega (arith, small, is.number_is),
     )
 

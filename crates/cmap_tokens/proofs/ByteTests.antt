@@ -6,7 +6,7 @@ use Rattle.std.specs.List.{list_any, list_all, prefix_len}
 use Rattle.std.proofs.lemmas.Bool.{and_from, and_parts, both_ways, cases_Bool, cases_lt, eqb-true, false_from_ne_true, false≢true, ne_eqb, or_from, or_parts}
 use Rattle.std.proofs.lemmas.List.{get_or_past}
 use Rattle.cmap_tokens.specs.Bytes.{begins}
-use Rattle.cmap_tokens.specs.Strings.{begins_with}
+use Rattle.cmap_tokens.specs.TokenReading.{begins_with}
 
 -- what a test chose in place of nothing
 pub chosen : {A : Type 0} (test : Bool) (x : Option A) (y : A) → (if test then x else None) ≡ Some y → (test ≡ true) × (x ≡ Some y)

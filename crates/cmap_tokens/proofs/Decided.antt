@@ -6,10 +6,10 @@ use Rattle.std.proofs.lemmas.Option.{none-some}
 use Rattle.std.proofs.Math.ListN.{get_or-append}
 use Rattle.std.proofs.Math.Seq.{take-append-add}
 use Rattle.std.proofs.lemmas.List.{drop-append-le, take-append-drop}
-use Rattle.cmap_tokens.specs.Bytes.{is_regular, is_white}
+use Rattle.cmap_tokens.specs.Bytes.{begins, is_regular, is_white}
 use Rattle.cmap_tokens.specs.Gaps.{ends_comment}
 use Rattle.cmap_tokens.specs.Malformed.{hexadecimal_kind, malformed_kind, wrong_digit}
-use Rattle.cmap_tokens.specs.Tokens.{Token, Front, begins_regular, is_bracket, is_hex_body}
+use Rattle.cmap_tokens.specs.Tokens.{Token, Front, is_bracket, is_hex_body}
 use Rattle.cmap_tokens.specs.TokenReading.{one_more, gap_len, hex_len, string_of, first_piece, malformed_len}
 use Rattle.cmap_tokens.specs.TokensLeft.{after_gap, Agree, AgreesTo, IsDecidedByFronts, EndInOrder, Left, EndedToken, start_of, tokens_of, with_token}
 use Rattle.cmap_tokens.proofs.ByteTests.{by_byte}
@@ -127,7 +127,7 @@ one_agrees : (k : ℕ) (token : Token) (passed : ℕ) (tokens others : List Ende
 one_agrees k token passed [] others next other same = same
 one_agrees k token passed (p ∷ tokens) others next other same = λ by. let (rest, is, more) = same by in (rest, is, one_agrees k token passed tokens rest next other more)
 
-begins_kept : (text more : List ℕ) (k : ℕ) → 0 < length text → begins_regular (take (1 + k) text ++ more) ≡ begins_regular text
+begins_kept : (text more : List ℕ) (k : ℕ) → 0 < length text → begins is_regular (take (1 + k) text ++ more) ≡ begins is_regular text
 begins_kept [] more k some = absurd (omega (arith, some))
 begins_kept (b ∷ text) more k some = rw (one-add k) refl
 

@@ -10,8 +10,8 @@ use Rattle.cmap_tokens.specs.Bytes.{is_white}
 use Rattle.cmap_tokens.specs.Numbers.{are_digits, decimal_front, digits_value, integer_in_base, is_exponent, radix_integer, without_sign}
 use Rattle.cmap_tokens.specs.Scanner.{spaced_decimal}
 use Rattle.cmap_tokens.specs.Strings.{escape_value}
-use Rattle.cmap_tokens.specs.Tokens.{is_hex_body, opened}
-use Rattle.cmap_tokens.specs.TokenReading.{one_more, hex_len, text_len, string_len, malformed_len, escape, first_part, octal, return_len}
+use Rattle.cmap_tokens.specs.Tokens.{is_hex_body}
+use Rattle.cmap_tokens.specs.TokenReading.{one_more, hex_len, text_len, string_len, malformed_len, escape, first_part, octal, return_len, opened}
 
 -- what holds anyway
 pub if_any : {A : Type 0} (found : Option A) (P : Type 0) → P → IfSome found (λ _. P)

@@ -8,8 +8,8 @@ use Rattle.std.proofs.lemmas.List.{at_drop_all, at_drop_more}
 use Rattle.std.proofs.lemmas.List.Elements.{All-cons, All-nil}
 use Rattle.cmap_tokens.specs.OpenSeen.{Tracks, plain_count}
 use Rattle.cmap_tokens.specs.Pieces.{IsUnclosed}
-use Rattle.cmap_tokens.specs.Tokens.{Inside, after_byte, opened}
-use Rattle.cmap_tokens.specs.TokenReading.{one_more, text_len}
+use Rattle.cmap_tokens.specs.Tokens.{Inside, after_byte}
+use Rattle.cmap_tokens.specs.TokenReading.{one_more, text_len, opened}
 use Rattle.cmap_tokens.specs.declared.token.unclosed.Open.{Open}
 
 abbrev inside : Bool → ℕ → Inside

@@ -9,8 +9,8 @@ use Rattle.cmap_tokens.specs.Bytes.{begins, is_regular}
 use Rattle.cmap_tokens.specs.Malformed.{blank_after, ends_line, hexadecimal_piece_len, last_digits, malformed_piece_len, wrong_word}
 use Rattle.cmap_tokens.specs.Pieces.{IsUnclosed, Piece, Wrong, malformed_at, piece_at, pieces_left, pieces_within}
 use Rattle.cmap_tokens.specs.Scanner.{Cursor}
-use Rattle.cmap_tokens.specs.Tokens.{Token, is_hex_body, opened}
-use Rattle.cmap_tokens.specs.TokenReading.{first_piece, gap_len, one_more, string_of, text_len}
+use Rattle.cmap_tokens.specs.Tokens.{Token, is_hex_body}
+use Rattle.cmap_tokens.specs.TokenReading.{first_piece, gap_len, one_more, string_of, text_len, opened}
 use Rattle.cmap_tokens.proofs.ByteTests.{by_byte}
 use Rattle.cmap_tokens.proofs.TokenPieces.{IsFirst, first_is, is_read}
 

@@ -10,8 +10,8 @@ use Rattle.cmap_tokens.specs.Bytes.{is_white}
 use Rattle.cmap_tokens.specs.Gaps.{comment_after, ends_comment, IsGap}
 use Rattle.cmap_tokens.specs.Scanner.{Cursor, rest_of}
 use Rattle.cmap_tokens.specs.Stops.{AllowsToken, IsStop, StopsAt}
-use Rattle.cmap_tokens.specs.Tokens.{Token, String, Name, Inside, HasNoFront, IsToken, after_byte, closes_at_end, is_hex_body, name_or_number, opened}
-use Rattle.cmap_tokens.specs.TokenReading.{first_piece, gap_len, malformed_len, one_more, string_of, text_len}
+use Rattle.cmap_tokens.specs.Tokens.{Token, String, Name, Inside, HasNoFront, IsToken, after_byte, closes_at_end, is_hex_body, name_or_number}
+use Rattle.cmap_tokens.specs.TokenReading.{first_piece, gap_len, malformed_len, one_more, string_of, text_len, opened}
 use Rattle.cmap_tokens.specs.TokensLeft.{after_gap}
 use Rattle.cmap_tokens.proofs.ByteTests.{all_front, by_byte}
 use Rattle.cmap_tokens.proofs.Gaps.{measured}

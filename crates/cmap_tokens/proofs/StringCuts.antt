@@ -8,9 +8,10 @@ use Rattle.std.proofs.lemmas.Bool.Decides.{nat_tests}
 use Rattle.std.proofs.lemmas.List.{take_at, drop_at, take-append-drop, length-take}
 use Rattle.std.proofs.lemmas.List.Sums.{prefix_len-le-length}
 use Rattle.cmap_tokens.specs.Numbers.{are_digits, digits_number}
-use Rattle.cmap_tokens.specs.Strings.{escape_value, begins_with, begins_octal, IsLineEnd, is_line_byte, IsPart, plain, line_end, escaped, octal, continued, IsCut}
+use Rattle.cmap_tokens.specs.Bytes.{begins}
+use Rattle.cmap_tokens.specs.Strings.{escape_value, IsLineEnd, is_line_byte, IsPart, plain, line_end, escaped, octal, continued, IsCut}
 use Rattle.cmap_tokens.specs.TokenReading as reading
-use Rattle.cmap_tokens.specs.TokenReading.{octal_len, first_part, parts_value, is_paired}
+use Rattle.cmap_tokens.specs.TokenReading.{begins_with, octal_len, first_part, parts_value, is_paired}
 use Rattle.cmap_tokens.proofs.ByteTests.{all_front, by_byte, other_byte, begins_with_is, prefix_len-append_all, prefix_none, prefix_stops}
 
 -- a part is read as it is, with its backslashes whole
@@ -28,7 +29,7 @@ digits_paired : (digits next : List ℕ) → list_all (λ c. is_digit c 8) digit
 digits_paired [] next all = refl
 digits_paired (c ∷ digits) next all = grind (arith, nat_tests, all, other_byte (λ k. is_digit k 8) 92 c, digits_paired digits next)
 
-read_octal : (digits next : List ℕ) → are_digits 8 digits ≡ true → length digits ≤ 3 → (length digits ≡ 3) ⊎ (begins_octal next ≡ false) → Reads (92 ∷ digits) (digits_number 8 digits % 256 ∷ []) next
+read_octal : (digits next : List ℕ) → are_digits 8 digits ≡ true → length digits ≤ 3 → (length digits ≡ 3) ⊎ (begins (λ b. is_digit b 8) next ≡ false) → Reads (92 ∷ digits) (digits_number 8 digits % 256 ∷ []) next
 unfolding first_part reading.escape
 read_octal [] next are few ends = absurd (false≢true are)
 read_octal (c ∷ digits) next are few ends =
@@ -101,8 +102,8 @@ found_octal c text digit =
     let some : prefix_len p body ≡ 1 + prefix_len p text = rw digit refl in
     let long : length (take len body) ≡ len = omega (arith, prefix_len-le-length p body, length-take len body) in
     let are : are_digits 8 (take len body) ≡ true = and_from _ _ (lt-ltb 0 _ (omega (arith, long, some))) (all_front p len body (omega arith)) in
-    let ends : (length (take len body) ≡ 3) ⊎ (begins_octal (drop len body) ≡ false) = elim (cases_lt (prefix_len p body) 3) [
-      | inl fewer ↦ let all : len ≡ prefix_len p body = omega (arith, fewer) in inr (ap (λ n. begins_octal (drop n body)) all ∙ prefix_stops p body)
+    let ends : (length (take len body) ≡ 3) ⊎ (begins (λ b. is_digit b 8) (drop len body) ≡ false) = elim (cases_lt (prefix_len p body) 3) [
+      | inl fewer ↦ let all : len ≡ prefix_len p body = omega (arith, fewer) in inr (ap (λ n. begins (λ b. is_digit b 8) (drop n body)) all ∙ prefix_stops p body)
       | inr three ↦ inl (omega (arith, long, three))
     ] in
     (92 ∷ take len body, _, drop len body, ap (λ t. 92 ∷ t) (sym (take-append-drop len body)), octal (take len body) (drop len body) are (omega (arith, long)) ends)

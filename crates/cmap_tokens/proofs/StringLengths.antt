@@ -6,8 +6,8 @@ use Rattle.std.specs.Option.{option_map_or}
 use Rattle.std.proofs.Math.Seq.{get_or-append_seam}
 use Rattle.std.proofs.lemmas.Bool.{cases_Bool, eq-eqb, eqb-true}
 use Rattle.std.proofs.lemmas.List.{at_drop_all, at_drop_more, nil_from_length, take_all, take_more}
-use Rattle.cmap_tokens.specs.Tokens.{Inside, after_byte, closes_at_end, opened, is_hex_body, IsHexString, IsString}
-use Rattle.cmap_tokens.specs.TokenReading.{one_more, hex_len, text_len, string_len, is_string, is_paired}
+use Rattle.cmap_tokens.specs.Tokens.{Inside, after_byte, closes_at_end, is_hex_body, IsHexString, IsString}
+use Rattle.cmap_tokens.specs.TokenReading.{one_more, hex_len, text_len, string_len, is_string, is_paired, opened}
 use Rattle.cmap_tokens.proofs.ByteTests.{all_prefix, by_byte, byte_within, prefix_len-append_all}
 
 one_more_some : (count : Option ℕ) (m : ℕ) → one_more count ≡ Some m → (k : ℕ) × (count ≡ Some k) × (m ≡ suc k)

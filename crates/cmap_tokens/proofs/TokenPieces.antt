@@ -6,10 +6,9 @@ use Rattle.std.proofs.lemmas.Bool.{cond-true, and_parts, or_left, both_ways, cas
 use Rattle.std.proofs.lemmas.List.{take_at}
 use Rattle.std.proofs.lemmas.List.Folds.{length-prefix_len}
 use Rattle.std.proofs.lemmas.List.Sums.{prefix_len-le-length}
-use Rattle.cmap_tokens.specs.Bytes.{is_white, is_regular}
-use Rattle.cmap_tokens.specs.Tokens.{Token, Name, String, IsToken, IsString, is_bracket, begins_regular, begins_name, is_hex_body, name_or_number}
-use Rattle.cmap_tokens.specs.Strings.{begins_with}
-use Rattle.cmap_tokens.specs.TokenReading.{string_len, string_of, gap_len, first_piece}
+use Rattle.cmap_tokens.specs.Bytes.{begins, is_white, is_regular}
+use Rattle.cmap_tokens.specs.Tokens.{Token, Name, String, IsToken, IsString, is_bracket, begins_name, is_hex_body, name_or_number}
+use Rattle.cmap_tokens.specs.TokenReading.{begins_with, string_len, string_of, gap_len, first_piece}
 use Rattle.cmap_tokens.proofs.ByteTests.{by_byte, other_byte, one_of, begins_with_is, all_prefix, prefix_ends, prefix_stops}
 use Rattle.cmap_tokens.proofs.StringLengths.{string_is, string_len-append}
 
@@ -20,7 +19,7 @@ bracket_special b bracket = (one_of is_regular b (codes "[]{}") refl bracket, on
 pub record IsFirst (text : List ℕ) (first : Token × ℕ) : Type 0 where
   pub within : first.1 ≤ length text
   pub is_token : IsToken (take first.1 text) first.0
-  pub longest : IsTrue (begins_name (take first.1 text)) → begins_regular (drop first.1 text) ≡ false
+  pub longest : IsTrue (begins_name (take first.1 text)) → begins is_regular (drop first.1 text) ≡ false
 
 abbrev First : ℕ → List ℕ → Type 0
 First b text = IfSome (first_piece (b ∷ text)) (IsFirst (b ∷ text))
@@ -159,7 +158,7 @@ pub record IsRead (piece : List ℕ) (token : Token) (rest : List ℕ) : Type 0 
   pub no_gap : gap_len false (piece ++ rest) ≡ 0
   pub filled : 0 < length piece
 
-read_run : (run rest : List ℕ) → 0 < length run → list_all is_regular run ≡ true → (IsTrue (begins_name run) → begins_regular rest ≡ false) → IsRead run (name_or_number run) rest
+read_run : (run rest : List ℕ) → 0 < length run → list_all is_regular run ≡ true → (IsTrue (begins_name run) → begins is_regular rest ≡ false) → IsRead run (name_or_number run) rest
 unfolding first_piece
 read_run [] rest some all longest = absurd (omega (arith, some))
 read_run (b ∷ run) rest some all longest =
@@ -172,7 +171,7 @@ read_run (b ∷ run) rest some all longest =
       filled = some;
     }
 
-read_name : (name rest : List ℕ) → list_all is_regular name ≡ true → begins_regular rest ≡ false → IsRead (47 ∷ name) (Name true name) rest
+read_name : (name rest : List ℕ) → list_all is_regular name ≡ true → begins is_regular rest ≡ false → IsRead (47 ∷ name) (Name true name) rest
 unfolding first_piece
 read_name name rest all stops = record {
   first = ap (λ n. Some (Name true (take n (name ++ rest)), 1 + n)) (prefix_ends is_regular name rest all stops) ∙ rw (take_at name rest (length name) refl, one-add (length name)) refl;
@@ -203,7 +202,7 @@ read_string piece rest is =
       filled = (string_begins piece is).1;
     }
 
-pub is_read : (piece : List ℕ) (token : Token) (rest : List ℕ) → IsToken piece token → (IsTrue (begins_name piece) → begins_regular rest ≡ false) → IsRead piece token rest
+pub is_read : (piece : List ℕ) (token : Token) (rest : List ℕ) → IsToken piece token → (IsTrue (begins_name piece) → begins is_regular rest ≡ false) → IsRead piece token rest
 unfolding first_piece
 is_read piece token rest is longest =
     elim is [

@@ -1,10 +1,10 @@
 -- The classes of bytes. PostScript Language Reference, third edition, 3.2.1 and 3.2.2.
 use Rattle.std.specs.Prelude.{ℕ, Bool, false, not, ◌&&◌, ◌==◌, List, [], ◌∷◌, codes}
 use Rattle.std.specs.List.{list_any}
-use Rattle.cmap_tokens.specs.Ascii.{nul_byte, tab, line_feed, form_feed, carriage_return, space}
 
+-- nul, tab, line feed, form feed, carriage return, space
 abbrev pub is_white : ℕ → Bool
-is_white b = list_any (λ c. b == c) (nul_byte ∷ tab ∷ line_feed ∷ form_feed ∷ carriage_return ∷ space ∷ [])
+is_white b = list_any (λ c. b == c) (codes "\0\t\n\u{c}\r ")
 
 abbrev pub is_delimiter : ℕ → Bool
 is_delimiter b = list_any (λ c. b == c) (codes "()<>[]{}/%")

@@ -1,8 +1,8 @@
 -- What stands in a text where no token does: why it is none, and how far it reaches.
-use Rattle.std.specs.Prelude.{ℕ, ◌+◌, ◌-◌, ◌==◌, ◌||◌, ◌&&◌, nat_lt, Bool, List, [], ◌∷◌, length, take, drop, if◌then◌else◌}
+use Rattle.std.specs.Prelude.{ℕ, ◌+◌, ◌-◌, ◌==◌, ◌||◌, ◌&&◌, nat_lt, Bool, List, [], ◌∷◌, codes, length, take, drop, if◌then◌else◌}
 use Rattle.std.specs.List.{list_any, prefix_len}
 use Rattle.std.specs.Char.{is_digit}
-use Rattle.cmap_tokens.specs.Ascii.{nul_byte, tab, line_feed, form_feed, carriage_return, space, open_parenthesis, less, greater}
+use Rattle.cmap_tokens.specs.Ascii.{byte}
 use Rattle.cmap_tokens.specs.Bytes.{begins, is_regular}
 use Rattle.cmap_tokens.specs.Tokens.{is_hex_body}
 
@@ -24,13 +24,13 @@ hexadecimal_kind text = if prefix_len is_hex_body text == length text then unclo
 abbrev pub malformed_kind : List ℕ → Malformed
 malformed_kind [] = stray
 malformed_kind (b ∷ text) =
-    if b == less then hexadecimal_kind text
-    else if b == open_parenthesis then unclosed_text
+    if b == byte "<" then hexadecimal_kind text
+    else if b == byte "(" then unclosed_text
     else stray
 
 -- the end of a line
 abbrev pub ends_line : ℕ → Bool
-ends_line b = b == line_feed || b == carriage_return
+ends_line b = b == byte "\n" || b == byte "\r"
 
 -- how many digits a text ends with, after so many
 abbrev pub last_digits : ℕ → List ℕ → ℕ
@@ -44,7 +44,7 @@ wrong_word wrong text = if begins is_regular (drop wrong text) then wrong - last
 -- from the wrong byte on: up to and including a >, or up to a <, the end of the line or that of the text
 abbrev pub hex_left : List ℕ → ℕ
 hex_left [] = 0
-hex_left (b ∷ rest) = if b == greater then 1 else if b == less then 0 else if ends_line b then 0 else 1 + hex_left rest
+hex_left (b ∷ rest) = if b == byte ">" then 1 else if b == byte "<" then 0 else if ends_line b then 0 else 1 + hex_left rest
 
 -- how far a hexadecimal string reaches after which the text ends or a wrong byte stands, at this offset: where the wrong word stands on another line, up to it
 abbrev pub hexadecimal_piece_len : ℕ → List ℕ → ℕ
@@ -57,16 +57,16 @@ hexadecimal_fault_len text = if prefix_len is_hex_body text == length text then 
 -- and of any piece that is no token
 abbrev pub fault_len : List ℕ → ℕ
 fault_len [] = 0
-fault_len (b ∷ text) = if b == less then hexadecimal_fault_len text else if b == greater then 1 else 0
+fault_len (b ∷ text) = if b == byte "<" then hexadecimal_fault_len text else if b == byte ">" then 1 else 0
 
 -- how many bytes there are of it
 abbrev pub malformed_piece_len : List ℕ → ℕ
 malformed_piece_len [] = 0
-malformed_piece_len (b ∷ text) = if b == less then hexadecimal_piece_len (1 + prefix_len is_hex_body text) (b ∷ text) else 1
+malformed_piece_len (b ∷ text) = if b == byte "<" then hexadecimal_piece_len (1 + prefix_len is_hex_body text) (b ∷ text) else 1
 
 -- whether what comes after a text begins a line, after a text whose last line is blank or not
 abbrev pub is_line_blank : ℕ → Bool
-is_line_blank b = list_any (λ c. b == c) (nul_byte ∷ tab ∷ form_feed ∷ space ∷ [])
+is_line_blank b = list_any (λ c. b == c) (codes "\0\t\u{c} ")
 
 abbrev pub blank_after : Bool → List ℕ → Bool
 blank_after blank [] = blank

@@ -5,7 +5,7 @@ use Rattle.std.specs.Option.{option_or}
 use Rattle.std.specs.Char.{digit_value, is_digit}
 use Rattle.std.specs.Int.Digits.{number_from_digits}
 use Rattle.cmap_tokens.specs.Bytes.{is_regular}
-use Rattle.cmap_tokens.specs.Ascii.{hash, plus, minus, dot, letter_e, capital_e}
+use Rattle.cmap_tokens.specs.Ascii.{byte}
 
 -- the value of a number token
 pub data Number : Type 0 where
@@ -32,8 +32,8 @@ digits_value base text = if are_digits base text then Some (digits_number base t
 unfoldable pub integer : List ℕ → Option Number
 integer [] = None
 integer (b ∷ text) =
-    if b == minus then option_map (λ n. number_of (neg_ℤ (pos n))) (digits_value 10 text)
-    else if b == plus then option_map (λ n. number_of (pos n)) (digits_value 10 text)
+    if b == byte "-" then option_map (λ n. number_of (neg_ℤ (pos n))) (digits_value 10 text)
+    else if b == byte "+" then option_map (λ n. number_of (pos n)) (digits_value 10 text)
     else option_map (λ n. number_of (pos n)) (digits_value 10 (b ∷ text))
 
 -- digits in a base from 2 to 36, which is itself spelled in digits
@@ -43,18 +43,15 @@ integer_in_base base digits =
 
 -- 16#1F: a base of one or two digits, and digits of that base
 unfoldable pub radix_integer : List ℕ → Option Number
-radix_integer [] = None
-radix_integer (a ∷ []) = None
-radix_integer (a ∷ b ∷ []) = if b == hash then integer_in_base (a ∷ []) [] else None
-radix_integer (a ∷ b ∷ c ∷ text) =
-    if b == hash then integer_in_base (a ∷ []) (c ∷ text)
-    else if c == hash then integer_in_base (a ∷ b ∷ []) text
+radix_integer text =
+    if get_or text 1 0 == byte "#" then integer_in_base (take 1 text) (drop 2 text)
+    else if get_or text 2 0 == byte "#" then integer_in_base (take 2 text) (drop 3 text)
     else None
 
 -- the text after its sign, if it has one
 abbrev pub without_sign : List ℕ → List ℕ
 without_sign [] = []
-without_sign (b ∷ text) = if b == plus || b == minus then text else b ∷ text
+without_sign (b ∷ text) = if b == byte "+" || b == byte "-" then text else b ∷ text
 
 -- how many digits of a base a text begins with
 abbrev pub digits_len : ℕ → List ℕ → ℕ
@@ -63,12 +60,12 @@ digits_len base text = prefix_len (λ c. is_digit c base) text
 -- e or E, a sign, digits
 abbrev pub is_exponent : List ℕ → Bool
 is_exponent [] = false
-is_exponent (b ∷ text) = (b == letter_e || b == capital_e) && are_digits 10 (without_sign text)
+is_exponent (b ∷ text) = (b == byte "e" || b == byte "E") && are_digits 10 (without_sign text)
 
 -- what stands after the first len digits of a real: a dot, digits, and perhaps an exponent, or else an exponent. A digit stands before or after the dot
 abbrev pub ends_real : ℕ → List ℕ → Bool
 ends_real len text =
-    if get_or text 0 0 == dot then nat_lt 0 (len + digits_len 10 (drop 1 text)) && (length (drop (digits_len 10 (drop 1 text)) (drop 1 text)) == 0 || is_exponent (drop (digits_len 10 (drop 1 text)) (drop 1 text)))
+    if get_or text 0 0 == byte "." then nat_lt 0 (len + digits_len 10 (drop 1 text)) && (length (drop (digits_len 10 (drop 1 text)) (drop 1 text)) == 0 || is_exponent (drop (digits_len 10 (drop 1 text)) (drop 1 text)))
     else nat_lt 0 len && is_exponent text
 
 -- 4.5, -.5e3, 1E9

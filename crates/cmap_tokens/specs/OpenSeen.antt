@@ -1,7 +1,6 @@
 -- Private aid: the ( that are open, while the bytes of a text are passed.
 use Rattle.std.specs.Prelude.{◌≡◌, ◌<◌, ℕ, suc, Bool, List, [], ◌∷◌, length, get_or, drop, Some, None, if◌then◌else◌}
-use Rattle.cmap_tokens.specs.Tokens.{opened}
-use Rattle.cmap_tokens.specs.TokenReading.{text_len}
+use Rattle.cmap_tokens.specs.TokenReading.{text_len, opened}
 use Rattle.cmap_tokens.specs.declared.token.unclosed.Open.{Open}
 
 -- how many of them no backslash stands before

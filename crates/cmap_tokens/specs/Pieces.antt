@@ -1,10 +1,10 @@
 -- The pieces of a text: tokens, and what stands where no token does.
 use Rattle.std.specs.Prelude.{◌≡◌, ◌<◌, ℕ, zero, suc, ◌+◌, nat_le, Bool, true, false, List, [], ◌∷◌, length, get_or, take, drop, Some, None, Result, Ok, Err, if◌then◌else◌}
-use Rattle.cmap_tokens.specs.Ascii.{open_parenthesis}
+use Rattle.cmap_tokens.specs.Ascii.{byte}
 use Rattle.cmap_tokens.specs.Malformed.{Malformed, blank_after, fault_len, malformed_kind, malformed_piece_len}
 use Rattle.cmap_tokens.specs.Scanner.{Cursor, rest_of}
-use Rattle.cmap_tokens.specs.Tokens.{Token, opened}
-use Rattle.cmap_tokens.specs.TokenReading.{first_piece, gap_len, text_len}
+use Rattle.cmap_tokens.specs.Tokens.{Token}
+use Rattle.cmap_tokens.specs.TokenReading.{first_piece, gap_len, text_len, opened}
 
 -- what is wrong with a piece that is no token, and the offset of its fault
 pub record Wrong : Type 0 where
@@ -50,7 +50,7 @@ pieces_left cursor = pieces_within (length (rest_of cursor)) cursor.source curso
 -- ---- aids: the ( that aren't closed
 -- at this index of a text stands a ( that isn't closed
 abbrev pub IsUnclosed : List ℕ → ℕ → Type 0
-IsUnclosed text i = (i < length text) × (get_or text i 0 ≡ open_parenthesis) × (text_len opened (drop (suc i) text) ≡ None)
+IsUnclosed text i = (i < length text) × (get_or text i 0 ≡ byte "(") × (text_len opened (drop (suc i) text) ≡ None)
 
 -- the same of an offset, where the text begins at another one
 abbrev pub IsUnclosedFrom : ℕ → List ℕ → ℕ → Type 0

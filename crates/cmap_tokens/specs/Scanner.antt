@@ -1,7 +1,7 @@
 -- What contracts see of a scanner.
 use Rattle.std.specs.Prelude.{◌≡◌, ℕ, ◌+◌, ◌*◌, option_and_then, option_map, ◌&&◌, ◌==◌, List, length, get_or, take, drop, Option, None, if◌then◌else◌}
 use Rattle.std.specs.Option.{option_or}
-use Rattle.cmap_tokens.specs.Ascii.{less, greater}
+use Rattle.cmap_tokens.specs.Ascii.{byte}
 use Rattle.cmap_tokens.specs.Bytes.{is_white}
 use Rattle.cmap_tokens.specs.Numbers.{digits_value, decimal_front}
 use Rattle.cmap_tokens.specs.Tokens.{Token, Front}
@@ -35,11 +35,11 @@ past len cursor = record { source = cursor.source; passed = cursor.passed + len 
 
 -- a text that begins with one white byte, < four hexadecimal digits >: the number that the digits write
 abbrev pub spaced_two_bytes : List ℕ → Option ℕ
-spaced_two_bytes text = if get_or text 6 0 == greater && get_or text 1 0 == less && is_white (get_or text 0 0) then digits_value 16 (take 4 (drop 2 text)) else None
+spaced_two_bytes text = if get_or text 6 0 == byte ">" && get_or text 1 0 == byte "<" && is_white (get_or text 0 0) then digits_value 16 (take 4 (drop 2 text)) else None
 
 -- the number of the hexadecimal digits that are the first len bytes of a text, which > follows
 abbrev pub closed_number : ℕ → List ℕ → Option ℕ
-closed_number len text = if get_or text len 0 == greater then digits_value 16 (take len text) else None
+closed_number len text = if get_or text len 0 == byte ">" then digits_value 16 (take len text) else None
 
 -- the first count pairs of digits, which > follows: how many, and the number that they write
 abbrev pub closed_pairs : ℕ → List ℕ → Option (ℕ × ℕ)
@@ -51,7 +51,7 @@ short_pairs text = option_or (closed_pairs 1 text) (option_or (closed_pairs 2 te
 
 -- a text that begins with one white byte, < one to four pairs of hexadecimal digits >: how many pairs, and the number that they write
 abbrev pub spaced_pairs : List ℕ → Option (ℕ × ℕ)
-spaced_pairs text = if get_or text 1 0 == less && is_white (get_or text 0 0) then short_pairs (drop 2 text) else None
+spaced_pairs text = if get_or text 1 0 == byte "<" && is_white (get_or text 0 0) then short_pairs (drop 2 text) else None
 
 -- four pairs of hexadecimal digits and so many more, which > follows: how many, and the numbers that the four and the others write
 abbrev pub closed_parts : ℕ → List ℕ → Option (ℕ × ℕ × ℕ)
@@ -59,7 +59,7 @@ closed_parts count text = option_and_then (λ high. option_map (λ low. (4 + cou
 
 -- a text that begins with one white byte, < six or eight pairs of hexadecimal digits >
 abbrev pub spaced_parts : List ℕ → Option (ℕ × ℕ × ℕ)
-spaced_parts text = if get_or text 1 0 == less && is_white (get_or text 0 0) then option_or (closed_parts 2 (drop 2 text)) (closed_parts 4 (drop 2 text)) else None
+spaced_parts text = if get_or text 1 0 == byte "<" && is_white (get_or text 0 0) then option_or (closed_parts 2 (drop 2 text)) (closed_parts 4 (drop 2 text)) else None
 
 -- a text that begins with one white byte, one to 18 decimal digits, and a byte that is not regular: the number that the digits write, and how many they are
 abbrev pub spaced_decimal : List ℕ → Option (ℕ × ℕ)

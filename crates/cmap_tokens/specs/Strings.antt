@@ -1,9 +1,9 @@
 -- The bytes that a string token stands for. PostScript Language Reference, third edition, 3.2.2.
-use Rattle.std.specs.Prelude.{◌≡◌, ℕ, ◌+◌, ◌-◌, ◌*◌, ◌%◌, ◌^◌, ◌<◌, ◌≤◌, ◌||◌, ◌==◌, ◌⊎◌, Bool, false, List, [], ◌∷◌, ◌++◌, length, take, drop, map, filter, IsTrue, if◌then◌else◌}
+use Rattle.std.specs.Prelude.{◌≡◌, ℕ, ◌+◌, ◌-◌, ◌*◌, ◌%◌, ◌^◌, ◌<◌, ◌≤◌, ◌||◌, ◌==◌, ◌⊎◌, Bool, false, List, [], ◌∷◌, ◌++◌, codes, length, take, drop, map, filter, IsTrue, if◌then◌else◌}
 use Rattle.std.specs.Int.Digits.{number_from_digits}
 use Rattle.std.specs.List.{AllByRecursion, list_all}
 use Rattle.std.specs.Char.{digit_value, is_digit}
-use Rattle.cmap_tokens.specs.Ascii.{backspace, tab, line_feed, form_feed, carriage_return, backslash, letter_b, letter_f, letter_n, letter_r, letter_t}
+use Rattle.cmap_tokens.specs.Ascii.{byte}
 use Rattle.cmap_tokens.specs.Bytes.{begins}
 use Rattle.cmap_tokens.specs.Numbers.{are_digits, digits_number}
 use Rattle.cmap_tokens.specs.Tokens.{IsHexString, IsTextString}
@@ -21,36 +21,29 @@ hex_value body = digit_pairs (map digit_value (filter (λ b. is_digit b 16) body
 -- after a backslash: \n \r \t \b \f, and any other byte is itself
 abbrev pub escape_value : ℕ → ℕ
 escape_value c =
-    if c == letter_n then line_feed
-    else if c == letter_r then carriage_return
-    else if c == letter_t then tab
-    else if c == letter_b then backspace
-    else if c == letter_f then form_feed
+    if c == byte "n" then byte "\n"
+    else if c == byte "r" then byte "\r"
+    else if c == byte "t" then byte "\t"
+    else if c == byte "b" then byte "\u{8}"
+    else if c == byte "f" then byte "\u{c}"
     else c
-
--- the text begins with this byte
-abbrev pub begins_with : ℕ → List ℕ → Bool
-begins_with c text = begins (λ b. b == c) text
-
-abbrev pub begins_octal : List ℕ → Bool
-begins_octal text = begins (λ b. is_digit b 8) text
 
 -- CR LF, LF, or a CR that no LF follows
 abbrev pub IsLineEnd : List ℕ → List ℕ → Type 0
-IsLineEnd text next = (text ≡ carriage_return ∷ line_feed ∷ []) ⊎ ((text ≡ line_feed ∷ []) ⊎ ((text ≡ carriage_return ∷ []) × (begins_with line_feed next ≡ false)))
+IsLineEnd text next = (text ≡ codes "\r\n") ⊎ ((text ≡ codes "\n") ⊎ ((text ≡ codes "\r") × (begins (λ b. b == byte "\n") next ≡ false)))
 
 abbrev pub is_line_byte : ℕ → Bool
-is_line_byte b = b == line_feed || b == carriage_return
+is_line_byte b = b == byte "\n" || b == byte "\r"
 
 -- a part of the body of ( .. ), the bytes that it stands for, and what follows it
 pub data IsPart : List ℕ → List ℕ → List ℕ → Type 0 where
-  plain : (b : ℕ) (next : List ℕ) → b == backslash || is_line_byte b ≡ false → IsPart (b ∷ []) (b ∷ []) next
-  line_end : (text next : List ℕ) → IsLineEnd text next → IsPart text (line_feed ∷ []) next
-  escaped : (c : ℕ) (next : List ℕ) → is_digit c 8 || is_line_byte c ≡ false → IsPart (backslash ∷ c ∷ []) (escape_value c ∷ []) next
+  plain : (b : ℕ) (next : List ℕ) → b == byte "\\" || is_line_byte b ≡ false → IsPart (b ∷ []) (b ∷ []) next
+  line_end : (text next : List ℕ) → IsLineEnd text next → IsPart text (byte "\n" ∷ []) next
+  escaped : (c : ℕ) (next : List ℕ) → is_digit c 8 || is_line_byte c ≡ false → IsPart (byte "\\" ∷ c ∷ []) (escape_value c ∷ []) next
   -- three octal digits, or fewer where no further one follows
-  octal : (digits next : List ℕ) → IsTrue (are_digits 8 digits) → length digits ≤ 3 → (length digits ≡ 3) ⊎ (begins_octal next ≡ false) → IsPart (backslash ∷ digits) (digits_number 8 digits % 256 ∷ []) next
+  octal : (digits next : List ℕ) → IsTrue (are_digits 8 digits) → length digits ≤ 3 → (length digits ≡ 3) ⊎ (begins (λ b. is_digit b 8) next ≡ false) → IsPart (byte "\\" ∷ digits) (digits_number 8 digits % 256 ∷ []) next
   -- a backslash before the end of a line takes it away
-  continued : (text next : List ℕ) → IsLineEnd text next → IsPart (backslash ∷ text) [] next
+  continued : (text next : List ℕ) → IsLineEnd text next → IsPart (byte "\\" ∷ text) [] next
 
 -- the body of ( .. ) is these parts, each with its bytes, and stands for all their bytes
 abbrev pub IsCut : List (List ℕ × List ℕ) → List ℕ → List ℕ → Type 0

@@ -3,30 +3,38 @@ use Rattle.std.specs.Prelude.{zero, suc, ◌^◌, nat_lt, ◌%◌, ◌++◌, len
 use Rattle.std.specs.List.{prefix_len}
 use Rattle.std.specs.Option.{option_map_or, option_to_list}
 use Rattle.std.specs.Char.{digit_value, is_digit}
-use Rattle.cmap_tokens.specs.Ascii.{dot, minus, plus, line_feed, carriage_return, backslash, percent, open_parenthesis, slash, less, greater}
-use Rattle.cmap_tokens.specs.Bytes.{is_white, is_regular}
+use Rattle.cmap_tokens.specs.Ascii.{byte}
+use Rattle.cmap_tokens.specs.Bytes.{begins, is_white, is_regular}
 use Rattle.cmap_tokens.specs.Gaps.{ends_comment}
-use Rattle.cmap_tokens.specs.Tokens.{Token, Name, String, Inside, after_byte, opened, is_bracket, is_hex_body, name_or_number}
+use Rattle.cmap_tokens.specs.Tokens.{Token, Name, String, Inside, after_byte, is_bracket, is_hex_body, name_or_number}
 use Rattle.cmap_tokens.specs.Numbers.{digits_len, digits_number}
-use Rattle.cmap_tokens.specs.Strings.{begins_with, digit_pairs, escape_value, hex_value, inside}
+use Rattle.cmap_tokens.specs.Strings.{digit_pairs, escape_value, hex_value, inside}
 
 -- one more, where there is a count
 abbrev pub one_more : Option ℕ → Option ℕ
 one_more count = option_map (λ n. 1 + n) count
 
+-- the text begins with this byte
+abbrev pub begins_with : ℕ → List ℕ → Bool
+begins_with c text = begins (λ b. b == c) text
+
 -- how many bytes of white space and comments a text begins with, where a comment is open or not
 abbrev pub gap_len : Bool → List ℕ → ℕ
 gap_len in_comment [] = 0
 gap_len true (b ∷ text) = 1 + gap_len (not (ends_comment b)) text
-gap_len false (b ∷ text) = if b == percent then 1 + gap_len true text else if is_white b then 1 + gap_len false text else 0
+gap_len false (b ∷ text) = if b == byte "%" then 1 + gap_len true text else if is_white b then 1 + gap_len false text else 0
 
 -- a byte that lies above those that end a comment
 abbrev pub is_plain : ℕ → Bool
-is_plain b = nat_lt carriage_return b
+is_plain b = nat_lt (byte "\r") b
 
 -- how many bytes up to and including >, where only digits and white bytes stand before it
 abbrev pub hex_len : List ℕ → Option ℕ
-hex_len text = if get_or text (prefix_len is_hex_body text) 0 == greater then Some (1 + prefix_len is_hex_body text) else None
+hex_len text = if get_or text (prefix_len is_hex_body text) 0 == byte ">" then Some (1 + prefix_len is_hex_body text) else None
+
+-- after the (
+abbrev pub opened : Option Inside
+opened = Some (record { escaped = false; depth = 1 })
 
 -- how many bytes up to and including the ) that closes the first parenthesis
 abbrev pub text_len : Option Inside → List ℕ → Option ℕ
@@ -38,8 +46,8 @@ text_len (Some state) (b ∷ text) = one_more (text_len (after_byte state b) tex
 abbrev pub string_len : List ℕ → Option ℕ
 string_len [] = None
 string_len (b ∷ text) =
-    if b == less then one_more (hex_len text)
-    else if b == open_parenthesis then one_more (text_len opened text)
+    if b == byte "<" then one_more (hex_len text)
+    else if b == byte "(" then one_more (text_len opened text)
     else None
 
 -- the string of the first len bytes, where there is one, and how many these are
@@ -52,19 +60,19 @@ first_piece [] = None
 first_piece (b ∷ text) =
     if is_regular b then Some (name_or_number (take (prefix_len is_regular (b ∷ text)) (b ∷ text)), prefix_len is_regular (b ∷ text))
     else if is_bracket b then Some (Name false (b ∷ []), 1)
-    else if b == slash then Some (Name true (take (prefix_len is_regular text) text), 1 + prefix_len is_regular text)
-    else if b == less then (if begins_with less text then Some (Name false (codes "<<"), 2) else string_of (b ∷ text) (string_len (b ∷ text)))
-    else if b == greater then (if begins_with greater text then Some (Name false (codes ">>"), 2) else None)
-    else if b == open_parenthesis then string_of (b ∷ text) (string_len (b ∷ text))
+    else if b == byte "/" then Some (Name true (take (prefix_len is_regular text) text), 1 + prefix_len is_regular text)
+    else if b == byte "<" then (if begins_with (byte "<") text then Some (Name false (codes "<<"), 2) else string_of (b ∷ text) (string_len (b ∷ text)))
+    else if b == byte ">" then (if begins_with (byte ">") text then Some (Name false (codes ">>"), 2) else None)
+    else if b == byte "(" then string_of (b ∷ text) (string_len (b ∷ text))
     else None
 
 -- how many bytes stand before the first one that shows that no token comes, where a text begins with none: all of them, where none shows it. Stops says which byte that is
 abbrev pub malformed_len : List ℕ → ℕ
 malformed_len [] = 0
 malformed_len (b ∷ text) =
-    if b == less then 1 + prefix_len is_hex_body text
-    else if b == greater then 1
-    else if b == open_parenthesis then 1 + length text
+    if b == byte "<" then 1 + prefix_len is_hex_body text
+    else if b == byte ">" then 1
+    else if b == byte "(" then 1 + length text
     else 0
 
 -- the digits of a hexadecimal string, and their bytes after a digit that waits for its second
@@ -85,14 +93,14 @@ octal text = (digits_number 8 (take (octal_len text) text) % 256, octal_len text
 
 -- how many bytes a line end takes that begins with a carriage return: CR LF, or CR alone
 abbrev pub return_len : List ℕ → ℕ
-return_len text = if begins_with line_feed text then 2 else 1
+return_len text = if begins_with (byte "\n") text then 2 else 1
 
 -- what stands after a backslash: the byte that is meant, if any, and how many bytes tell it. The end of a line is taken away
 unfoldable pub escape : List ℕ → Option ℕ × ℕ
 escape [] = (None, 0)
 escape (c ∷ text) =
-    if c == carriage_return then (None, return_len text)
-    else if c == line_feed then (None, 1)
+    if c == byte "\r" then (None, return_len text)
+    else if c == byte "\n" then (None, 1)
     else if is_digit c 8 then (Some (octal (c ∷ text)).0, (octal (c ∷ text)).1)
     else (Some (escape_value c), 1)
 
@@ -100,8 +108,8 @@ escape (c ∷ text) =
 unfoldable pub first_part : List ℕ → Option ℕ × ℕ
 first_part [] = (None, 0)
 first_part (b ∷ text) =
-    if b == backslash then ((escape text).0, 1 + (escape text).1)
-    else if b == carriage_return then (Some line_feed, return_len text)
+    if b == byte "\\" then ((escape text).0, 1 + (escape text).1)
+    else if b == byte "\r" then (Some (byte "\n"), return_len text)
     else (Some b, 1)
 
 -- the bytes of the first n parts
@@ -117,7 +125,7 @@ text_value body = parts_value (length body) body
 abbrev pub is_paired : Bool → List ℕ → Bool
 is_paired escaped [] = not escaped
 is_paired true (b ∷ text) = is_paired false text
-is_paired false (b ∷ text) = is_paired (b == backslash) text
+is_paired false (b ∷ text) = is_paired (b == byte "\\") text
 
 -- the text is a string and nothing more
 unfoldable pub is_string : List ℕ → Bool
@@ -125,7 +133,7 @@ is_string text = option_map_or (λ n. n == length text) (string_len text) false
 
 -- the bytes of a string, by its first bracket
 abbrev pub value_by_bracket : List ℕ → List ℕ
-value_by_bracket piece = if get_or piece 0 0 == less then hex_value (inside piece) else text_value (inside piece)
+value_by_bracket piece = if get_or piece 0 0 == byte "<" then hex_value (inside piece) else text_value (inside piece)
 
 -- the value of a piece, where it is a string
 unfoldable pub string_value : List ℕ → Option (List ℕ)
@@ -134,7 +142,7 @@ string_value piece = if is_string piece then Some (value_by_bracket piece) else 
 -- ---- digits that are tested at the end
 -- a byte that a number may begin with
 abbrev pub begins_number : ℕ → Bool
-begins_number b = is_digit b 10 || b == plus || b == minus || b == dot
+begins_number b = is_digit b 10 || b == byte "+" || b == byte "-" || b == byte "."
 
 -- the value of a digit of a base, and for any other byte more than eight digits write
 abbrev pub weight : ℕ → ℕ → ℕ

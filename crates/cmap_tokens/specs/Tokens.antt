@@ -3,7 +3,7 @@ use Rattle.std.specs.Prelude.{◌≡◌, ℕ, ◌+◌, ◌-◌, ◌<◌, ◌||�
 use Rattle.std.specs.List.{list_any, list_all}
 use Rattle.std.specs.Option.{option_map_or}
 use Rattle.std.specs.Char.{is_digit}
-use Rattle.cmap_tokens.specs.Ascii.{open_parenthesis, close_parenthesis, slash, less, greater, backslash}
+use Rattle.cmap_tokens.specs.Ascii.{byte}
 use Rattle.cmap_tokens.specs.Bytes.{begins, is_white, is_regular}
 use Rattle.cmap_tokens.specs.Gaps.{IsGap, IsBlank}
 use Rattle.cmap_tokens.specs.Numbers.{Number, numeral}
@@ -36,7 +36,7 @@ is_hex_body b = is_white b || is_digit b 16
 
 -- < digits >, white bytes among them
 abbrev pub IsHexString : List ℕ → Type 0
-IsHexString piece = (body : List ℕ) × (piece ≡ less ∷ body ++ greater ∷ []) × IsTrue (list_all is_hex_body body)
+IsHexString piece = (body : List ℕ) × (piece ≡ byte "<" ∷ body ++ byte ">" ∷ []) × IsTrue (list_all is_hex_body body)
 
 -- the state within ( .. ): whether the last byte is a backslash that escapes the next one, and how many parentheses are open
 pub record Inside : Type 0 where
@@ -47,9 +47,9 @@ pub record Inside : Type 0 where
 abbrev pub after_byte : Inside → ℕ → Option Inside
 after_byte state b =
     if state.escaped then Some (record { escaped = false; depth = state.depth })
-    else if b == backslash then Some (record { escaped = true; depth = state.depth })
-    else if b == open_parenthesis then Some (record { escaped = false; depth = state.depth + 1 })
-    else if b == close_parenthesis then (if state.depth == 1 then None else Some (record { escaped = false; depth = state.depth - 1 }))
+    else if b == byte "\\" then Some (record { escaped = true; depth = state.depth })
+    else if b == byte "(" then Some (record { escaped = false; depth = state.depth + 1 })
+    else if b == byte ")" then (if state.depth == 1 then None else Some (record { escaped = false; depth = state.depth - 1 }))
     else Some (record { escaped = false; depth = state.depth })
 
 -- from this state the first parenthesis is closed by the last byte, and not before
@@ -58,13 +58,9 @@ closes_at_end None bytes = length bytes == 0
 closes_at_end (Some state) [] = false
 closes_at_end (Some state) (b ∷ bytes) = closes_at_end (after_byte state b) bytes
 
--- after the (
-abbrev pub opened : Option Inside
-opened = Some (record { escaped = false; depth = 1 })
-
 -- ( .. ), balanced at its last byte
 abbrev pub IsTextString : List ℕ → Type 0
-IsTextString piece = (bytes : List ℕ) × (piece ≡ open_parenthesis ∷ bytes) × IsTrue (closes_at_end opened bytes)
+IsTextString piece = (bytes : List ℕ) × (piece ≡ byte "(" ∷ bytes) × IsTrue (closes_at_end (Some (record { escaped = false; depth = 1 })) bytes)
 
 -- a string with its brackets
 abbrev pub IsString : List ℕ → Type 0
@@ -74,24 +70,20 @@ IsString piece = IsHexString piece ⊎ IsTextString piece
 abbrev pub IsToken : List ℕ → Token → Type 0
 IsToken piece token =
     (IsRegularRun piece × (token ≡ name_or_number piece))
-    ⊎ (((name : List ℕ) × (piece ≡ slash ∷ name) × IsTrue (list_all is_regular name) × (token ≡ Name true name))
+    ⊎ (((name : List ℕ) × (piece ≡ byte "/" ∷ name) × IsTrue (list_all is_regular name) × (token ≡ Name true name))
     ⊎ ((IsBracket piece × (token ≡ Name false piece))
     ⊎ (IsString piece × (token ≡ String piece))))
 
--- a regular byte comes next
-abbrev pub begins_regular : List ℕ → Bool
-begins_regular text = begins is_regular text
-
 -- what a name or a number begins with: a regular byte or /
 abbrev pub begins_name : List ℕ → Bool
-begins_name text = begins (λ b. is_regular b || b == slash) text
+begins_name text = begins (λ b. is_regular b || b == byte "/") text
 
 -- the text is a gap, then a piece that is this token and as long as can be, then the rest
 pub record Front (text gap piece : List ℕ) (token : Token) (rest : List ℕ) : Type 0 where
   pub whole : text ≡ gap ++ piece ++ rest
   pub gap_is : IsGap gap
   pub piece_is : IsToken piece token
-  pub longest : IsTrue (begins_name piece) → begins_regular rest ≡ false
+  pub longest : IsTrue (begins_name piece) → begins is_regular rest ≡ false
 
 -- a token comes next in the text
 abbrev pub HasFront : List ℕ → Type 0

@@ -88,7 +88,7 @@ impl<'a> StringToken<'a> {
     ghost use Rattle.std.specs.Prelude.{◌≡◌, ◌↔◌, ◌<◌, ◌≤◌, ◌^◌, ◌==◌, ℕ, List, get_or, length, vec_capacity, is_some, IfSome, IsTrue, IsOk, OnOk, OnErr};
     ghost use Rattle.std.specs.Int.Digits.{number_from_digits};
     ghost use Rattle.std.specs.List.{AllByRecursion};
-    ghost use Rattle.cmap_tokens.specs.Ascii.{less};
+    ghost use Rattle.cmap_tokens.specs.Ascii.{byte};
     ghost use Rattle.cmap_tokens.specs.Strings.{IsValue, IsOnlyValue, IsPlain, inside};
     ghost use Rattle.cmap_tokens.specs.TokenSeen.{string_raw};
 
@@ -143,7 +143,7 @@ impl<'a> StringToken<'a> {
 
     /// Whether it stands between `<` and `>`, and not in parentheses.
     fn is_hexadecimal(&self) -> bool
-        ensures { result ≡ (get_or (string_raw self.now) 0 0 == less) }
+        ensures { result ≡ (get_or (string_raw self.now) 0 0 == byte "<") }
     {
         matches!(self.raw, [b'<', ..])
     }
@@ -210,7 +210,7 @@ impl<'a> Model for Scanner<'a> {
 }
 
 impl<'a> Scanner<'a> {
-    ghost use Rattle.cmap_tokens.specs.Ascii.{greater};
+    ghost use Rattle.cmap_tokens.specs.Ascii.{byte};
     ghost use Rattle.std.specs.Prelude.{◌≡◌, ◌==◌, get_or, ℕ, ◌↔◌, ◌+◌, ◌*◌, ◌%◌, ◌<◌, ◌≤◌, ◌^◌, List, [], false, true, length, None, Some, Ok, pos, IfOk, IfSome, IsErr, MatchOption, MatchResult, OnErr};
     ghost use Rattle.cmap_tokens.specs.Gaps.{IsBlank};
     ghost use Rattle.cmap_tokens.specs.Tokens.{HasNoFront, IsMalformed};
@@ -273,7 +273,7 @@ impl<'a> Scanner<'a> {
     /// Whether a `>` stands where the string ends that `next_two_bytes` reads, as it does in most files.
     #[inline(always)]
     pub fn may_have_two_bytes(&self) -> bool
-        ensures { result ≡ (get_or (rest_of self.now) 6 0 == greater) }
+        ensures { result ≡ (get_or (rest_of self.now) 6 0 == byte ">") }
     {
         matches!(&self.source[self.offset..], [_, _, _, _, _, _, b'>', ..])
     }

@@ -1,5 +1,5 @@
 -- What contracts see of the name of a CMap: its bytes and its index among the known names.
-use Rattle.std.specs.Prelude.{◌≡◌, ℕ, List, ◌⊎◌, codes, Option, None}
+use Rattle.std.specs.Prelude.{◌≡◌, ℕ, Bool, true, false, List, ◌⊎◌, codes, Option, None, IsTrue}
 use Rattle.std.specs.Borrow.{Bor}
 use Rattle.cmap_values.specs.Names.{index_of_text}
 use Rattle.cmap_values.specs.declared.names.CMapName.{CMapName}
@@ -79,9 +79,13 @@ abbrev pub index_of_name : CMapName → Option ℕ
 index_of_name (Custom bytes) = None
 index_of_name name = index_of_text (name_bytes name)
 
--- the name that stands for a text: it is custom only where the text isn't that of a known name
+abbrev pub is_custom : CMapName → Bool
+is_custom (Custom bytes) = true
+is_custom name = false
+
+-- the name that stands for a text: it is custom only if every name with this text is
 abbrev pub IsNameOf : List ℕ → CMapName → Type 0
-IsNameOf text name = (name_bytes name ≡ text) × (index_of_name name ≡ index_of_text text)
+IsNameOf text name = (name_bytes name ≡ text) × (IsTrue (is_custom name) → (other : CMapName) → name_bytes other ≡ text → IsTrue (is_custom other))
 
 -- one name, wherever the text of a custom one lies
 abbrev pub IsSameName : CMapName → CMapName → Type 0

@@ -238,6 +238,9 @@ impl<'a> CMapName<'a> {
     pub fn from_bytes(bytes: &'a [u8]) -> CMapName<'a>
         ensures name { IsNameOf bytes.now result }
 
+        // Its index is that of the text.
+        ensures index { index_of_name result ≡ index_of_text bytes.now }
+
         // A text has one name.
         ensures only { (other : CMapName) → IsNameOf bytes.now other → IsSameName other result }
     {

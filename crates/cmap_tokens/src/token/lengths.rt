@@ -3,7 +3,8 @@
 ghost use Rattle.std.specs.Prelude.{◌≡◌, ◌+◌, ◌≤◌, length, IfSome};
 ghost use Rattle.std.specs.List.{prefix_len};
 ghost use Rattle.cmap_tokens.specs.Bytes.{is_regular};
-ghost use Rattle.cmap_tokens.specs.Tokens.{is_hex_body, opened};
+ghost use Rattle.cmap_tokens.specs.Tokens.{is_hex_body};
+ghost use Rattle.cmap_tokens.specs.TokenReading.{opened};
 ghost use Rattle.cmap_tokens.specs.TokenReading as reading;
 
 use super::byte_class::{digit_value, is_regular, is_white};

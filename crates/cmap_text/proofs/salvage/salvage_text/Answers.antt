@@ -4,7 +4,8 @@ use Rattle.cmap_values.specs.Files.{File}
 use Rattle.cmap_values.specs.MetadataSeen.{metadata_seen}
 use Rattle.cmap_values.specs.Only.{HoldsOfNone, IsOnly}
 use Rattle.cmap_text.specs.Salvage.{BeginsRefused, KeepsFronts, Salvaged, salvaged}
-use Rattle.cmap_text.specs.TextFiles.{IsMetadata, IsTextFile}
+use Rattle.cmap_text.specs.TextFiles.{IsTextFile}
+use Rattle.cmap_text.specs.TextReading.{AreSaid}
 use Rattle.cmap_text.specs.Standing.{AreDeclared}
 use Rattle.cmap_text.proofs.Declared.{salvaged_declared}
 use Rattle.cmap_text.proofs.FaultPlaces.{salvaged_ascends}
@@ -18,7 +19,7 @@ returns c =
     let metadata = metadata_seen c.in_ok-metadata.metadata in
     let same = c.in_ok-found.ensures in
     let only = c.in_ok-metadata.ensures in
-    let values : IsOnly (IsMetadata (salvaged text).said.values) metadata = subst (λ s. IsOnly (IsMetadata s.said.values) metadata) same only in
+    let values : IsOnly (AreSaid (salvaged text).said.values) metadata = subst (λ s. IsOnly (AreSaid s.said.values) metadata) same only in
     let Gives : Salvaged → Type 0 = λ s. (file : File) → IsTextFile text file → (record { metadata = metadata; lists = s.said.lists; uses = s.said.uses } ≡ file) × (s.faults ≡ []) in
     let Ordered : Salvaged → Type 0 = λ s. Ascend 0 s.faults (length text) in
     let Keeps : Salvaged → Type 0 = λ s. KeepsFronts text s.faults s.said.lists s.said.uses in

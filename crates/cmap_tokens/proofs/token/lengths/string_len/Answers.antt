@@ -1,7 +1,6 @@
 use Rattle.std.proofs.Common.{◌≡◌, get_or, sym, ap, ◌∙◌, arith}
 use Rattle.std.proofs.lemmas.List.{get_or_past, take_rest}
-use Rattle.cmap_tokens.specs.Tokens.{opened}
-use Rattle.cmap_tokens.specs.TokenReading.{one_more, hex_len, text_len}
+use Rattle.cmap_tokens.specs.TokenReading.{one_more, hex_len, text_len, opened}
 use Rattle.cmap_tokens.proofs.FirstBytes.{hex_string_len, no_string_len, rest_within, text_string_len}
 use Rattle.cmap_tokens.proofs.token.lengths.string_len.Goals as goal
 

@@ -1,7 +1,6 @@
 use Rattle.std.proofs.Common.{◌≡◌, ◌+◌, ◌<◌, ◌≤◌, drop, Some}
 use Rattle.std.specs.Prelude.{option_map}
-use Rattle.cmap_tokens.specs.Tokens.{opened}
-use Rattle.cmap_tokens.specs.TokenReading.{text_len}
+use Rattle.cmap_tokens.specs.TokenReading.{text_len, opened}
 use Rattle.cmap_tokens.proofs.token.lengths.text_len.Given as goal
 
 abbrev pub invariant-loop-i : goal.invariant-loop-i
