@@ -30,7 +30,7 @@ use Rattle.cmap_maker.proofs.TextsAmid.{behind_unmarked, text_before, text_behin
 
 -- ---- layers that answer alike
 none_alike : AnswerAlike [] []
-none_alike = record { cids = λ code len. refl; declared = λ code len. refl; texts = λ code. refl; spaces = refl }
+none_alike = record { cids = λ code len. refl; declared = λ code len. refl; texts = λ code. refl; metadata = refl; spaces = refl }
 
 -- a file keeps itself
 kept_itself : (file : File) → Keeps file file
@@ -91,7 +91,7 @@ module _ (given : Option PrefixTables) (tables : PrefixTables) (free : ArePrefix
         let same : magic ++ (1 ∷ rest) ≡ no_file_bytes = sym begins ∙ none in
         let version : 1 ≡ 0 = ap (λ l. get_or l 5 0) same in
         omega (arith, version)
-    | inr (unsayable, (text, text_is, (size, spaces, begins, plain, white, framed))) ↦
+    | inr (unsayable, (text, text_is, (size, spaces, begins, plain, white, framed, four))) ↦
         let same : (codes "% text" ++ size) ++ (10 ∷ (text.now ++ spaces)) ≡ no_file_bytes = sym begins ∙ none in
         let first : 37 ≡ 98 = ap (λ l. get_or l 0 0) same in
         omega (arith, first)

@@ -103,7 +103,7 @@ no_file_framed rest = FramedAt-written (codes "bcmap" ++ 0 ∷ []) [] no_file_by
 
 slot_framed : (tables : PrefixTables) (s : Slot) (text : List ℕ) → IsSlotWritten tables s text → IsFramedFile text
 slot_framed tables (slot.File p) text written = written.1
-slot_framed tables (slot.Text t) text ((size, spaces, is, small, blank, framed), short) = framed
+slot_framed tables (slot.Text t) text ((size, spaces, is, small, blank, framed, four), short) = framed
 slot_framed tables slot.Absent text written = subst IsFramedFile (sym written) no_file_framed
 
 pub slots_written_none : (tables : PrefixTables) (old : List ℕ) → SlotsWrittenTo tables [] old old

@@ -70,7 +70,7 @@ front_gap : (size : List ℕ) → All (λ b. ends_comment b ≡ false) size → 
 front_gap size plain = comments_join true true size (10 ∷ []) (comment_stays size plain)
 
 tokens_behind : (text bytes : List ℕ) → IsTextBehind text bytes → (tokens : List Token) → Tokens text tokens → Tokens bytes tokens
-tokens_behind text bytes (size, spaces, is, plain, white, framed) tokens has =
+tokens_behind text bytes (size, spaces, is, plain, white, framed, four) tokens has =
     subst (λ b. Tokens b tokens) (append_assoc (codes "% text" ++ size) (10 ∷ []) (text ++ spaces) ∙ sym is) (tokens_amid tokens ((codes "% text" ++ size) ++ 10 ∷ []) text spaces (front_gap size plain) white has)
 
 one_list : (bytes : List ℕ) (tokens others : List Token) → Tokens bytes tokens → Tokens bytes others → tokens ≡ others
@@ -89,7 +89,7 @@ text_before text bytes behind known (its, all, has_its, reads, names, says, decl
 
 -- it is no binary file
 pub behind_unmarked : (text bytes : List ℕ) → IsTextBehind text bytes → IsMarkedBinary bytes → ⊥
-behind_unmarked text bytes (size, spaces, is, plain, white, framed) (rest, marked) =
+behind_unmarked text bytes (size, spaces, is, plain, white, framed, four) (rest, marked) =
     let same : (codes "% text" ++ size) ++ (10 ∷ (text ++ spaces)) ≡ codes "bcmap" ++ rest = sym is ∙ marked in
     let first : 37 ≡ 98 = ap (λ l. get_or l 0 0) same in
     omega (arith, first)

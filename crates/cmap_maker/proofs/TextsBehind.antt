@@ -1,5 +1,5 @@
 -- A text behind a comment that holds its length.
-use Rattle.std.proofs.Common.{◌≡◌, ℕ, zero, suc, ◌+◌, ◌/◌, ◌%◌, ◌^◌, ◌<◌, List, [], ◌∷◌, ◌++◌, get_or, length, false, ap, ◌∙◌, arith}
+use Rattle.std.proofs.Common.{◌≡◌, ℕ, zero, suc, ◌+◌, ◌/◌, ◌%◌, ◌^◌, ◌<◌, List, [], ◌∷◌, ◌++◌, get_or, length, false, ap, refl, ◌∙◌, arith}
 use Rattle.std.specs.Prelude.{codes}
 use Rattle.std.specs.Int.{to_be_bytes, w32}
 use Rattle.std.specs.List.{All}
@@ -17,7 +17,7 @@ behind text spaces payload old new is blank ends (bytes, new_is, framed) =
     let size = bytes_of 4 (10 + length payload) in (
       bytes,
       new_is,
-      (size, spaces, framed.bytes_are ∙ ap (λ p. (text_head ++ size) ++ p) is, ends, blank, λ rest. FramedAt-written text_head payload bytes rest framed),
+      (size, spaces, framed.bytes_are ∙ ap (λ p. (text_head ++ size) ++ p) is, ends, blank, λ rest. FramedAt-written text_head payload bytes rest framed, refl),
     )
 
 -- the four bytes of a number

@@ -35,9 +35,9 @@ abbrev pub source_at : List Source → ℕ → Option Source
 source_at [] place = None
 source_at (source ∷ sources) place = if is_index (index_of_name source.name) place then Some source else source_at sources place
 
--- a comment, the text, and spaces
+-- a comment with a length in four bytes, the text, and spaces
 abbrev pub IsTextBehind : List ℕ → List ℕ → Type 0
-IsTextBehind text bytes = (size : List ℕ) × (spaces : List ℕ) × (bytes ≡ (codes "% text" ++ size) ++ (10 ∷ (text ++ spaces))) × All (λ b. ends_comment b ≡ false) size × All (λ b. b ≡ 32) spaces × IsFramedFile bytes
+IsTextBehind text bytes = (size : List ℕ) × (spaces : List ℕ) × (bytes ≡ (codes "% text" ++ size) ++ (10 ∷ (text ++ spaces))) × All (λ b. ends_comment b ≡ false) size × All (λ b. b ≡ 32) spaces × IsFramedFile bytes × (length size ≡ 4)
 
 -- something stands in the way of the file in the binary form
 abbrev pub IsUnsayable : File → Type 0

@@ -25,8 +25,8 @@ module _ (list : List CidRange) (runs : List Run) (are : AreRuns (map cid_range_
     run_within = run_contained cid_range_span cid_entry_seen cid_span cid_at (λ x. refl) list runs are i low high index e at there
 
     -- where the CID of its last code is large
-    pub large_given : 2 ^ 16 ≤ e.cid + (high - e.range.start) → (low ≤ high) × IsSomeAnd (cid_told (entries_seen list) high) IsLargeCid
-    large_given past = (run_within.1, subst (λ o. IsSomeAnd o IsLargeCid) (sym (run_told cid_range_span cid_entry_seen cid_span cid_at (λ x. refl) list runs are i low high index high e at there run_within.1 (omega arith))) (large_cid (e.cid + (high - e.range.start)) (nat_lt (e.cid + (high - e.range.start)) (2 ^ 32)) past))
+    pub large_given : 2 ^ 16 ≤ e.cid + (high - e.range.start) → IsSomeAnd (cid_told (entries_seen list) high) IsLargeCid
+    large_given past = subst (λ o. IsSomeAnd o IsLargeCid) (sym (run_told cid_range_span cid_entry_seen cid_span cid_at (λ x. refl) list runs are i low high index high e at there run_within.1 (omega arith))) (large_cid (e.cid + (high - e.range.start)) (nat_lt (e.cid + (high - e.range.start)) (2 ^ 32)) past)
 
     module _ (part : CidRange) (range : Range) (low_is : range.start ≡ low) (high_is : range.end ≡ high) (range_is : part.range ≡ range) (cid_is : part.cid ≡ e.cid + (range.start - e.range.start)) where
       start_is : part.range.start ≡ low

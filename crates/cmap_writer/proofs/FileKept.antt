@@ -143,6 +143,7 @@ same_answers lists made keep m below others alike = record {
   texts = λ code.
       same_decided_text lists made keep code (last_bf made.bfs code) (last_bf lists.bfs code) (bf_of others code) (keep.bfs code)
       ∙ ap (decided_text code (last_bf lists.bfs code)) (alike.texts code);
+  metadata = ap (λ all. m ∷ all) alike.metadata;
   spaces = rw (keep.spaces, alike.spaces) refl;
 }
 

@@ -43,7 +43,7 @@ one_short (Some e) code p told short long = omega (arith, short.0.2, long, ap le
 
 -- no text is too long, and no run of codes
 pub no_text : (file : File) (prepared : Prepared) → IsArranged file prepared → (range : Range) → IsObstacle file (Text range) → ⊥
-no_text file prepared is range (inl (filled, long)) =
+no_text file prepared is range (inl (run, long)) =
     let es = file.lists.bfs in
     let are = is.text_entries in
     let code = range.start in
@@ -69,7 +69,7 @@ there P None h = absurd h
 there P (Some x) h = refl
 
 none_given : (len : ℕ) (es made : List CidEntry) → AreCidEntries len es made → (range : Range) → GivesLargeCid es range → ⊥
-none_given len es made are range (filled, large) =
+none_given len es made are range (run, large) =
     let code = range.end in
     let (k, r, within, here, has) = are.said.1 code (there IsLargeCid (cid_told es code) large) in
     one_small r code (at_one CanBeSplit are.ranges k r within here are.small) has (told_small (cid_told es code) (cid_at r code) (at_one (SaysAs cid_span cid_at es) are.ranges k r within here are.said.0 code has) large)

@@ -3,7 +3,8 @@ use Rattle.std.proofs.Common.{◌≡◌, ◌∙◌, ℕ, ◌<◌, ◌≤◌, ◌
 use Rattle.std.specs.Prelude.{All, Any, Contains, IfErr, IfOk, IsErrAnd, IsSomeAnd, Option, Result, option_map}
 use Rattle.std.proofs.lemmas.List.{get_or-map, length-map, map-append}
 use Rattle.std.proofs.lemmas.Option.{none-some, same_Some}
-use Rattle.cmap_values.specs.DeclarationsSeen.{bf_entry_seen, cid_entry_seen, codespace_seen, entries_seen}
+use Rattle.cmap_runs.specs.Ranges.{runs_of}
+use Rattle.cmap_values.specs.DeclarationsSeen.{bf_entry_seen, bf_range_span, cid_entry_seen, codespace_seen, entries_seen}
 use Rattle.cmap_values.specs.Files as files
 use Rattle.std.proofs.Common.{zero, suc, ◌+◌, ◌*◌, [], ◌∷◌}
 use Rattle.std.proofs.lemmas.Bool.{cases_lt}
@@ -28,12 +29,14 @@ use Rattle.cmap_writer.specs.Spelled.{IsNoSymbol}
 use Rattle.cmap_writer.specs.Pieces.{AllSayAs, SaysAs}
 use Rattle.cmap_writer.specs.TextParts.{IsDecidedText, units_at, units_from}
 use Rattle.cmap_writer.specs.Texts.{IsLongTextIn}
+use Rattle.cmap_writer.specs.Weights.{run_span}
 use Rattle.cmap_writer.specs.declared.obstacle.Obstacle.TheVariants.{CustomFamily, LargeCid, LargeCode, NoWord, Supplement, Text, TooLong, ZeroByte}
 use Rattle.cmap_writer.specs.declared.obstacle.Obstacle.{Obstacle}
 use Rattle.cmap_writer.specs.declared.prepared.Prepared.{Prepared}
 use Rattle.cmap_writer.specs.declared.segments.Segment.{Segment}
 use Rattle.cmap_writer.proofs.NumbersWritten.{length_counts_by, length_deltas_of}
 use Rattle.cmap_writer.proofs.TextParts.{text_has, units_first}
+use Rattle.cmap_writer.proofs.TextPartsSeen.{run_of_range}
 use Rattle.cmap_writer.proofs.Told.{Any-left, Any-right}
 
 -- what holds of an element of a part
@@ -100,15 +103,15 @@ some_told f P (Some a) b is p = subst P (sym (same_Some (f a) b is)) p
 element : (P : BfEntry → Type 0) (ranges : List BfRange) (k : ℕ) (e : BfRange) → k < length ranges → get_or ranges k e ≡ e → All P (map bf_entry_seen ranges) → P (bf_entry_seen e)
 element P ranges k e within is all = subst (λ r. P (bf_entry_seen r)) is (subst P (get_or-map bf_entry_seen ranges k e (bf_entry_seen e) within) (all k (bf_entry_seen e) (omega (arith, within, length-map ranges bf_entry_seen))))
 
-pub long_text : (es : List BfEntry) (ranges : List BfRange) → All IsDecidedText (map bf_entry_seen ranges) → AllSayAs bf_span units_at es (map bf_entry_seen ranges) → (fault : Fault Obstacle) → IsLongTextIn ranges fault → RefusesWith (IsTextObstacle es) fault
-long_text es ranges small say (Refused (Text range)) (k, e, within, is, (range_is, long)) =
+pub long_text : (es : List BfEntry) (ranges : List BfRange) → All IsDecidedText (map bf_entry_seen ranges) → AllSayAs bf_span units_at es (map bf_entry_seen ranges) → map bf_range_span ranges ≡ map run_span (runs_of (map bf_span es)) → (fault : Fault Obstacle) → IsLongTextIn ranges fault → RefusesWith (IsTextObstacle es) fault
+long_text es ranges small say runs (Refused (Text range)) (k, e, within, is, (range_is, long)) =
     let part = bf_entry_seen e in
     let decided = element IsDecidedText ranges k e within is small in
     let first : units_at part part.start ≡ part.units = ap (units_from part.units) (omega arith) ∙ units_first part.units decided.3 in
     let told = element (SaysAs bf_span units_at es) ranges k e within is say part.start (text_has part part.start (omega arith) decided.0) ∙ ap Some first in
-    inl (subst (λ r. HasLongText es r) range_is (decided.0, some_told (λ d. units_at d part.start) (λ units. 2 ^ 8 ≤ length units) (last_bf es part.start) part.units told long))
-long_text es ranges small say (Refused other) h = absurd h
-long_text es ranges small say Memory h = tt
+    inl (subst (λ r. HasLongText es r) range_is (run_of_range ranges (runs_of (map bf_span es)) runs k e within is, some_told (λ d. units_at d part.start) (λ units. 2 ^ 8 ≤ length units) (last_bf es part.start) part.units told long))
+long_text es ranges small say runs (Refused other) h = absurd h
+long_text es ranges small say runs Memory h = tt
 
 -- ---- numbers without code words
 pub segment_among : (tables : PrefixTables) (segments : List Segment) (i : ℕ) (s : Segment) → i < length segments → s ≡ get_or segments i s → (o : Obstacle) → IsSegmentObstacle tables s o → IsSegmentsObstacle tables segments o

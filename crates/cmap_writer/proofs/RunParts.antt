@@ -1,7 +1,7 @@
 -- The runs of a list of declarations, and what is said of their codes.
 use Rattle.std.proofs.Common.{◌≡◌, ℕ, zero, suc, true, true≢false, ◌+◌, ◌^◌, ◌<◌, ◌≤◌, inl, inr, List, [], ◌∷◌, ◌++◌, length, get_or, map, Some, None, refl, ap, ◌∙◌, sym, subst, arith}
 use Rattle.std.specs.Prelude.{Option, IsSome, nat_le}
-use Rattle.std.specs.List.{All, slice_get}
+use Rattle.std.specs.List.{All, Any, slice_get}
 use Rattle.std.proofs.lemmas.Bool.{and_parts, cases_lt, leb-true}
 use Rattle.std.proofs.lemmas.List.{length-map}
 use Rattle.std.proofs.lemmas.List.Elements.{All-contains, All-map}
@@ -12,6 +12,10 @@ use Rattle.cmap_writer.proofs.Told.{Any-head, Any-left, Any-right, last_contains
 
 abbrev pub run_of : ℕ → ℕ → ℕ → Run
 run_of low high index = record { low = low; high = high; index = index }
+
+-- a run is one of the runs
+pub run_among : (runs : List Run) (i low high index : ℕ) → slice_get runs i ≡ Some (run_of low high index) → Any (λ run. (run.low ≡ low) × (run.high ≡ high)) runs
+run_among runs i low high index at = let run = run_of low high index in (i, run, slice_get_within runs i run at, get_or_from_slice_get runs i run run at, (refl, refl))
 
 -- the ranges so far have the codes of the runs before i
 abbrev pub HaveRuns : {E : Type 0} → (E → Span) → List Run → List E → ℕ → Type 0

@@ -1,11 +1,10 @@
 -- Units with an offset added, the part of a declaration of texts for the codes of a run, and ranges taken one after another.
-use Rattle.std.proofs.Common.{◌≡◌, ℕ, ◌+◌, ◌-◌, ◌^◌, ◌<◌, ◌≤◌, List, [], ◌∷◌, ◌++◌, length, get_or, map, take, drop, Ok, Err, Some, refl, ap, ◌∙◌, sym, subst, arith}
+use Rattle.std.proofs.Common.{◌≡◌, ℕ, zero, suc, ◌+◌, ◌-◌, ◌^◌, ◌<◌, ◌≤◌, List, [], ◌∷◌, ◌++◌, length, get_or, map, take, drop, Ok, Err, Some, refl, ap, ◌∙◌, sym, subst, arith}
 use Rattle.std.specs.Prelude.{Result}
 use Rattle.std.specs.List.{All, Any, slice_get}
 use Rattle.std.specs.Result.{IfOk}
 use Rattle.std.proofs.lemmas.List.{get_or-map, length-map, map-append, take_all, take_more}
 use Rattle.std.proofs.lemmas.List.Elements.{All-cons, All-head, All-nil, All-tail}
-use Rattle.std.proofs.lemmas.Option.{get_or_from_slice_get, slice_get_within}
 use Rattle.cmap_runs.specs.Ranges.{AreRuns, Run}
 use Rattle.cmap_values.specs.declared.range.Range.{Range}
 use Rattle.cmap_values.specs.DeclarationsSeen.{bf_entry_seen, bf_range_span}
@@ -89,9 +88,17 @@ texts_more xs i d old new within h here =
 pub texts_all : (xs : List BfRange) (i : ℕ) (pieces : List BfEntry) → length xs ≤ i → ArePieces bf_span bf_at IsShortText (map bf_entry_seen (take i xs)) pieces → ArePieces bf_span bf_at IsShortText (map bf_entry_seen xs) pieces
 texts_all xs i pieces all h = subst (λ ys. ArePieces bf_span bf_at IsShortText (map bf_entry_seen ys) pieces) (take_all i xs all) h
 
--- a run is one of the runs
-pub run_among : (runs : List Run) (i low high index : ℕ) → slice_get runs i ≡ Some (run_of low high index) → Any (λ run. (run.low ≡ low) × (run.high ≡ high)) runs
-run_among runs i low high index at = let run = run_of low high index in (i, run, slice_get_within runs i run at, get_or_from_slice_get runs i run run at, (refl, refl))
+-- a range is one of the runs
+pub run_of_range : (ranges : List BfRange) (runs : List Run) → map bf_range_span ranges ≡ map run_span runs → (k : ℕ) (e : BfRange) → k < length ranges → get_or ranges k e ≡ e → Any (λ run. (run.low ≡ e.range.start) × (run.high ≡ e.range.end)) runs
+run_of_range [] runs is k e within at = absurd (omega (arith, within))
+run_of_range (x ∷ ranges) [] is k e within at = absurd (omega (arith, ap length is))
+run_of_range (x ∷ ranges) (run ∷ runs) is zero e within at =
+    let low = ap (λ ss. (get_or ss 0 (run_span run)).start) is in
+    let high = ap (λ ss. (get_or ss 0 (run_span run)).end) is in
+    (0, run, omega arith, refl, (sym low ∙ ap (λ r. r.range.start) at, sym high ∙ ap (λ r. r.range.end) at))
+run_of_range (x ∷ ranges) (run ∷ runs) is (suc k) e within at =
+    let (j, found, there, same, ends) = run_of_range ranges runs (ap (drop 1) is) k e (omega (arith, within)) at in
+    (suc j, found, omega (arith, there), same, ends)
 
 -- runs that are ranges of at most 2^16 codes
 pub runs_few : (ranges : List BfRange) (runs : List Run) → map bf_range_span ranges ≡ map run_span runs → All IsDecidedText (map bf_entry_seen ranges) → All (λ run. run.high - run.low < 2 ^ 16) runs

@@ -27,11 +27,12 @@ pub record KeepLists (lists made : Lists) : Type 0 where
   pub three : HaveSameCids lists.cids.three made.cids.three
   pub four : HaveSameCids lists.cids.four made.cids.four
 
--- by both each code of each length has the same CID, the same CID where texts don't count, and each code the same text; and both have the same codespace ranges, layer by layer
+-- by both each code of each length has the same CID, the same CID where texts don't count, and each code the same text; and both have the same metadata and codespace ranges, layer by layer
 pub record AnswerAlike (layers others : List Layer) : Type 0 where
   pub cids : (code len : ℕ) → cid_of others code len ≡ cid_of layers code len
   pub declared : (code len : ℕ) → declared_cid others code len ≡ declared_cid layers code len
   pub texts : (code : ℕ) → bf_of others code ≡ bf_of layers code
+  pub metadata : map (λ layer. layer.metadata) others ≡ map (λ layer. layer.metadata) layers
   pub spaces : map (λ layer. layer.lists.spaces) others ≡ map (λ layer. layer.lists.spaces) layers
 
 -- the same metadata and names of files that are used, and lists that say the same; and over layers that answer alike it answers alike, so a chain of files does if each is kept

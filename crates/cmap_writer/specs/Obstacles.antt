@@ -1,11 +1,11 @@
 -- Why a file can't be written in the binary form.
 use Rattle.std.specs.Prelude.{◌≡◌, ◌≢◌, ◌⊎◌, ℕ, ℤ, pos, ◌+◌, ◌≤◌, ◌<◌, ◌^◌, List, Any, Contains, Option, Some, None, IsSomeAnd, length, map}
-use Rattle.cmap_runs.specs.Ranges.{runs_of}
+use Rattle.cmap_runs.specs.Ranges.{Span, runs_of}
 use Rattle.cmap_values.specs.declared.range.Range.{Range}
 use Rattle.cmap_values.specs.Files.{BfEntry, ByLength, CidEntry, Codespace, File, of_length}
 use Rattle.cmap_values.specs.Metadata.{Collection, FileMetadata}
 use Rattle.cmap_values.specs.Names.{Family, family_of, ordering_of, registry_of}
-use Rattle.cmap_layers.specs.Lookups.{bf_span, last_bf}
+use Rattle.cmap_layers.specs.Lookups.{bf_span, cid_span, last_bf}
 use Rattle.cmap_packed.specs.Bundles.{PrefixTables}
 use Rattle.cmap_packed.specs.PrefixWords.{CodeWord}
 use Rattle.cmap_writer.specs.Arranged.{IsArranged}
@@ -25,9 +25,13 @@ abbrev pub IsLargeCid : Option ℕ → Type 0
 IsLargeCid None = Unit {0}
 IsLargeCid (Some cid) = 2 ^ 16 ≤ cid
 
--- a list of CIDs gives the last code of the range a large one
+-- the range is a run of codes for which one declaration decides
+abbrev pub IsRunOf : List Span → Range → Type 0
+IsRunOf spans range = Any (λ run. (run.low ≡ range.start) × (run.high ≡ range.end)) (runs_of spans)
+
+-- a list of CIDs gives the last code of a run a large one
 abbrev pub GivesLargeCid : List CidEntry → Range → Type 0
-GivesLargeCid es range = (range.start ≤ range.end) × IsSomeAnd (cid_told es range.end) IsLargeCid
+GivesLargeCid es range = IsRunOf (map cid_span es) range × IsSomeAnd (cid_told es range.end) IsLargeCid
 
 -- a notdef declaration of this range has a large CID
 abbrev pub IsLargeNotdef : Range → CidEntry → Type 0
@@ -49,13 +53,13 @@ IsMisnamed collection = family_of (registry_of collection.family) (ordering_of c
 abbrev pub HasWideSupplement : ℤ → Collection → Type 0
 HasWideSupplement n collection = (collection.supplement ≡ n) × ((number : ℕ) → number < 2 ^ 16 → pos number ≢ n)
 
--- the declaration that decides the text of the first code gives it more units than a byte can count
+-- the declaration that decides a run gives its first code a text of more units than a byte can count
 abbrev pub HasLongText : List BfEntry → Range → Type 0
-HasLongText es range = (range.start ≤ range.end) × IsSomeAnd (last_bf es range.start) (λ e. 2 ^ 8 ≤ length (units_at e range.start))
+HasLongText es range = IsRunOf (map bf_span es) range × IsSomeAnd (last_bf es range.start) (λ e. 2 ^ 8 ≤ length (units_at e range.start))
 
--- a run of more than 2^16 codes, for which one declaration decides
+-- a run has more than 2^16 codes
 abbrev pub HasManyTexts : List BfEntry → Range → Type 0
-HasManyTexts es range = (range.start + 2 ^ 16 ≤ range.end) × Any (λ run. (run.low ≡ range.start) × (run.high ≡ range.end)) (runs_of (map bf_span es))
+HasManyTexts es range = (range.start + 2 ^ 16 ≤ range.end) × IsRunOf (map bf_span es) range
 
 -- with the five bytes before it, it has 2^32 bytes or more
 abbrev pub IsLongCollection : Collection → Type 0

@@ -1,4 +1,5 @@
 use Rattle.std.proofs.Common.{◌≡◌, ◌+◌, ◌<◌, List, length, sym, map, refl, ap, subst, arith}
+use Rattle.std.specs.List.{Any}
 use Rattle.std.proofs.lemmas.List.Elements.{All-nil}
 use Rattle.std.proofs.lemmas.Result.{IfOk-from_err}
 use Rattle.cmap_runs.specs.Ranges.{Run, runs_of}
@@ -10,8 +11,8 @@ use Rattle.cmap_writer.specs.Pieces.{CanBeSplit, SaysAs}
 use Rattle.cmap_writer.proofs.Cuts.{next_before}
 use Rattle.cmap_writer.proofs.DecidedParts.{declaration_within, large_given, part_can, part_has, part_right, run_within}
 use Rattle.cmap_values.proofs.Outcomes.{memory_on}
-use Rattle.cmap_writer.proofs.RunParts.{HaveRuns, have_all, have_more, have_none}
-use Rattle.cmap_writer.proofs.Weighed.{run_weighed, runs_weighed}
+use Rattle.cmap_writer.proofs.RunParts.{HaveRuns, have_all, have_more, have_none, run_among}
+use Rattle.cmap_writer.proofs.Weighed.{cid_spans_seen, run_weighed, runs_weighed}
 use Rattle.cmap_writer.proofs.decided.ranges_of.Goals as goal
 
 abbrev runs : List CidRange → List Run
@@ -69,7 +70,7 @@ returns-clause-same c =
     (have_all cid_range_span cid_entry_seen cid_span cid_at (λ x. refl) table (runs table) c.run_count-i-end.ensures.runs.0 ranges c.requires c.loop-i.invariant.right (subst (HaveRuns cid_span (runs table) ranges) end c.loop-i.invariant.whole), c.loop-i.invariant.small)
 
 pub returns-in_default-clause-err : goal.returns-in_default-clause-err
-returns-in_default-clause-err c = large_given c.args.table.now (runs c.args.table.now) c.run_count-i-end.ensures.runs.0 c.loop-i.i c.run-start.result.0 c.run-start.result.1 c.run-start.result.2 c.run-start.ensures.run c.decl.result.now c.decl.ensures.declaration c.in_default.ensures.none
+returns-in_default-clause-err c = (subst (λ ss. Any (λ run. (run.low ≡ c.run-start.result.0) × (run.high ≡ c.run-start.result.1)) (runs_of ss)) (sym (cid_spans_seen c.args.table.now)) (run_among (runs c.args.table.now) c.loop-i.i c.run-start.result.0 c.run-start.result.1 c.run-start.result.2 c.run-start.ensures.run), large_given c.args.table.now (runs c.args.table.now) c.run_count-i-end.ensures.runs.0 c.loop-i.i c.run-start.result.0 c.run-start.result.1 c.run-start.result.2 c.run-start.ensures.run c.decl.result.now c.decl.ensures.declaration c.in_default.ensures.none)
 
 pub returns-in_err-push_joined-clause-err : goal.returns-in_err-push_joined-clause-err
 returns-in_err-push_joined-clause-err c = memory_on _ _ c.from_residual.ensures.1

@@ -13,8 +13,8 @@ use Rattle.cmap_writer.specs.TextParts.{IsDecidedText, units_at}
 use Rattle.cmap_writer.specs.Weights.{run_span, span_weight}
 use Rattle.cmap_values.proofs.Outcomes.{memory_on}
 use Rattle.cmap_writer.proofs.Cuts.{run_pushed}
-use Rattle.cmap_writer.proofs.RunParts.{HaveRuns, have_all, have_more, have_none}
-use Rattle.cmap_writer.proofs.TextPartsSeen.{declaration_within, part_decided, part_has, part_right, part_units, run_among, run_filled, run_within}
+use Rattle.cmap_writer.proofs.RunParts.{HaveRuns, have_all, have_more, have_none, run_among}
+use Rattle.cmap_writer.proofs.TextPartsSeen.{declaration_within, part_decided, part_has, part_right, part_units, run_filled, run_within}
 use Rattle.cmap_writer.proofs.Weighed.{bf_spans_seen, run_weighed, runs_weighed}
 use Rattle.cmap_writer.proofs.text_parts.text_ranges_of.Goals as goal
 

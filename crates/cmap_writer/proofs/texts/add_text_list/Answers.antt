@@ -46,7 +46,7 @@ returns-clause-added c =
     (map bf_entry_seen sorted, added, same_told bf_span bf_at es (map bf_entry_seen sorted) same, few)
 
 pub returns-in_err-check_units-clause-err : goal.returns-in_err-check_units-clause-err
-returns-in_err-check_units-clause-err c = refuses_on _ _ c.from_residual-in_err-check_units.ensures.1 (long_text (map bf_entry_seen c.args.list.now) c.deref.result.now (subst (λ xs. All IsDecidedText (map bf_entry_seen xs)) (sym c.deref.ensures.value) c.in_ok-ranges.ensures.small) (subst (λ xs. AllSayAs bf_span units_at (map bf_entry_seen c.args.list.now) (map bf_entry_seen xs)) (sym c.deref.ensures.value) c.in_ok-ranges.ensures.units) _ c.in_err-check_units.ensures.err) (λ o h. h)
+returns-in_err-check_units-clause-err c = refuses_on _ _ c.from_residual-in_err-check_units.ensures.1 (long_text (map bf_entry_seen c.args.list.now) c.deref.result.now (subst (λ xs. All IsDecidedText (map bf_entry_seen xs)) (sym c.deref.ensures.value) c.in_ok-ranges.ensures.small) (subst (λ xs. AllSayAs bf_span units_at (map bf_entry_seen c.args.list.now) (map bf_entry_seen xs)) (sym c.deref.ensures.value) c.in_ok-ranges.ensures.units) (subst (λ xs. map bf_range_span xs ≡ map run_span (runs_of (map bf_span (map bf_entry_seen c.args.list.now)))) (sym c.deref.ensures.value) c.in_ok-ranges.ensures.runs) _ c.in_err-check_units.ensures.err) (λ o h. h)
 
 pub returns-in_err-ranges-clause-err : goal.returns-in_err-ranges-clause-err
 returns-in_err-ranges-clause-err c = refuses_on _ _ c.from_residual.ensures.1 c.in_err-ranges.ensures.err (λ o h. h)
