@@ -23,6 +23,7 @@ use Rattle.cmap_text.specs.Standing.{AreDeclared, AreParts, AreTexts, IsEmptyStr
 use Rattle.cmap_text.specs.Standing as standing
 use Rattle.cmap_text.proofs.TokensRead.{cid_found, code_found, destination_found, empty_found, is_executable-found, some_bound, tested, written}
 use Rattle.cmap_text.proofs.FaultsAdded.{by_bool, by_class}
+use Rattle.cmap_text.proofs.FaultyRead.{in_rows_now}
 use Rattle.cmap_text.proofs.Places.{Fits, PartsFit, place_at-more, place_goes, place_of, row_begins, row_goes}
 
 module _ (rows : Bool) where
@@ -737,8 +738,8 @@ read_declared held text =
     (said.declared, said.stands, said.lists_are)
 
 pub salvaged_declared : (text : List ℕ) → AreDeclared text (salvaged text).said.lists
-salvaged_declared text = by (is_read_in_rows text) refl
+salvaged_declared text = let (declared, stands, lists) = by (is_read_in_rows text) refl in (is_read_in_rows text, in_rows_now text, declared, stands, lists)
   where
-    by : (rows : Bool) → is_read_in_rows text ≡ rows → AreDeclared text (salvaged text).said.lists
+    by : (rows : Bool) → is_read_in_rows text ≡ rows → DeclaredIn (is_read_in_rows text) text (salvaged text).said.lists
     by true is = rw is (read_declared (rows_of text) text)
     by false is = rw is (first_declared false text)

@@ -61,7 +61,7 @@ finds_section t (Some section) is = record {
 }
 
 -- what the first token of an item is
-data Kind : Token → Type 0 where
+pub data Kind : Token → Type 0 where
   opens : (section : Section) → Kind (opening section)
   uses : Kind (Token.Name false use_word)
   takes : (k : List ℕ) → Contains keys k → Kind (Token.Name true k)
@@ -71,7 +71,7 @@ cases_Option : {A : Type 0} (o : Option A) → (o ≡ None) ⊎ ((x : A) × (o �
 cases_Option None = inl refl
 cases_Option (Some x) = inr (x, refl)
 
-kind_of : (t : Token) → Kind t
+pub kind_of : (t : Token) → Kind t
 kind_of t =
     elim (cases_Option (opened_by t)) [
       | inr (section, is) ↦ rw (opened_by-found t section is) (opens section)
