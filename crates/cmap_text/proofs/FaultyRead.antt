@@ -3,13 +3,14 @@ use Rattle.std.proofs.Common.{◌≡◌, ◌∙◌, ℕ, Bool, true, false, List
 use Rattle.std.specs.Prelude.{◌==◌, ◌&&◌, not, flat_map, None, if◌then◌else◌}
 use Rattle.cmap_tokens.specs.Pieces.{Piece, pieces_left}
 use Rattle.cmap_tokens.specs.TokensLeft.{start_of}
-use Rattle.cmap_values.specs.Files.{File, lists_of}
+use Rattle.cmap_values.specs.Files.{File, FileMetadata, lists_of}
+use Rattle.cmap_values.specs.Only.{IsOnly}
 use Rattle.cmap_values.specs.declared.fault.Stop.{Stop}
 use Rattle.cmap_text.specs.Rows.{are_rows, parts_on, rows_at, rows_of}
 use Rattle.cmap_text.specs.declared.salvage.rows.Row.{Row}
 use Rattle.cmap_text.specs.TextFiles.{IsMetadata, declared_by, last_values}
 use Rattle.cmap_text.specs.FaultyTexts as faulty
-use Rattle.cmap_text.specs.FaultyTexts.{FirstRead, Found, InRows, ReadAgain, ReadInRows, TextRead, cells_of, has_rows}
+use Rattle.cmap_text.specs.FaultyTexts.{FirstRead, Found, InRows, ReadAgain, ReadInRows, SalvagesNoOther, TextRead, cells_of, has_rows}
 use Rattle.cmap_text.specs.Salvage.{Salvaged, State, finished, first_read, is_read_in_rows, item, nothing_salvaged, read_in_rows, salvaged, take_all, take_rows}
 use Rattle.cmap_text.proofs.ItemsSaid.{values_said}
 use Rattle.cmap_text.proofs.FaultyPassed.{run, step}
@@ -103,3 +104,11 @@ pub file_salvaged : (text : List ℕ) (file : File) (faults : List Stop) → fau
 file_salvaged text file faults (found, is, metadata_is, lists, uses, stops) =
     let so = read_same text found is in
     (subst (λ v. IsMetadata v file.metadata) (sym so.values_are) metadata_is, lists ∙ sym so.lists_are, uses ∙ sym so.uses_are, stops ∙ sym so.faults_are)
+
+-- so no other file is read
+pub salvages_no_other : (text : List ℕ) (metadata : FileMetadata) → IsOnly (IsMetadata (salvaged text).said.values) metadata
+    → SalvagesNoOther text (record { metadata = metadata; lists = (salvaged text).said.lists; uses = (salvaged text).said.uses }) (salvaged text).faults
+salvages_no_other text metadata only other stops says =
+    let (metadata_is, lists, uses, faults) = file_salvaged text other stops says in
+    let other_is : other ≡ record { metadata = other.metadata; lists = other.lists; uses = other.uses } = refl in
+    (other_is ∙ rw (only.alone other.metadata metadata_is, lists, uses) refl, faults)

@@ -343,3 +343,7 @@ TextRead text found = (first : Found) × FirstRead text first × ReadAgain (has_
 abbrev pub SalvagesFile : List ℕ → File → List Stop → Type 0
 SalvagesFile text file faults = (found : Found) × TextRead text found
     × IsMetadata (last_values found.items) file.metadata × (file.lists ≡ lists_of (flat_map declared_by found.items)) × (file.uses ≡ found.uses) × (faults ≡ found.faults)
+
+-- and no other file, with no other faults
+abbrev pub SalvagesNoOther : List ℕ → File → List Stop → Type 0
+SalvagesNoOther text file faults = (other : File) (stops : List Stop) → SalvagesFile text other stops → (other ≡ file) × (stops ≡ faults)
