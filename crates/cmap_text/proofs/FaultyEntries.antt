@@ -15,11 +15,11 @@ use Rattle.cmap_text.specs.FaultyTexts.{BeginEntry, Cell, Column, EntryRead, IsC
 use Rattle.cmap_text.specs.FaultyTexts as faulty
 use Rattle.cmap_text.specs.Salvage.{Class, Entry, Filled, Mended, Parts, Salvaged, State, alone, begin_line, class_of, class_of_malformed, class_of_token, close_bracket, code_of_piece, count_of, empty_text_in, entry_fault, fault_of, fill, having_lists, if_code, if_text, in_entry, in_list, is_closer, is_name, is_known, is_name_piece, is_part, is_short, is_stray, item, known, mend, missing, new_entry, no_parts, none, one, open_bracket, own_fault, part, pass_in_entry, passed_over, places_of, rest_of, take_in_entry, take_in_row, take_part, take_piece, take_unless_stray, taken, two, widened, with_fault, with_piece}
 use Rattle.cmap_text.specs.Salvage as salvage
-use Rattle.cmap_text.proofs.TokensRead.{code_found, code_is, is_executable-found, is_executable-own, read_value, some_bound, some_mapped, tested, written}
+use Rattle.cmap_text.proofs.TokensRead.{code_found, code_is, is_executable-found, is_executable-own, no_answer, read_value, some_bound, some_mapped, tested, token_read, written}
 use Rattle.cmap_text.proofs.Places.{closed}
 use Rattle.cmap_text.proofs.FaultyPassed.{entry_passed, goes, goes_as, row_begun, row_within, run, run_at, run_end, run_faulty, step}
 use Rattle.cmap_text.proofs.FaultyLists.{empty_from, empty_in, plus, plus_declared, plus_fault, plus_more, plus_none, texts_said}
-use Rattle.cmap_text.proofs.FaultyPlaces.{AreCodes, IsSolid, Place, code_there, entry_with, last_there, list_there, no_place, none_there, place_seen, whole_read}
+use Rattle.cmap_text.proofs.FaultyPlaces.{AreCodes, IsSolid, Place, code_there, entry_with, last_there, list_there, no_place, none_there, place_seen, same_token, same_tokens, whole_read}
 
 -- ---- the codes of the first places
 pub same_count : (section : Section) (parts : Parts) (tokens : List Token) → AreCodes section parts tokens → count_of parts ≡ length tokens
@@ -111,17 +111,6 @@ no_closer : (section : Section) (parts : Parts) (tokens : List Token) (piece : P
 no_closer section parts tokens piece codes_are not = elim (cases_Bool (no_parts parts && is_closer section piece)) [ inl is ↦ absurd (not (closer_from section parts tokens piece codes_are is)) | inr is ↦ is ]
 
 -- ---- a part that is mended
-none_unless : {A : Type 0} (o : Option A) → ((x : A) → o ≡ Some x → ⊥) → o ≡ None
-none_unless None nothing = refl
-none_unless (Some x) nothing = absurd (nothing x refl)
-
-token_read : {A : Type 0} (piece : Piece) (read : Token → Option A) (x : A) → (elim piece.token as (λ r. Option A) [ Ok t ↦ read t | Err w ↦ None ]) ≡ Some x → (t : Token) × (piece.token ≡ Ok t) × (read t ≡ Some x)
-token_read {A} piece read x is = by piece.token refl is
-  where
-    by : (r : Result Token Wrong) → piece.token ≡ r → (elim r as (λ r. Option A) [ Ok t ↦ read t | Err w ↦ None ]) ≡ Some x → (t : Token) × (piece.token ≡ Ok t) × (read t ≡ Some x)
-    by (Ok t) token is = (t, token, is)
-    by (Err w) token is = absurd (cc)
-
 abbrev pub SomeMended : Section → List Token → Piece → Type 0
 SomeMended section tokens piece = (declared : List Declaration) × IsMended section tokens piece declared
 
@@ -162,7 +151,7 @@ module _ (lists : Lists) (line : Bool) (piece : Piece) where
   mended_found section (two start end) tokens p (a, b, shape, a_is, b_is, three) is = subst (λ ts. SomeMended section ts piece) (sym shape) (found_third section start end a b p a_is b_is is)
 
   not_mended : (section : Section) (parts : Parts) (tokens : List Token) → AreCodes section parts tokens → ((declared : List Declaration) → IsMended section tokens piece declared → ⊥) → mends section parts ≡ None
-  not_mended section parts tokens codes_are not = none_unless (mends section parts) (λ p is. let (declared, mended) = mended_found section parts tokens p codes_are is in not declared mended)
+  not_mended section parts tokens codes_are not = no_answer (mends section parts) (λ p is. let (declared, mended) = mended_found section parts tokens p codes_are is in not declared mended)
 
   -- a mended part fills no place, but shows what was meant
   pub record IsMendedSo (section : Section) (parts : Parts) (tokens : List Token) (declared : List Declaration) : Type 0 where
@@ -177,12 +166,12 @@ module _ (lists : Lists) (line : Bool) (piece : Piece) where
   token_name : (t : Token) (raw : List ℕ) → piece.token ≡ Ok t → t ≡ Token.String raw → is_name_piece piece ≡ false
   token_name t raw token is = ap (λ r. elim r as (λ x. Bool) [ Ok t ↦ is_name t | Err w ↦ false ]) token ∙ ap is_name is
 
-  same_token : {t u : Token} → piece.token ≡ Ok t → piece.token ≡ Ok u → t ≡ u
-  same_token first second = let same = sym first ∙ second in cc
+  one_token : {t u : Token} → piece.token ≡ Ok t → piece.token ≡ Ok u → t ≡ u
+  one_token first second = let same = sym first ∙ second in cc
 
   empty_read : (t : Token) → piece.token ≡ Ok t → IsEmptyText piece → (destination_in t ≡ None) × (is_executable (codes "[") t ≡ false) × (class_of piece ≡ part)
   empty_read t token (u, u_token, (raw, is, value)) =
-      let string = same_token token u_token ∙ is in
+      let string = one_token token u_token ∙ is in
       (read_value destination_of t raw [] string value, ap (is_executable (codes "[")) string, token_class t raw token string)
 
   empty_part : IsEmptyText piece → (class_of piece ≡ part) × (is_name_piece piece ≡ false)
@@ -204,7 +193,7 @@ module _ (lists : Lists) (line : Bool) (piece : Piece) where
             ∙ ap (λ d. Some (gives d)) (sym declares)
             );
         fills_none = λ t t_token.
-            let t_is = ap code_in (same_token t_token token) ∙ b_is in
+            let t_is = ap code_in (one_token t_token token) ∙ b_is in
             subst (λ c. fill lists (entry_with codespace_range line (one c)) t ≡ Err (why_not (next_column codespace_range (a ∷ [])) t)) (sym low_is) (rw (t_is, differs, if_code, fill) refl);
         in_class = token_class b b_code.0 token b_code.1;
         no_name = token_name b b_code.0 token b_code.1;
@@ -240,28 +229,22 @@ module _ (lists : Lists) (line : Bool) (piece : Piece) where
         no_name = (empty_part empty).1;
       }
 
-  first_token : {a b : Token} {rest others : List Token} → a ∷ rest ≡ b ∷ others → a ≡ b
-  first_token is = cc
-
-  next_tokens : {a b : Token} {rest others : List Token} → a ∷ rest ≡ b ∷ others → rest ≡ others
-  next_tokens is = cc
-
   pub mended_so : (section : Section) (parts : Parts) (tokens : List Token) (declared : List Declaration) → AreCodes section parts tokens → IsMended section tokens piece declared → IsMendedSo section parts tokens declared
   mended_so codespace_range none tokens declared empty (a, b, low, high, shape, token, a_code, b_code, less, declares) = let wrong = sym empty ∙ shape in absurd (cc)
   mended_so codespace_range (one start) tokens declared (x, also, x_is) (a, b, low, high, shape, token, a_code, b_code, less, declares) =
-      let a_is = ap code_in (first_token (sym shape ∙ also)) ∙ x_is in
+      let a_is = ap code_in (same_token (sym shape ∙ also)) ∙ x_is in
       subst (λ ts. IsMendedSo codespace_range (one start) ts declared) (sym shape) (high_so start a b low high declared a_is token a_code b_code less declares)
   mended_so codespace_range (two start end) tokens declared (x, y, also, x_is, y_is, three) (a, b, low, high, shape, token, a_code, b_code, less, declares) = let wrong = sym also ∙ shape in absurd (cc)
   mended_so (cids kind extent) parts tokens declared codes_are mended = absurd mended
   mended_so bf_range none tokens declared empty (a, b, first, last, shape, a_code, b_code, text, declares) = let wrong = sym empty ∙ shape in absurd (cc)
   mended_so bf_range (one start) tokens declared (x, also, x_is) (a, b, first, last, shape, a_code, b_code, text, declares) = let wrong = sym also ∙ shape in absurd (cc)
   mended_so bf_range (two start end) tokens declared (x, y, also, x_is, y_is, three) (a, b, first, last, shape, a_code, b_code, text, declares) =
-      let a_is = ap code_in (first_token (sym shape ∙ also)) ∙ x_is in
-      let b_is = ap code_in (first_token (next_tokens (sym shape ∙ also))) ∙ y_is in
+      let a_is = ap code_in (same_token (sym shape ∙ also)) ∙ x_is in
+      let b_is = ap code_in (same_token (same_tokens (sym shape ∙ also))) ∙ y_is in
       subst (λ ts. IsMendedSo bf_range (two start end) ts declared) (sym shape) (range_so start end a b first last declared a_is b_is a_code b_code text declares)
   mended_so bf_char none tokens declared empty (a, code, shape, a_code, text, declares) = let wrong = sym empty ∙ shape in absurd (cc)
   mended_so bf_char (one start) tokens declared (x, also, x_is) (a, code, shape, a_code, text, declares) =
-      let a_is = ap code_in (first_token (sym shape ∙ also)) ∙ x_is in
+      let a_is = ap code_in (same_token (sym shape ∙ also)) ∙ x_is in
       subst (λ ts. IsMendedSo bf_char (one start) ts declared) (sym shape) (char_so start a code declared a_is a_code text declares)
   mended_so bf_char (two start end) tokens declared (x, y, also, x_is, y_is, three) (a, code, shape, a_code, text, declares) = let wrong = sym also ∙ shape in absurd (cc)
 
@@ -511,8 +494,8 @@ module _ (rows : Bool) (len : ℕ) (section : Section) (line : Bool) (parts : Pa
       by none empty = let wrong = sym empty ∙ shape in absurd (cc)
       by (one first) (x, also, x_is) = let wrong = sym also ∙ shape in absurd (cc)
       by (two first last) (x, y, also, x_is, y_is, three) =
-          let first_is = same_Some first (written start) (sym x_is ∙ ap code_in (first_token old.said.lists line cell.piece (sym also ∙ shape)) ∙ code_is a start a_code) in
-          let last_is = same_Some last (written end) (sym y_is ∙ ap code_in (first_token old.said.lists line cell.piece (next_tokens old.said.lists line cell.piece (sym also ∙ shape))) ∙ code_is b end b_code) in
+          let first_is = same_Some first (written start) (sym x_is ∙ ap code_in (same_token (sym also ∙ shape)) ∙ code_is a start a_code) in
+          let last_is = same_Some last (written end) (sym y_is ∙ ap code_in (same_token (same_tokens (sym also ∙ shape))) ∙ code_is b end b_code) in
           filled section same first last ∙ ap (λ c. begun c last) first_is ∙ ap (begun (written start)) last_is
 
 -- ---- a whole entry

@@ -12,7 +12,7 @@ use Rattle.cmap_text.specs.TextFiles.{IsOtherToken, Item, Opens, Section, Values
 use Rattle.cmap_text.specs.TextReading.{adding, is_executable, key_in, opened_by, with_other, with_value}
 use Rattle.cmap_text.specs.FaultyTexts.{Cell, EntriesRead, Found, ItemsRead, ValueRead, found_after, section_cut_off, section_over, entry_read, no_value, value_read, value_lost, value_later, items_end, malformed_read, key_read, section_read, use_read, unnamed_use, token_read}
 use Rattle.cmap_text.specs.Salvage.{Class, Salvaged, State, after_malformed, alone, begin_item, class_of, class_of_malformed, class_of_token, close_bracket, fault_of, having_value, in_entry, item, known, new_entry, none, open_bracket, own_fault, part, saying, take_use, take_value, value, with_fault}
-use Rattle.cmap_text.proofs.TokensRead.{is_executable-found}
+use Rattle.cmap_text.proofs.TokensRead.{is_executable-found, no_answer}
 use Rattle.cmap_text.proofs.ItemsRead.{key_in-found, key_in-own, opened_by-found, opened_by-own}
 use Rattle.cmap_text.proofs.ItemsSaid.{values_after}
 use Rattle.cmap_text.proofs.FaultyPassed.{goes, item_step, plain_step, run, run_at, run_end, step}
@@ -32,10 +32,6 @@ value_declares no_value rest = refl
 value_declares (value_read cell t token) rest = refl
 value_declares (value_lost cell w token not) rest = refl
 value_declares (value_later cell w token is more) rest = value_declares more rest
-
-no_answer : {A : Type 0} (o : Option A) → ((x : A) → o ≡ Some x → ⊥) → o ≡ None
-no_answer None nothing = refl
-no_answer (Some x) nothing = absurd (nothing x refl)
 
 module _ (rows : Bool) (len : ℕ) where
   section_said : (section : Section) {cells : List Cell} {declared : List Declaration} {faults : List Stop} {rest : List Cell} → EntriesRead rows len section cells declared faults rest → (old : Salvaged) → run rows len (in_entry (new_entry section), old) cells ≡ run rows len (item, plus old declared faults) rest

@@ -14,7 +14,7 @@ use Rattle.cmap_text.specs.TextFiles.{bf_range}
 use Rattle.cmap_text.specs.TextReading.{adding, destination_in, destination_of, text_of, value_in}
 use Rattle.cmap_text.specs.FaultyTexts.{Cell, IsEmptyText, IsNominal, IsText, ListRead, Next, TakesNoText, is_next_row, next_entry, next_item, stays_on_line, texts_end, text_read, empty_read, other_read, nothing_read, nominal, too_short, texts_left, list_closed, between_texts, list_word, row_read, too_long}
 use Rattle.cmap_text.specs.Salvage.{Class, Salvaged, State, Texts, adding_empty, after_entry, alone, begin_line, class_of, class_of_malformed, class_of_token, close_bracket, empty_text_in, empty_text_of, end_list, fault_of, having_lists, in_brackets, in_entry, in_list, is_name, is_nominal, is_string, is_string_piece, known, losing, new_entry, open_bracket, part, rest_of_list, short_list, take_in_entry, take_after_texts, take_in_list, take_in_row, take_item, take_piece, take_unless_stray, take_text, text_in, missing, no_text, with_fault, with_piece}
-use Rattle.cmap_text.proofs.TokensRead.{destination_found, destination_is, empty_found, read_value}
+use Rattle.cmap_text.proofs.TokensRead.{destination_found, destination_is, empty_found, no_answer, read_value}
 use Rattle.cmap_text.proofs.FaultyPassed.{faulty_list_passed, faulty_passed, goes, goes_as, item_goes, plain_step, run, run_at, run_end, step}
 
 -- ---- what is said more
@@ -74,12 +74,8 @@ text_found piece units is = by piece.token refl is
     by (Ok t) token is = (t, token, destination_found t units is)
     by (Err w) token is = absurd (cc)
 
-none_unless : {A : Type 0} (o : Option A) → ((x : A) → o ≡ Some x → ⊥) → o ≡ None
-none_unless None none = refl
-none_unless (Some x) none = absurd (none x refl)
-
 no_text_in : (piece : Piece) (k : Class) → class_of piece ≡ k → (k ≡ part → ⊥) → text_in piece ≡ None
-no_text_in piece k is not = none_unless (text_in piece) (λ units some. not (sym is ∙ text_class piece units some))
+no_text_in piece k is not = no_answer (text_in piece) (λ units some. not (sym is ∙ text_class piece units some))
 
 pub empty_in : (piece : Piece) → IsEmptyText piece → empty_text_in piece ≡ Some []
 empty_in piece (t, token, (raw, is, value)) = ap (λ r. elim r as (λ x. Option (List ℕ)) [ Ok t ↦ option_and_then empty_text_of (value_in t) | Err w ↦ None ]) token ∙ read_value empty_text_of t raw [] is value
@@ -218,10 +214,10 @@ module _ (rows : Bool) (len : ℕ) (first last : ℕ) (line : Bool) (kept_before
     )
 
     none_there : (piece : Piece) → ((units : List ℕ) → IsText piece units → ⊥) → text_in piece ≡ None
-    none_there piece not = none_unless (text_in piece) (λ units some. not units (text_found piece units some))
+    none_there piece not = no_answer (text_in piece) (λ units some. not units (text_found piece units some))
 
     no_empty : (piece : Piece) → (IsEmptyText piece → ⊥) → empty_text_in piece ≡ None
-    no_empty piece not = none_unless (empty_text_in piece) (λ units some. not (empty_from piece units some).0)
+    no_empty piece not = no_answer (empty_text_in piece) (λ units some. not (empty_from piece units some).0)
 
     short_class : (code : ℕ) (on_line : Bool) (here : Salvaged) (cell : Cell) (b : Bool) → is_nominal (at_code code on_line) ≡ b → none_class code on_line here cell close_bracket ≡ (after_entry (rest_of_list (at_code code on_line)), if b then here else losing here (at_code code on_line))
     unfolding none_class

@@ -65,10 +65,10 @@ begins_with_two (cids kind single) a b start end three a_code b_code = absurd (c
 begins_with_two bf_range a b start end three a_code b_code = (a ∷ [], _, (a, b, start, end, a_code, b_code, inl (a, units_of start, refl, code_text a start a_code, refl)))
 begins_with_two bf_char a b start end three a_code b_code = absurd (cc)
 
-same_token : {a b : Token} {rest others : List Token} → a ∷ rest ≡ b ∷ others → a ≡ b
+pub same_token : {a b : Token} {rest others : List Token} → a ∷ rest ≡ b ∷ others → a ≡ b
 same_token is = cc
 
-same_tokens : {a b : Token} {rest others : List Token} → a ∷ rest ≡ b ∷ others → rest ≡ others
+pub same_tokens : {a b : Token} {rest others : List Token} → a ∷ rest ≡ b ∷ others → rest ≡ others
 same_tokens is = cc
 
 code_of_same : (t a : Token) (bytes : List ℕ) → t ≡ a → IsCode a bytes → code_in t ≡ Some (written bytes)
