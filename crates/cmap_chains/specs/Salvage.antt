@@ -9,7 +9,8 @@ use Rattle.cmap_binary.specs.BinaryFiles.{IsMarkedBinary}
 use Rattle.cmap_binary.specs.BinarySalvage.{SalvagesBinary}
 use Rattle.cmap_packed.specs.Bundles.{HoldsTables, PrefixTables}
 use Rattle.cmap_layers.specs.Layers.{Layer, layer_of}
-use Rattle.cmap_text.specs.Salvage.{IsFirstOf, SalvagesFile}
+use Rattle.cmap_text.specs.FaultyTexts.{SalvagesFile}
+use Rattle.cmap_text.specs.FirstFaults.{IsFirstOf}
 use Rattle.cmap_chains.specs.Budgets.{IsOver}
 use Rattle.cmap_chains.specs.BytesSpent.{Leaves}
 use Rattle.cmap_chains.specs.Layers.{Means}

@@ -21,8 +21,9 @@ use Rattle.cmap_text.specs.Salvage.{Class, Entry, Filled, Mended, Parts, Rest, S
 use Rattle.cmap_text.specs.Salvage as salvage
 use Rattle.cmap_text.specs.Standing.{AreDeclared, AreParts, AreTexts, IsEmptyString, Stands, StandsAs, a_list, a_longer_end, an_empty_text, an_entry, between, empty_texts, entered, lone_piece, next_part, next_text, no_part, nothing, other_part, outside, passed, place_after, place_at, stray_name, within}
 use Rattle.cmap_text.specs.Standing as standing
-use Rattle.cmap_text.proofs.TokensRead.{cid_found, code_found, destination_found, empty_found, is_executable-found, some_bound, tested, written}
+use Rattle.cmap_text.proofs.TokensRead.{cid_found, code_found, destination_found, empty_found, is_executable-found, some_bound, tested, token_read, written}
 use Rattle.cmap_text.proofs.FaultsAdded.{by_bool, by_class}
+use Rattle.cmap_text.proofs.FaultyRead.{in_rows_now}
 use Rattle.cmap_text.proofs.Places.{Fits, PartsFit, place_at-more, place_goes, place_of, row_begins, row_goes}
 
 module _ (rows : Bool) where
@@ -118,14 +119,6 @@ module _ (rows : Bool) where
   by_bool_is : (P : State × Salvaged → Type 0) {a b : State × Salvaged} (c : Bool) → (c ≡ true → P a) → P b → P (if c then a else b)
   by_bool_is P true a b = a refl
   by_bool_is P false a b = b
-
-  -- what is read of a piece is read of a token
-  token_read : {A : Type 0} (piece : Piece) (read : Token → Option A) (x : A) → elim piece.token [ Ok t ↦ read t | Err w ↦ None ] ≡ Some x → (t : Token) × (piece.token ≡ Ok t) × (read t ≡ Some x)
-  token_read piece read x is = by piece.token refl is
-    where
-      by : (r : Result Token Wrong) → piece.token ≡ r → elim r [ Ok t ↦ read t | Err w ↦ None ] ≡ Some x → (t : Token) × (piece.token ≡ Ok t) × (read t ≡ Some x)
-      by (Ok t) token is = (t, token, is)
-      by (Err w) token is = absurd (cc)
 
   -- ---- what the texts of a list add
   abbrev of_texts : List BfEntry → Lists
@@ -737,8 +730,8 @@ read_declared held text =
     (said.declared, said.stands, said.lists_are)
 
 pub salvaged_declared : (text : List ℕ) → AreDeclared text (salvaged text).said.lists
-salvaged_declared text = by (is_read_in_rows text) refl
+salvaged_declared text = let (declared, stands, lists) = by (is_read_in_rows text) refl in (is_read_in_rows text, in_rows_now text, declared, stands, lists)
   where
-    by : (rows : Bool) → is_read_in_rows text ≡ rows → AreDeclared text (salvaged text).said.lists
+    by : (rows : Bool) → is_read_in_rows text ≡ rows → DeclaredIn (is_read_in_rows text) text (salvaged text).said.lists
     by true is = rw is (read_declared (rows_of text) text)
     by false is = rw is (first_declared false text)

@@ -15,7 +15,9 @@ use Rattle.cmap_text.specs.declared.salvage.rows.Row.{Row}
 use Rattle.cmap_text.specs.TextFiles.{Item, Section, key, declared_by, IsItem, names_used}
 use Rattle.cmap_text.specs.TextReading.{Said, adding, code_fault, code_or_closer, entry_after, is_executable, item_said, nothing_said, opened_by, with_key, with_other, closer, opener}
 use Rattle.cmap_text.specs.TokenParsers.{after, head}
-use Rattle.cmap_text.specs.Salvage.{AreFirstEntries, BeginWithItems, Fronts, KeepsFronts, OpenSection, Salvaged, State, at_fault, begin_item, finished, first_read, having_lists, in_brackets, in_entry, in_line, in_list, is_read_in_rows, item, new_entry, nothing_salvaged, read_in_rows, salvaged, saying, take_all, take_rows, tokens_before, value}
+use Rattle.cmap_text.specs.FirstFaults.{AreFirstEntries, BeginWithItems, Fronts, KeepsFronts, OpenSection, tokens_before, tokens_kept}
+use Rattle.cmap_text.specs.Salvage.{Salvaged, State, at_fault, begin_item, finished, first_read, having_lists, in_brackets, in_entry, in_line, in_list, is_read_in_rows, item, new_entry, nothing_salvaged, read_in_rows, salvaged, saying, take_all, take_rows, value}
+use Rattle.cmap_text.proofs.FaultyRead.{in_rows_now}
 use Rattle.cmap_text.proofs.EntriesRead.{entry_found}
 use Rattle.cmap_text.proofs.ItemsRead.{no_item, one_found, opened_by-own}
 use Rattle.cmap_text.proofs.ItemsSaid.{all_says, said_after, says, says_all}
@@ -169,13 +171,13 @@ module _ (text : List ℕ) where
       subst (λ s. BeginsSo declared names (finished (length text) s)) (sym agrees.same) (ends_so declared names (length text) (take_rows agrees.held (take_all (item, nothing_salvaged) agrees.before) agrees.rest) all)
 
   pub fronts_kept : KeepsFronts text (salvaged text).faults (salvaged text).said.lists (salvaged text).said.uses
-  fronts_kept = by (is_read_in_rows text) refl
+  fronts_kept = (is_read_in_rows text, in_rows_now text, by (is_read_in_rows text) refl)
     where
       in_rows : is_read_in_rows text ≡ true → (faults : List Stop) → (read_in_rows (rows_of text) text).faults ≡ faults
           → Fronts (map (λ p. p.token) (tokens_before faults (tokens_of (start_of text)).tokens)) (read_in_rows (rows_of text) text).said.lists (read_in_rows (rows_of text) text).said.uses
       in_rows rows [] none = absurd (has_fault text rows none)
       in_rows rows (fault ∷ more) is = fronts_rows (rows_of text) fault more is
 
-      by : (rows : Bool) → is_read_in_rows text ≡ rows → KeepsFronts text (salvaged text).faults (salvaged text).said.lists (salvaged text).said.uses
+      by : (rows : Bool) → is_read_in_rows text ≡ rows → Fronts (map (λ p. p.token) (tokens_kept (is_read_in_rows text) text (salvaged text).faults)) (salvaged text).said.lists (salvaged text).said.uses
       by true is = rw is (in_rows is (read_in_rows (rows_of text) text).faults refl)
       by false is = rw is fronts_first

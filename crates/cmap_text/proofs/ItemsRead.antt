@@ -11,7 +11,7 @@ use Rattle.cmap_values.specs.declared.fault.Reason.TheVariants.{UseWithoutName}
 use Rattle.cmap_text.specs.TextFiles.{Section, cids, mapped, notdef, range, keys, Item, key, entries, use_of_base, other, IsKey, IsOtherToken, Opens, IsItem, AreItems}
 use Rattle.cmap_text.specs.TokenParsers.{after, followed_by, ItemParser, reads, done, giving, wanted, takes_value, next_in, repeated, repeated_within, round, run_item}
 use Rattle.cmap_text.specs.TextReading.{adding, all_said, body_in, is_executable, item_after, item_said, key_in, opened_by, Said, sections, with_key, with_lists, with_other, with_use, opener, use_word}
-use Rattle.cmap_text.proofs.TokensRead.{some_bound, is_executable-found}
+use Rattle.cmap_text.proofs.TokensRead.{is_executable-found, no_answer, some_bound}
 use Rattle.cmap_text.proofs.TokenParsers.{bound, same_Ok, err-ok, having, length-words, words, Implies, Means, Relation, IsThere, is_there, IsFound, is_found, known, then_found, repeated_next, wrong_there}
 use Rattle.cmap_text.proofs.EntriesRead.{entries_there, entries_found}
 use Rattle.cmap_text.proofs.ItemsSaid.{says, says_all}
@@ -61,7 +61,7 @@ finds_section t (Some section) is = record {
 }
 
 -- what the first token of an item is
-data Kind : Token → Type 0 where
+pub data Kind : Token → Type 0 where
   opens : (section : Section) → Kind (opening section)
   uses : Kind (Token.Name false use_word)
   takes : (k : List ℕ) → Contains keys k → Kind (Token.Name true k)
@@ -71,7 +71,7 @@ cases_Option : {A : Type 0} (o : Option A) → (o ≡ None) ⊎ ((x : A) × (o �
 cases_Option None = inl refl
 cases_Option (Some x) = inr (x, refl)
 
-kind_of : (t : Token) → Kind t
+pub kind_of : (t : Token) → Kind t
 kind_of t =
     elim (cases_Option (opened_by t)) [
       | inr (section, is) ↦ rw (opened_by-found t section is) (opens section)
@@ -93,11 +93,6 @@ item_of old (opens section) = reads (giving (with_lists old) (body_in section ol
 item_of old uses = wanted UseWithoutName (option_map (with_use old) old.operand)
 item_of old (takes k contained) = takes_value (with_key old k)
 item_of old (alone t plain) = reads (done (with_other old t))
-
--- none where none can be
-no_answer : {A : Type 0} (o : Option A) → ((x : A) → o ≡ Some x → ⊥) → o ≡ None
-no_answer None none = refl
-no_answer (Some x) none = absurd (none x refl)
 
 other_after : (old : Said) (t : Token) → IsOtherToken t → item_after old t ≡ reads (done (with_other old t))
 other_after old t (no_key, no_opener, no_use) =

@@ -22,7 +22,7 @@ says_all old [] = Some old
 says_all old (item ∷ items) = option_and_then (λ mid. says_all mid items) (says old item)
 
 -- the values and the operand after some items
-pub values_after : Values → List Item → Values
+unfoldable pub values_after : Values → List Item → Values
 values_after values [] = values
 values_after values (key k value ∷ items) = values_after (with_value values k value) items
 values_after values (_ ∷ items) = values_after values items

@@ -18,6 +18,13 @@ mod ListsKept
 mod WholeRead
 mod RowsRead
 mod FrontsKept
-pub mod TextFaults
 mod Places
+mod FaultyPassed
+mod FaultyLists
+mod FaultyPlaces
+mod FaultyEntries
+mod FaultyItems
+mod FaultyTotal
+mod FaultyRead
+pub mod TextFaults
 mod Declared

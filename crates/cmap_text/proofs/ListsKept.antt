@@ -13,7 +13,8 @@ use Rattle.cmap_text.specs.Rows.{parts_on, rows_at}
 use Rattle.cmap_text.specs.declared.salvage.rows.Row.{Row}
 use Rattle.cmap_text.specs.TextFiles.{Section, bf_char, bf_range, cids, codespace_range, declares_cid, range, single}
 use Rattle.cmap_text.specs.TextReading.{Code, adding, cid_in, code_in, codespace, destination_in, filed, is_executable, key_in, opened_by, text_of, with_other, use_word}
-use Rattle.cmap_text.specs.Salvage.{BeginWithLists, Class, Entry, Filled, Mended, Parts, Rest, Salvaged, State, Texts, after_entry, after_malformed, after_part, alone, at_fault, begin_item, begin_line, class_of, close_bracket, empty_text_in, end_list, entry_fault, fault_of, fill, fill_texts, finished, having_lists, if_cid, if_code, if_text, in_brackets, in_entry, in_line, in_list, is_closer, is_nominal, is_short, is_stray, item, known, lacks_bracket, list_after, losing, mend, new_entry, no_parts, no_text, none, one, open_bracket, own_fault, part, pass_in_entry, pass_in_line, pass_in_list, passed_over, past_texts, rest_of, saying, take_after_texts, take_all, take_in_entry, take_in_list, take_in_row, take_item, take_part, take_piece, take_rows, take_text, take_unless_stray, take_use, take_value, taken, text_in, two, value, with_fault, with_piece}
+use Rattle.cmap_text.specs.FirstFaults.{BeginWithLists}
+use Rattle.cmap_text.specs.Salvage.{Class, Entry, Filled, Mended, Parts, Rest, Salvaged, State, Texts, after_entry, after_malformed, after_part, alone, at_fault, begin_item, begin_line, class_of, close_bracket, empty_text_in, end_list, entry_fault, fault_of, fill, fill_texts, finished, having_lists, if_cid, if_code, if_text, in_brackets, in_entry, in_line, in_list, is_closer, is_nominal, is_short, is_stray, item, known, lacks_bracket, list_after, losing, mend, new_entry, no_parts, no_text, none, one, open_bracket, own_fault, part, pass_in_entry, pass_in_line, pass_in_list, passed_over, past_texts, rest_of, saying, take_after_texts, take_all, take_in_entry, take_in_list, take_in_row, take_item, take_part, take_piece, take_rows, take_text, take_unless_stray, take_use, take_value, taken, text_in, two, value, with_fault, with_piece}
 use Rattle.cmap_text.specs.Salvage as salvage
 use Rattle.cmap_text.proofs.FaultsAdded.{by_bool, by_class, by_option}
 

@@ -12,7 +12,7 @@ use Rattle.cmap_values.specs.declared.fault.Reason.{Reason}
 use Rattle.cmap_values.specs.declared.fault.Reason.TheVariants.{EndWithinSection}
 use Rattle.cmap_text.specs.TextFiles.{IsTextFile}
 use Rattle.cmap_text.specs.TokenParsers.{Found, Refused, missing, offset_of, after, followed_by, head_in, malformed_reason, next_in, or_wrong, token_in, Parser, done, head, giving, chain, repeat, round, run, ItemParser, reads, takes_value, wanted, run_item}
-use Rattle.cmap_text.specs.TextReading.{all_said, item_after, item_said, nothing_said, Said}
+use Rattle.cmap_text.specs.TextReading.{Said, all_said, item_after, item_said, nothing_said}
 use Rattle.cmap_text.proofs.TokenParsers.{having, head-shorter, is_there, repeat_next}
 use Rattle.cmap_text.proofs.ItemsRead.{item-shorter, next-shorter, said_next}
 use Rattle.cmap_text.proofs.TextRead.{no_file}

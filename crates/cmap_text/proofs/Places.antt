@@ -225,7 +225,7 @@ second_true false b is = absurd (cc)
 abbrev begun_with : Token → Place
 begun_with t = elim (opened_by t) [ Some section ↦ within section | None ↦ elim (key_in t) [ Some k ↦ key_value | None ↦ outside ] ]
 
-closed : (section : Section) → (class_of_token (Token.Name false (closer section)) ≡ known) × (begun_with (Token.Name false (closer section)) ≡ outside)
+pub closed : (section : Section) → (class_of_token (Token.Name false (closer section)) ≡ known) × (begun_with (Token.Name false (closer section)) ≡ outside)
 closed codespace_range = (refl, refl)
 closed (cids mapped range) = (refl, refl)
 closed (cids mapped single) = (refl, refl)

@@ -11,11 +11,15 @@ use Rattle.cmap_values.specs.declared.fault.Stop.{Stop}
 use Rattle.cmap_tokens.proofs.Fronts.{has_tokens}
 use Rattle.cmap_tokens.specs.TokensLeft.{Left, start_of, tokens_of}
 use Rattle.cmap_text.specs.Rows.{rows_of}
-use Rattle.cmap_text.specs.Salvage.{BeginsRefused, IsFirstOf, SalvagesFile, Salvaged, first_read, is_read_in_rows, read_in_rows, refusal_of, refused_at, salvaged}
+use Rattle.cmap_text.specs.FaultyTexts as faulty
+use Rattle.cmap_text.specs.FaultyTexts.{SalvagesFile, TextRead}
+use Rattle.cmap_text.specs.FirstFaults.{BeginsRefused, IsFirstOf, refusal_of, refused_at}
+use Rattle.cmap_text.specs.Salvage.{Salvaged, first_read, is_read_in_rows, read_in_rows, salvaged}
 use Rattle.cmap_text.specs.TextFiles.{IsTextFile}
-use Rattle.cmap_text.specs.TextReading.{Said, StopsText, all_said, nothing_said, AreSaid}
+use Rattle.cmap_text.specs.TextReading.{AreSaid, Said, StopsText, all_said, nothing_said}
 use Rattle.cmap_text.specs.TokenParsers.{Found, Refused}
 use Rattle.cmap_text.proofs.FaultPlaces.{ascend_within, first_ascends}
+use Rattle.cmap_text.proofs.FaultyRead.{Salvages, faults_read, file_salvaged, in_rows_is}
 use Rattle.cmap_text.proofs.RowsRead.{NoLater, read_no_later}
 use Rattle.cmap_text.proofs.Stops.{decided_text, refused_text}
 use Rattle.cmap_text.proofs.TextRead.{said_file, text_file}
@@ -56,11 +60,14 @@ module _ (text : List ℕ) where
       refused : StopsText text (refusal_of (length text) stop)
       refused = (e, none, omega (arith, within, stops.of.offset), stops.of.reason)
 
+      read : (found : faulty.Found) × TextRead text found × (found.faults ≡ (salvaged text).faults)
+      read = faults_read text
+
       by : (rows : Bool) → is_read_in_rows text ≡ rows → Refusal text (salvaged text).faults
-      by false is = record { fault = stop; more = stops.more; refusal = refusal_of (length text) stop; is = rw is stops.is; stops = refused; first = (stop, stops.more, refl, omega arith, λ _. refl, rw is stops.is) }
+      by false is = record { fault = stop; more = stops.more; refusal = refusal_of (length text) stop; is = rw is stops.is; stops = refused; first = (stop, stops.more, read.0, refl, omega arith, λ _. refl, read.1, read.2 ∙ rw is stops.is) }
       by true is =
           let (fault, more, found, before) = subst (λ fs. NoLater fs (read_in_rows (rows_of text) text).faults) stops.is (read_no_later (rows_of text) text) in
-          record { fault = fault; more = more; refusal = refusal_of (length text) stop; is = rw is found; stops = refused; first = (stop, more, refl, before, λ not. (let clash = sym is ∙ not in absurd (cc)), rw is found) }
+          record { fault = fault; more = more; refusal = refusal_of (length text) stop; is = rw is found; stops = refused; first = (stop, more, read.0, refl, before, λ not. (let clash = sym is ∙ sym (in_rows_is text false not) in absurd (cc)), read.1, read.2 ∙ rw is found) }
 
   refused : (e : Refused) → Reads (Err e) → Refusal text (salvaged text).faults
   refused e none = refusal_from e none (whole_of text (Err e) none)
@@ -74,8 +81,8 @@ module _ (text : List ℕ) where
 
   module _ (file : File) where
     -- without a fault it is a file
-    pub no_fault : SalvagesFile text file [] → IsTextFile text file
-    no_fault (metadata_is, lists, uses, none) = by (all_said nothing_said (tokens_of (start_of text))) refl
+    no_fault_read : Salvages text file [] → IsTextFile text file
+    no_fault_read (metadata_is, lists, uses, none) = by (all_said nothing_said (tokens_of (start_of text))) refl
       where
         by : (r : Found Said) → Reads r → IsTextFile text file
         by (Ok p) is =
@@ -87,10 +94,13 @@ module _ (text : List ℕ) where
             subst (IsTextFile text) (sym (file_is ∙ rw (same_lists, same_uses) refl)) read
         by (Err e) is = let wrong = none ∙ (refused e is).is in absurd (cc)
 
+    pub no_fault : SalvagesFile text file [] → IsTextFile text file
+    no_fault salvages = no_fault_read (file_salvaged text file [] salvages)
+
     -- the first fault is that for which it is refused, or in rows one before it
-    pub first_fault : (fault : Stop) (more : List Stop) → SalvagesFile text file (fault ∷ more)
+    first_fault_read : (fault : Stop) (more : List Stop) → Salvages text file (fault ∷ more)
         → (refusal : Stop) × HoldsOfNone (IsTextFile text) × (refusal.offset ≤ length text) × DecidedBy IsTextFile text refusal × StopsText text refusal × IsFirstOf text fault refusal
-    first_fault fault more (metadata_is, lists, uses, faults) = by (all_said nothing_said (tokens_of (start_of text))) refl
+    first_fault_read fault more (metadata_is, lists, uses, faults) = by (all_said nothing_said (tokens_of (start_of text))) refl
       where
         by : (r : Found Said) → Reads r → (refusal : Stop) × HoldsOfNone (IsTextFile text) × (refusal.offset ≤ length text) × DecidedBy IsTextFile text refusal × StopsText text refusal × IsFirstOf text fault refusal
         by (Ok p) is = let wrong = faults ∙ ap (λ s. s.faults) (whole p is) in absurd (cc)
@@ -99,6 +109,10 @@ module _ (text : List ℕ) where
             let same : begins.fault ≡ fault = let heads = faults ∙ begins.is in cc in
             let (none, within) = refused_text text begins.refusal begins.stops in
             (begins.refusal, none, within, decided_text text begins.refusal begins.stops, begins.stops, subst (λ f. IsFirstOf text f begins.refusal) same begins.first)
+
+    pub first_fault : (fault : Stop) (more : List Stop) → SalvagesFile text file (fault ∷ more)
+        → (refusal : Stop) × HoldsOfNone (IsTextFile text) × (refusal.offset ≤ length text) × DecidedBy IsTextFile text refusal × StopsText text refusal × IsFirstOf text fault refusal
+    first_fault fault more salvages = first_fault_read fault more (file_salvaged text file (fault ∷ more) salvages)
 
   -- ---- what is given
   -- of a file, just that

@@ -3,9 +3,10 @@ use Rattle.std.proofs.Common.{◌≡◌, ℕ, ◌≤◌, ◌<◌, ◌^◌, ◌&&
 use Rattle.std.proofs.lemmas.Bool.{and_parts, eqb-true, le-leb, leb-true, lt-ltb, ltb-true}
 use Rattle.std.proofs.lemmas.Option.{none-some, same_Some}
 use Rattle.std.proofs.lemmas.Slice.Eq.{bytes_eq-Decides}
-use Rattle.std.specs.Prelude.{pos, ◌==◌, nat_le, nat_lt, Option, Some, None, option_map, option_and_then, if◌then◌else◌}
+use Rattle.std.specs.Prelude.{pos, ◌==◌, nat_le, nat_lt, Option, Some, None, option_map, option_and_then, Result, Ok, Err, if◌then◌else◌}
 use Rattle.cmap_values.specs.BigEndian.{big_endian}
 use Rattle.cmap_tokens.specs.Numbers.{Number}
+use Rattle.cmap_tokens.specs.Pieces.{Piece, Wrong}
 use Rattle.cmap_tokens.specs.Strings.{IsValue, WritesTwoBytes}
 use Rattle.cmap_tokens.proofs.StringValues.{IsValue-read, IsValue-from}
 use Rattle.cmap_tokens.specs.Texts.{units_of}
@@ -22,6 +23,19 @@ some_bound f (Some x) y is = (x, refl, is)
 pub some_mapped : {A B : Type 0} (f : A → B) (o : Option A) (y : B) → option_map f o ≡ Some y → (x : A) × (o ≡ Some x) × (f x ≡ y)
 some_mapped f None y is = absurd (none-some y is)
 some_mapped f (Some x) y is = (x, refl, same_Some (f x) y is)
+
+-- none where none can be
+pub no_answer : {A : Type 0} (o : Option A) → ((x : A) → o ≡ Some x → ⊥) → o ≡ None
+no_answer None none = refl
+no_answer (Some x) none = absurd (none x refl)
+
+-- what is read of a piece is read of a token
+pub token_read : {A : Type 0} (piece : Piece) (read : Token → Option A) (x : A) → (elim piece.token as (λ r. Option A) [ Ok t ↦ read t | Err w ↦ None ]) ≡ Some x → (t : Token) × (piece.token ≡ Ok t) × (read t ≡ Some x)
+token_read {A} piece read x is = by piece.token refl is
+  where
+    by : (r : Result Token Wrong) → piece.token ≡ r → (elim r as (λ r. Option A) [ Ok t ↦ read t | Err w ↦ None ]) ≡ Some x → (t : Token) × (piece.token ≡ Ok t) × (read t ≡ Some x)
+    by (Ok t) token is = (t, token, is)
+    by (Err w) token is = absurd (none-some x is)
 
 pub tested : {A : Type 0} (b : Bool) (x y : A) → (if b then Some x else None) ≡ Some y → (b ≡ true) × (x ≡ y)
 tested true x y is = (refl, same_Some x y is)

@@ -17,7 +17,8 @@ use Rattle.cmap_text.specs.TextFiles.{Section, bf_char, bf_range, cids, codespac
 use Rattle.cmap_text.specs.TextReading.{Code, Said, adding, all_said, body_in, cid_in, code_fault, code_in, code_or_closer, codespace, codespace_fault, codespace_to, destination_in, entry_after, filed, is_executable, item_after, item_said, key_in, cids_after, list_in, list_or_destination, next_cid, next_code, next_destination, nothing_said, opened_by, text_of, with_key, with_lists, with_other, with_use, closer, opener, use_word}
 use Rattle.cmap_text.specs.TextReading.{texts_from as texts_from_code}
 use Rattle.cmap_text.specs.TokenParsers.{Found, Refused, after, chain, followed_by, giving, head, head_in, malformed_reason, missing, next_in, offset_of, or_wrong, round, run}
-use Rattle.cmap_text.specs.Salvage.{Class, Entry, Filled, Salvaged, State, Texts, alone, at_fault, begin_item, class_of, class_of_malformed, class_of_name, class_of_token, close_bracket, entry_fault, fault_of, fill, fill_high, finished, having_lists, having_value, in_brackets, in_entry, in_line, in_list, is_closer, item, known, known_words, list_begun, lone_brackets, new_entry, no_parts, no_text, nothing_salvaged, one, open_bracket, own_fault, part, past_texts, refused_at, saying, take_after_texts, take_all, take_in_entry, take_in_list, take_part, take_text, take_use, take_value, text_in, two, value, with_fault, with_parts, with_piece}
+use Rattle.cmap_text.specs.FirstFaults.{refused_at}
+use Rattle.cmap_text.specs.Salvage.{Class, Entry, Filled, Salvaged, State, Texts, alone, at_fault, begin_item, class_of, class_of_malformed, class_of_name, class_of_token, close_bracket, entry_fault, fault_of, fill, fill_high, finished, having_lists, having_value, in_brackets, in_entry, in_line, in_list, is_closer, item, known, known_words, list_begun, lone_brackets, new_entry, no_parts, no_text, nothing_salvaged, one, open_bracket, own_fault, part, past_texts, saying, take_after_texts, take_all, take_in_entry, take_in_list, take_part, take_text, take_use, take_value, text_in, two, value, with_fault, with_parts, with_piece}
 use Rattle.cmap_text.specs.Salvage as salvage
 use Rattle.cmap_text.proofs.EntriesRead.{body_next}
 use Rattle.cmap_text.proofs.ItemsRead.{item-shorter, key_in-found, next-shorter, opened_by-found, said_next}

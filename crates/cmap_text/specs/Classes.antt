@@ -1,12 +1,12 @@
 -- What pieces are in a section.
-use Rattle.std.specs.Prelude.{ℕ, ◌++◌, Bool, true, false, List, [], ◌∷◌, codes, bytes_eq, map, Ok, Err, if◌then◌else◌}
+use Rattle.std.specs.Prelude.{ℕ, ◌++◌, ◌&&◌, Bool, true, false, List, [], ◌∷◌, codes, bytes_eq, map, Option, None, Ok, Err, if◌then◌else◌}
 use Rattle.std.specs.List.{list_any}
 use Rattle.cmap_tokens.specs.Malformed as malformed
 use Rattle.cmap_tokens.specs.Malformed.{Malformed}
 use Rattle.cmap_tokens.specs.Pieces.{Piece}
 use Rattle.cmap_tokens.specs.Tokens.{Token}
 use Rattle.cmap_text.specs.TextFiles.{Section, bf_char, bf_range, cids, codespace_range, range, single}
-use Rattle.cmap_text.specs.TextReading.{sections, closer, opener}
+use Rattle.cmap_text.specs.TextReading.{closer, destination_in, opener, sections}
 
 pub data Class : Type 0 where
   -- an executable name that ends a section
@@ -52,6 +52,14 @@ abbrev pub is_string : Token → Bool
 is_string (Token.String raw) = true
 is_string _ = false
 
+abbrev pub is_known : Class → Bool
+is_known known = true
+is_known _ = false
+
+abbrev pub is_part : Class → Bool
+is_part part = true
+is_part _ = false
+
 -- a string, of any value
 abbrev pub is_string_piece : Piece → Bool
 is_string_piece piece = elim piece.token [ Ok t ↦ is_string t | Err w ↦ false ]
@@ -63,6 +71,14 @@ is_name _ = false
 
 abbrev pub is_name_piece : Piece → Bool
 is_name_piece piece = elim piece.token [ Ok t ↦ is_name t | Err w ↦ false ]
+
+-- a name that isn't known
+abbrev pub is_stray : Piece → Bool
+is_stray piece = is_name_piece piece && is_part (class_of piece)
+
+-- the units of a text that isn't empty
+abbrev pub text_in : Piece → Option (List ℕ)
+text_in piece = elim piece.token [ Ok t ↦ destination_in t | Err w ↦ None ]
 
 -- how many places an entry has
 abbrev pub places_of : Section → ℕ

@@ -5,6 +5,8 @@ pub mod EntriesSeen
 pub mod TokenParsers
 pub mod Classes
 pub mod Rows
+pub mod FaultyTexts
+pub mod FirstFaults
 pub mod Salvage
 pub mod SalvageSeen
 pub mod Standing

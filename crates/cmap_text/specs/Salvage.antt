@@ -1,29 +1,20 @@
--- What a text says apart from its faults, piece by piece.
-use Rattle.std.specs.Prelude.{◌≡◌, ℕ, ◌+◌, ◌-◌, ◌≤◌, ◌&&◌, ◌||◌, ◌==◌, not, nat_le, nat_lt, Bool, true, false, List, [], ◌∷◌, ◌++◌, ◌⊎◌, flat_map, length, take, take_while, codes, map, Option, Some, None, option_and_then, option_map, Result, Ok, Err, if◌then◌else◌}
-use Rattle.cmap_tokens.specs.Pieces.{Piece, Wrong, pieces_left}
+-- Private aid: the reading of a text past its faults, piece by piece, as the code does it. What such a text says is said by FaultyTexts.
+use Rattle.std.specs.Prelude.{ℕ, ◌+◌, ◌-◌, ◌&&◌, ◌||◌, ◌==◌, not, nat_le, nat_lt, Bool, true, false, List, [], ◌∷◌, ◌++◌, length, take, codes, Option, Some, None, option_and_then, option_map, Result, Ok, Err, if◌then◌else◌}
+use Rattle.cmap_tokens.specs.Pieces.{Piece, pieces_left}
 use Rattle.cmap_tokens.specs.Tokens.{Token}
-use Rattle.cmap_tokens.specs.TokensLeft.{EndedToken, start_of, tokens_of}
-use Rattle.cmap_values.specs.Files.{Declaration, File, Lists, lists_of}
-use Rattle.cmap_values.specs.ListsAppended.{append_lists}
+use Rattle.cmap_tokens.specs.TokensLeft.{start_of}
+use Rattle.cmap_values.specs.Files.{Declaration, Lists}
 use Rattle.cmap_values.specs.declared.fault.Reason.{Reason}
-use Rattle.cmap_values.specs.declared.fault.Reason.TheVariants.{BracketExpected, CidExpected, CodeExpected, EndWithinSection, TextExpected, UnclosedString, UnequalLengths, UseWithoutName}
+use Rattle.cmap_values.specs.declared.fault.Reason.TheVariants.{BracketExpected, CidExpected, CodeExpected, EndWithinSection, TextExpected, UnequalLengths, UseWithoutName}
 use Rattle.cmap_values.specs.declared.fault.Stop.{Stop}
-pub use Rattle.cmap_text.specs.Classes.{Class, alone, class_of, class_of_malformed, class_of_name, class_of_token, close_bracket, is_name, is_name_piece, is_string, is_string_piece, known, known_words, lone_brackets, open_bracket, part, places_of}
+pub use Rattle.cmap_text.specs.Classes.{Class, alone, class_of, class_of_malformed, class_of_name, class_of_token, close_bracket, is_known, is_name, is_name_piece, is_part, is_stray, is_string, is_string_piece, known, known_words, lone_brackets, open_bracket, part, places_of, text_in}
+pub use Rattle.cmap_text.specs.FaultyTexts.{fault_of, fault_offset, own_fault}
 pub use Rattle.cmap_text.specs.Rows.{are_rows, parts_on, rows_at, rows_of}
 use Rattle.cmap_text.specs.declared.salvage.rows.Row.{Row}
-use Rattle.cmap_text.specs.TextFiles.{CidKind, IsEntry, IsItem, Item, Section, declared_by, names_used, bf_char, bf_range, cids, codespace_range, range, single, declares_cid}
-use Rattle.cmap_text.specs.TextReading.{Code, Said, StopsText, adding, cid_in, code_fault, code_in, codespace, destination_in, filed, is_executable, key_in, nothing_said, opened_by, text_of, value_in, with_other, with_value, AreSaid, closer, opener, use_word}
-use Rattle.cmap_text.specs.TokenParsers.{malformed_reason}
+use Rattle.cmap_text.specs.TextFiles.{CidKind, Section, bf_char, bf_range, cids, codespace_range, range, single, declares_cid}
+use Rattle.cmap_text.specs.TextReading.{Code, Said, adding, cid_in, closer, code_fault, code_in, codespace, destination_in, filed, is_executable, key_in, nothing_said, opened_by, text_of, use_word, value_in, with_other, with_value}
 
--- ---- faults
-abbrev pub own_fault : Wrong → Stop
-own_fault w = record { offset = w.offset; reason = malformed_reason w.kind }
-
--- a token's is at its end
-abbrev pub fault_of : Reason → Piece → Stop
-fault_of reason piece = elim piece.token [ Ok t ↦ record { offset = piece.end; reason = reason } | Err w ↦ own_fault w ]
-
--- ---- aids: the reading of pieces, one after another
+-- ---- what is read so far
 -- the parts of an entry, as far as they are read
 pub data Parts : Type 0 where
   none : Parts
@@ -305,9 +296,6 @@ rest_of_list list = record { section = bf_range; places = 1; begins_line = list.
 abbrev pub losing : Salvaged → Texts → Salvaged
 losing old list = having_lists old (record { cids = old.said.lists.cids; notdefs = old.said.lists.notdefs; bfs = take list.kept old.said.lists.bfs; spaces = old.said.lists.spaces })
 
-abbrev pub text_in : Piece → Option (List ℕ)
-text_in piece = elim piece.token [ Ok t ↦ destination_in t | Err w ↦ None ]
-
 -- more places are left than are filled
 abbrev pub is_nominal : Texts → Bool
 is_nominal list = nat_lt (list.next - list.first) (list.last + 1 - list.next)
@@ -399,17 +387,9 @@ third_missing _ = TextExpected
 abbrev pub missing : Entry → Reason
 missing entry = elim entry.parts [ none ↦ CodeExpected | one start ↦ second_missing entry.section | two start end ↦ third_missing entry.section ]
 
-abbrev pub is_known : Class → Bool
-is_known known = true
-is_known _ = false
-
 -- a line with so many parts begins within an entry, which it doesn't end
 abbrev pub is_short : ℕ → Entry → Piece → Bool
 is_short parts entry piece = not (no_parts entry.parts) && (not (is_known (class_of piece)) && not (parts == (rest_of entry).places))
-
--- a short entry is at fault at the piece that comes in its place
-abbrev pub fault_offset : Piece → ℕ
-fault_offset piece = elim piece.token [ Ok t ↦ piece.end | Err w ↦ w.offset ]
 
 abbrev pub short_fault : Entry → Piece → Stop
 short_fault entry piece = record { offset = fault_offset piece; reason = missing entry }
@@ -421,14 +401,7 @@ begin_line parts (at_fault rest, old) piece = (in_entry (new_entry rest.section)
 begin_line parts (in_line section, old) piece = (in_entry (new_entry section), old)
 begin_line parts now piece = now
 
-abbrev pub is_part : Class → Bool
-is_part part = true
-is_part _ = false
-
 -- a name that isn't known leaves the place to be filled
-abbrev pub is_stray : Piece → Bool
-is_stray piece = is_name_piece piece && is_part (class_of piece)
-
 abbrev pub take_unless_stray : State × Salvaged → Piece → State × Salvaged
 take_unless_stray (in_entry entry, old) piece = if is_stray piece then (in_entry (with_piece entry piece), with_fault old (fault_of (missing entry) piece)) else take_in_entry old entry piece
 take_unless_stray now piece = take_piece now piece
@@ -452,60 +425,3 @@ is_read_in_rows text = not (length (first_read text).faults == 0) && are_rows (r
 -- a text with a fault is read in rows, if its lines are rows
 abbrev pub salvaged : List ℕ → Salvaged
 salvaged text = if is_read_in_rows text then read_in_rows (rows_of text) text else first_read text
-
--- ---- the whole text
-abbrev pub SalvagesFile : List ℕ → File → List Stop → Type 0
-SalvagesFile text file faults = let found = salvaged text in AreSaid found.said.values file.metadata × (file.lists ≡ found.said.lists) × (file.uses ≡ found.said.uses) × (faults ≡ found.faults)
-
--- ---- the first fault
--- the offset at which a text of this length is refused for a fault: only the end shows that a string isn't closed
-abbrev pub refused_at : ℕ → Reason → ℕ → ℕ
-refused_at len UnclosedString offset = len
-refused_at len _ offset = offset
-
-abbrev pub refusal_of : ℕ → Stop → Stop
-refusal_of len fault = record { offset = refused_at len fault.reason fault.offset; reason = fault.reason }
-
--- a text that is refused for that one, where it is read up to its first fault, has this first fault past which it is read: the same, or in rows one that isn't after it
-abbrev pub IsFirstOf : List ℕ → Stop → Stop → Type 0
-IsFirstOf text fault refusal = (stop : Stop) × (more : List Stop) × (refusal ≡ refusal_of (length text) stop) × (fault.offset ≤ stop.offset) × (is_read_in_rows text ≡ false → fault ≡ stop) × ((salvaged text).faults ≡ fault ∷ more)
-
-abbrev pub BeginsRefused : List ℕ → List Stop → Type 0
-BeginsRefused text faults = (fault : Stop) × (more : List Stop) × (refusal : Stop) × (faults ≡ fault ∷ more) × StopsText text refusal × IsFirstOf text fault refusal
-
--- ---- what comes before the first fault
--- the first entries of a section, and what each declares
-abbrev pub AreFirstEntries : Section → List Token → List (List Declaration) → Type 0
-AreFirstEntries section tokens [] = Unit {0}
-AreFirstEntries section tokens (declared ∷ others) = (rest : List Token) × IsEntry section tokens declared rest × AreFirstEntries section rest others
-
--- tokens open a section, of which the first entries declare this
-abbrev pub OpenSection : List Token → List (List Declaration) → Type 0
-OpenSection tokens each = (section : Section) × (body : List Token) × (tokens ≡ Token.Name false (opener section) ∷ body) × AreFirstEntries section body each
-
--- tokens begin with these items, and perhaps with entries of a section after them, which declare this
-abbrev pub BeginWithItems : List Token → List Item → List (List Declaration) → Type 0
-BeginWithItems tokens [] each = (each ≡ []) ⊎ OpenSection tokens each
-BeginWithItems tokens (first ∷ items) each = (rest : List Token) × IsItem tokens first rest × BeginWithItems rest items each
-
--- the lists begin with these
-abbrev pub BeginWithLists : Lists → Lists → Type 0
-BeginWithLists front lists = (more : Lists) × (lists ≡ append_lists front more)
-
--- the first of these tokens, those that end before the first of these faults
-abbrev pub tokens_before : List Stop → List EndedToken → List EndedToken
-tokens_before [] tokens = tokens
-tokens_before (fault ∷ more) tokens = take_while (λ p. nat_lt p.end fault.offset) tokens
-
--- the tokens of a text with these faults, as far as what they say is kept: those before one that is malformed, or in rows before the first fault
-abbrev pub tokens_kept : List ℕ → List Stop → List EndedToken
-tokens_kept text faults = let tokens = (tokens_of (start_of text)).tokens in if is_read_in_rows text then tokens_before faults tokens else tokens
-
--- whatever items and entries these tokens begin with, the lists begin with what these declare, and the uses with the names that they use
-abbrev pub Fronts : List Token → Lists → List (List ℕ) → Type 0
-Fronts tokens lists uses = (items : List Item) (each : List (List Declaration)) (names : List (List ℕ)) → BeginWithItems tokens items each → names_used None items ≡ Some names
-    → BeginWithLists (lists_of (flat_map declared_by items ++ flat_map (λ ds. ds) each)) lists × ((more : List (List ℕ)) × (uses ≡ names ++ more))
-
--- what stands before the first fault of a text is kept
-abbrev pub KeepsFronts : List ℕ → List Stop → Lists → List (List ℕ) → Type 0
-KeepsFronts text faults = Fronts (map (λ p. p.token) (tokens_kept text faults))

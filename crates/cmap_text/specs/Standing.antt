@@ -1,14 +1,14 @@
 -- Where the declarations that are read past faults stand in the pieces of a text.
 use Rattle.std.specs.Prelude.{◌≡◌, ℕ, ◌+◌, ◌-◌, ◌<◌, ◌≤◌, ◌⊎◌, Bool, true, false, List, [], ◌∷◌, ◌++◌, codes, length, Some, None, Ok, Err}
 use Rattle.cmap_tokens.specs.Pieces.{Piece, pieces_left}
-use Rattle.cmap_tokens.specs.Strings.{IsValue}
 use Rattle.cmap_tokens.specs.Tokens.{Token}
 use Rattle.cmap_tokens.specs.TokensLeft.{start_of}
 use Rattle.cmap_values.specs.BigEndian.{big_endian}
 use Rattle.cmap_values.specs.Files.{Declaration, Lists, lists_of}
 use Rattle.cmap_text.specs.TextFiles.{IsCode, IsEntry, Section, bf_char, bf_range, codespace_range}
 use Rattle.cmap_text.specs.TextReading.{key_in, opened_by, text_of}
-use Rattle.cmap_text.specs.Salvage.{alone, class_of, class_of_malformed, is_read_in_rows, is_stray, known, open_bracket, part, text_in}
+use Rattle.cmap_text.specs.Classes.{alone, class_of, class_of_malformed, is_stray, known, open_bracket, part, text_in}
+pub use Rattle.cmap_text.specs.FaultyTexts.{InRows, IsEmptyString}
 
 -- pieces are these tokens, but for those that take no place: those that are alone and, in rows, names that aren't known
 pub data AreParts (rows : Bool) : List Piece → List Token → Type 0 where
@@ -16,10 +16,6 @@ pub data AreParts (rows : Bool) : List Piece → List Token → Type 0 where
   lone_piece : {pieces : List Piece} {tokens : List Token} → AreParts rows pieces tokens → (piece : Piece) → class_of piece ≡ alone → AreParts rows (pieces ++ piece ∷ []) tokens
   stray_name : {pieces : List Piece} {tokens : List Token} → AreParts rows pieces tokens → (piece : Piece) → rows ≡ true → is_stray piece ≡ true → AreParts rows (pieces ++ piece ∷ []) tokens
   next_part : {pieces : List Piece} {tokens : List Token} → AreParts rows pieces tokens → (piece : Piece) (t : Token) → piece.token ≡ Ok t → AreParts rows (pieces ++ piece ∷ []) (tokens ++ t ∷ [])
-
--- a string without bytes
-abbrev pub IsEmptyString : Token → Type 0
-IsEmptyString t = (raw : List ℕ) × (t ≡ Token.String raw) × IsValue raw []
 
 -- pieces of a list have texts for so many codes from this one on, or other parts in their place, and declare this
 pub data AreTexts (start : ℕ) : List Piece → ℕ → List Declaration → Type 0 where
@@ -65,4 +61,4 @@ pub data Stands (rows : Bool) : List Piece → List Declaration → Type 0 where
 
 -- the lists hold what stands so in the text
 abbrev pub AreDeclared : List ℕ → Lists → Type 0
-AreDeclared text lists = (declared : List Declaration) × Stands (is_read_in_rows text) (pieces_left (start_of text)) declared × (lists ≡ lists_of declared)
+AreDeclared text lists = (rows : Bool) × InRows text rows × (declared : List Declaration) × Stands rows (pieces_left (start_of text)) declared × (lists ≡ lists_of declared)

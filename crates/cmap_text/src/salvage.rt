@@ -10,8 +10,10 @@ ghost use Rattle.cmap_values.specs.Files as files;
 ghost use Rattle.cmap_values.specs.FilesSeen.{file_seen};
 ghost use Rattle.cmap_values.specs.MetadataSeen.{metadata_seen};
 ghost use Rattle.cmap_values.specs.Only.{HoldsOfNone, IsOnly};
+ghost use Rattle.cmap_text.specs.FaultyTexts.{SalvagesFile, SalvagesNoOther};
+ghost use Rattle.cmap_text.specs.FirstFaults.{BeginsRefused, KeepsFronts};
 ghost use Rattle.cmap_text.specs.Salvage as salvage;
-ghost use Rattle.cmap_text.specs.Salvage.{BeginsRefused, KeepsFronts, SalvagesFile, nothing_salvaged};
+ghost use Rattle.cmap_text.specs.Salvage.{nothing_salvaged};
 ghost use Rattle.cmap_text.specs.SalvageSeen.{entry_seen, found_seen, rest_seen, state_seen};
 ghost use Rattle.cmap_text.specs.Standing.{AreDeclared};
 ghost use Rattle.cmap_text.specs.TextFiles.{IsTextFile};
@@ -43,6 +45,10 @@ use std::alloc::{AllocError, Global};
 pub fn salvage_text<'d>(alloc: Global, text: &'d [u8]) -> Result<Salvaged<'d>, AllocError>
     ensures says { IfOk result
         (λ found. SalvagesFile text.now (file_seen found.file) found.faults.items) }
+
+    // It says nothing else, and has no other faults.
+    ensures only { IfOk result
+        (λ found. SalvagesNoOther text.now (file_seen found.file) found.faults.items) }
 
     // Of a file it gives just that, and no fault.
     ensures file { IfOk result (λ found. (file : files.File) → IsTextFile text.now file

@@ -1,14 +1,17 @@
-use Rattle.std.proofs.Common.{◌≡◌, [], length, sym, ap, subst}
+use Rattle.std.proofs.Common.{◌≡◌, [], length, refl, sym, subst}
 use Rattle.cmap_values.specs.Faults.{Ascend}
 use Rattle.cmap_values.specs.Files.{File}
 use Rattle.cmap_values.specs.MetadataSeen.{metadata_seen}
 use Rattle.cmap_values.specs.Only.{HoldsOfNone, IsOnly}
-use Rattle.cmap_text.specs.Salvage.{BeginsRefused, KeepsFronts, Salvaged, salvaged}
+use Rattle.cmap_text.specs.FaultyTexts.{SalvagesFile, SalvagesNoOther}
+use Rattle.cmap_text.specs.FirstFaults.{BeginsRefused, KeepsFronts}
+use Rattle.cmap_text.specs.Salvage.{Salvaged, salvaged}
 use Rattle.cmap_text.specs.TextFiles.{IsTextFile}
 use Rattle.cmap_text.specs.TextReading.{AreSaid}
 use Rattle.cmap_text.specs.Standing.{AreDeclared}
 use Rattle.cmap_text.proofs.Declared.{salvaged_declared}
 use Rattle.cmap_text.proofs.FaultPlaces.{salvaged_ascends}
+use Rattle.cmap_text.proofs.FaultyRead.{salvages_file, salvages_no_other}
 use Rattle.cmap_text.proofs.FrontsKept.{fronts_kept}
 use Rattle.cmap_text.proofs.TextFaults.{salvage_file, salvage_first}
 use Rattle.cmap_text.proofs.salvage.salvage_text.Goals as goal
@@ -25,8 +28,12 @@ returns c =
     let Keeps : Salvaged → Type 0 = λ s. KeepsFronts text s.faults s.said.lists s.said.uses in
     let Declares : Salvaged → Type 0 = λ s. AreDeclared text s.said.lists in
     let Refused : Salvaged → Type 0 = λ s. HoldsOfNone (IsTextFile text) → BeginsRefused text s.faults in
+    let Says : Salvaged → Type 0 = λ s. SalvagesFile text (record { metadata = metadata; lists = s.said.lists; uses = s.said.uses }) s.faults in
+    let SaysOnly : Salvaged → Type 0 = λ s. SalvagesNoOther text (record { metadata = metadata; lists = s.said.lists; uses = s.said.uses }) s.faults in
+    let found = salvaged text in
     record {
-      says = (values.holds, ap (λ s. s.said.lists) same, ap (λ s. s.said.uses) same, ap (λ s. s.faults) same);
+      says = subst Says (sym same) (salvages_file text (record { metadata = metadata; lists = found.said.lists; uses = found.said.uses }) found.faults (values.holds, refl, refl, refl));
+      only = subst SaysOnly (sym same) (salvages_no_other text metadata values);
       file = subst Gives (sym same) (salvage_file text metadata values);
       first = subst Refused (sym same) (salvage_first text metadata values);
       kept = subst Keeps (sym same) (fronts_kept text);
