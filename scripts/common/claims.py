@@ -14,7 +14,7 @@ CLAIMS = {
     "maker": ["make_named_bundle"],
 }
 
-USE = re.compile(r"^ *(?:pub |ghost )*use (Rattle(?:\.\w+)+)(?:\.\{([^}]*)\}|\s+as\s+(\w+))?;?$", re.MULTILINE)
+USE = re.compile(r"^ *(?:pub |ghost )*use ((?:Rattle|Prim)(?:\.\w+)+)(?:\.\{([^}]*)\}|\s+as\s+(\w+))?;?$", re.MULTILINE)
 BEGIN = re.compile(r" *(?:(?:pub|abbrev|unfoldable|data|record) )+(\S+)")
 CONSTRUCTOR = re.compile(r"^ +(?:pub )?([\w-]+) :", re.MULTILINE)
 NAME = re.compile(r"[^\W\d][\w'-]*(?:\.[^\W\d][\w'-]*)?")
