@@ -2,16 +2,16 @@
 use Rattle.std.proofs.Common.{◌≡◌, ℕ, ◌+◌, ◌<◌, ◌≤◌, refl, sym, ap, ◌∙◌, Bool, true, false, List, [], ◌∷◌, ◌++◌, length, take, drop, arith, Some, None, inl, inr}
 use Rattle.std.specs.Borrow.{Bor}
 use Rattle.std.specs.Prelude.{nat_eq, Option}
-use Rattle.std.specs.List.{IsSplitAt, PartBy, starts_with}
+use Rattle.std.specs.List.{PartBy, starts_with}
 use Rattle.std.proofs.lemmas.Bool.{false≢true}
 use Rattle.std.proofs.lemmas.List.{length-drop, length-take-le, take-take, take_rest}
 use Rattle.std.proofs.lemmas.Slice.Eq.{bytes_eq-Decides}
-use Rattle.cmap_values.specs.Only.{IsOnly, HoldsOfNone}
+use Rattle.cmap_values.specs.Only.{HoldsOfNone}
 use Rattle.cmap_values.specs.Outcomes.{Finds}
 use Rattle.cmap_binary.specs.BinaryFiles.{BodyOf, magic}
 use Rattle.cmap_binary.specs.BinarySalvage.{AfterHeader}
 use Rattle.cmap_packed.specs.Fronts.{BytesAt}
-use Rattle.cmap_packed.proofs.Fronts.{framed_alone, gives_if, pair_is, then_none, then_only}
+use Rattle.cmap_packed.proofs.Fronts.{framed_alone, gives_if, split_only, then_none, then_only}
 
 module _ (bytes : List ℕ) where
   -- the body stands after a header of ten bytes
@@ -41,9 +41,6 @@ begins file test is says = sym ((bytes_eq-Decides (magic ++ 1 ∷ []) (take 6 fi
 
 pub begins_otherwise : (file : List ℕ) (test : Bool) → test ≡ starts_with nat_eq file (magic ++ 1 ∷ []) → test ≡ false → take 6 file ≡ magic ++ 1 ∷ [] → ⊥
 begins_otherwise file test is says begun = false≢true (sym says ∙ is ∙ (bytes_eq-Decides (magic ++ 1 ∷ []) (take 6 file)).1 (sym begun))
-
-pub split_only : (size : ℕ) (bytes piece rest : List ℕ) → IsSplitAt bytes size piece rest → IsOnly (BytesAt size bytes) (piece, rest)
-split_only size bytes piece rest split = record { holds = split; alone = λ other is. pair_is other (piece, rest) (is.1 ∙ sym split.1) (is.2 ∙ sym split.2) }
 
 pub no_after : (bytes : List ℕ) → (take 6 bytes ≡ magic ++ 1 ∷ [] → ⊥) → HoldsOfNone (AfterHeader bytes)
 no_after bytes other rest (header, after, split, (head, is)) = other (sym (ap (take 6) split.1 ∙ take-take 6 10 bytes (omega arith)) ∙ head)

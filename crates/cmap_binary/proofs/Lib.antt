@@ -1,6 +1,7 @@
 pub mod BinarySalvaged
 pub mod Bodies
 mod CidsOfTwo
+pub mod EntriesByColumns
 pub mod EntrySums
 pub mod FaultsFirst
 pub mod OneFile

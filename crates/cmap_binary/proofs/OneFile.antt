@@ -1,15 +1,18 @@
 -- The bytes of a binary file say one thing, where no code word of its tables begins another one.
 use Rattle.std.proofs.Common.{ℕ, zero, suc, ◌+◌, sym, ap, ◌∙◌, subst, List, [], drop, Some, None}
 use Rattle.std.specs.Prelude.{Option, slice_index}
+use Rattle.std.proofs.lemmas.Option.{same_Some}
 use Rattle.cmap_packed.specs.Bundles.{PrefixTables}
-use Rattle.cmap_packed.specs.Fronts.{AllOf, ByteAt, CodeAt, FieldAt, RowOf, SizedAt, TerminatedAt}
+use Rattle.cmap_packed.specs.Fronts.{AllOf, ByteAt, CodeAt, FieldAt, RowOf, SizedAt, TerminatedAt, Then}
 use Rattle.cmap_packed.specs.PrefixWords.{CodeWord, IsPrefixFree, bits}
 use Rattle.cmap_packed.proofs.Fronts.{framed_alone, no_frame, pair_is}
 use Rattle.cmap_packed.proofs.FrontsAlone.{Alone, ArePrefixFree, all_alone, byte_alone, code_alone, field_alone, gives_alone, gives_if_alone, list_alone, row_alone, sized_alone, symbol_alone, terminated_alone, then_alone}
-use Rattle.cmap_binary.specs.BinaryEntries.{BfEntriesIn, BfEntryAt, CidColumns, CidEntriesIn, CidEntriesOf, CidEntryAt, Columns, ColumnsAfter, ColumnsAt, CountsAt, DestinationAt, Shape, SpanAt, SymbolAt, WidthAt, ranges, singles}
+use Rattle.cmap_binary.specs.BinaryEntries.{BfEntriesOf, CidEntriesOf, DestinationAt, Shape, SymbolAt, ranges, singles}
+use Rattle.cmap_binary.specs.EntryByEntry.{BfEntryAt, BfsByEntry, CidColumns, CidEntryAt, CidsByEntry, Columns, ColumnsAfter, ColumnsAt, CountsAt, SpanAt, WidthAt}
 use Rattle.cmap_binary.specs.BinaryFiles as files
-use Rattle.cmap_binary.specs.BinaryFiles.{CodespaceAt, CodespacesIn, CollectionIn, Content, IsBinaryFile, IsSegment, Kind, Made, NotdefAt, NotdefsIn, SaysAs, SaysIfKind, SegmentAt, file_of, kind_of}
+use Rattle.cmap_binary.specs.BinaryFiles.{CodespaceAt, CodespacesIn, CollectionIn, Content, IsBinaryFile, IsSegment, Kind, Made, NotdefAt, NotdefsIn, SaysAs, SegmentAt, file_of}
 use Rattle.cmap_binary.proofs.Bodies.{body_alone}
+use Rattle.cmap_binary.proofs.EntriesByColumns.{bfs_same, cids_same}
 
 -- ---- columns
 counts_alone : (shape : Shape) (text : List ℕ) → Alone (CountsAt shape text)
@@ -35,12 +38,13 @@ module _ (tables : PrefixTables) (free : ArePrefixFree tables) where
   pub cid_alone : (left : CidColumns) → Alone (CidEntryAt tables left)
   cid_alone left = then_alone (SpanAt tables left.columns) _ (span_alone left.columns) (λ span columns. then_alone (FieldAt 2 left.raws) _ (field_alone 2 left.raws) (λ raw raws. gives_if_alone _ _))
 
-  cids_of_alone : (shape : Shape) (n : ℕ) (text : List ℕ) → Alone (CidEntriesOf tables shape n text)
-  cids_of_alone shape zero text = gives_alone []
-  cids_of_alone shape (suc m) text = then_alone (ColumnsAt shape text) _ (columns_alone shape text) (λ columns raws. list_alone (CidEntryAt tables) cid_alone (suc m) (record { columns = columns; raws = raws; next = 0 }))
+  cids_by_entry_alone : (shape : Shape) (n : ℕ) (text : List ℕ) → Alone (CidsByEntry tables shape n text)
+  cids_by_entry_alone shape zero text = gives_alone []
+  cids_by_entry_alone shape (suc m) text = then_alone (ColumnsAt shape text) _ (columns_alone shape text) (λ columns raws. list_alone (CidEntryAt tables) cid_alone (suc m) (record { columns = columns; raws = raws; next = 0 }))
 
-  cids_alone : (shape : Shape) (payload : List ℕ) → Alone (CidEntriesIn tables shape payload)
-  cids_alone shape payload = then_alone (FieldAt 2 payload) (CidEntriesOf tables shape) (field_alone 2 payload) (cids_of_alone shape)
+  cids_alone : (shape : Shape) (payload : List ℕ) → Alone (Then (FieldAt 2 payload) (CidEntriesOf tables shape))
+  cids_alone shape payload = then_alone (FieldAt 2 payload) (CidEntriesOf tables shape) (field_alone 2 payload) (λ n text x y is also.
+      cids_by_entry_alone shape n text x y ((cids_same tables shape n text x).0 is) ((cids_same tables shape n text y).0 also))
 
   destination_alone : (fixed : Option ℕ) (text : List ℕ) → Alone (DestinationAt fixed text)
   destination_alone (Some n) text = row_alone (FieldAt 2) (field_alone 2) n text
@@ -49,8 +53,12 @@ module _ (tables : PrefixTables) (free : ArePrefixFree tables) where
   pub bf_alone : (fixed : Option ℕ) (left : Columns × List ℕ) → Alone (BfEntryAt tables fixed left)
   bf_alone fixed left = then_alone (SpanAt tables left.0) _ (span_alone left.0) (λ span columns. then_alone (DestinationAt fixed left.1) _ (destination_alone fixed left.1) (λ units rest. gives_alone (record { start = span.start; end = span.end; units = units }, (columns, rest))))
 
-  bfs_alone : (shape : Shape) (fixed : Option ℕ) (payload : List ℕ) → Alone (BfEntriesIn tables shape fixed payload)
-  bfs_alone shape fixed payload = then_alone (FieldAt 2 payload) _ (field_alone 2 payload) (λ n text. then_alone (ColumnsAt shape text) _ (columns_alone shape text) (λ columns rest. list_alone (BfEntryAt tables fixed) (bf_alone fixed) n (columns, rest)))
+  bfs_by_entry_alone : (shape : Shape) (fixed : Option ℕ) (n : ℕ) (text : List ℕ) → Alone (BfsByEntry tables shape fixed n text)
+  bfs_by_entry_alone shape fixed n text = then_alone (ColumnsAt shape text) _ (columns_alone shape text) (λ columns rest. list_alone (BfEntryAt tables fixed) (bf_alone fixed) n (columns, rest))
+
+  bfs_alone : (shape : Shape) (fixed : Option ℕ) (payload : List ℕ) → Alone (Then (FieldAt 2 payload) (BfEntriesOf tables shape fixed))
+  bfs_alone shape fixed payload = then_alone (FieldAt 2 payload) (BfEntriesOf tables shape fixed) (field_alone 2 payload) (λ n text x y is also.
+      bfs_by_entry_alone shape fixed n text x y ((bfs_same tables shape fixed n text x).0 is) ((bfs_same tables shape fixed n text y).0 also))
 
 -- ---- plain fields
 pub notdef_alone : (width : ℕ) (text : List ℕ) → Alone (NotdefAt width text)
@@ -65,7 +73,7 @@ space_alone text =
     then_alone (ByteAt text) _ (byte_alone text) (λ len mid. then_alone (CodeAt len mid) _ (code_alone len mid) (λ low tail. then_alone (CodeAt len tail) _ (code_alone len tail) (λ high rest. gives_alone (record { len = len; low = low; high = high }, rest))))
 
 spaces_alone : (payload : List ℕ) → Alone (CodespacesIn payload)
-spaces_alone payload = then_alone (ByteAt payload) (λ n text. _) (byte_alone payload) (λ n text. list_alone CodespaceAt space_alone n text)
+spaces_alone payload = then_alone (ByteAt payload) _ (byte_alone payload) (λ n text. list_alone CodespaceAt space_alone n text)
 
 collection_alone : (payload : List ℕ) → Alone (CollectionIn payload)
 collection_alone payload =
@@ -77,8 +85,8 @@ made_alone reads make one x y (value, at, is) (other, also, same) = is ∙ ap ma
 
 module _ (tables : PrefixTables) (free : ArePrefixFree tables) where
   says_alone : (kind : Kind) (payload : List ℕ) → Alone (SaysAs tables kind payload)
-  says_alone (files.cids shape len) payload = made_alone (CidEntriesIn tables shape payload) _ (cids_alone tables free shape payload)
-  says_alone (files.texts shape fixed) payload = made_alone (BfEntriesIn tables shape fixed payload) _ (bfs_alone tables free shape fixed payload)
+  says_alone (files.cids shape len) payload = made_alone (Then (FieldAt 2 payload) (CidEntriesOf tables shape)) _ (cids_alone tables free shape payload)
+  says_alone (files.texts shape fixed) payload = made_alone (Then (FieldAt 2 payload) (BfEntriesOf tables shape fixed)) _ (bfs_alone tables free shape fixed payload)
   says_alone files.base payload = gives_alone (files.uses payload)
   says_alone files.notdefs payload = made_alone (NotdefsIn payload) _ (notdefs_alone payload)
   says_alone files.mode payload = made_alone (ByteAt payload) _ (byte_alone payload)
@@ -86,14 +94,13 @@ module _ (tables : PrefixTables) (free : ArePrefixFree tables) where
   says_alone files.name payload = gives_alone (files.sets_name payload)
   says_alone files.collection payload = made_alone (CollectionIn payload) files.sets_collection (collection_alone payload)
 
-  kind_alone : (kind : Option Kind) (payload : List ℕ) → Alone (SaysIfKind tables kind payload)
-  kind_alone None payload x y says also = absurd says
-  kind_alone (Some kind) payload x y says also = says_alone kind payload x y says also
+  kind_alone : (number : ℕ) (payload : List ℕ) → Alone (IsSegment tables number payload)
+  kind_alone number payload x y (kind, is, says) (other, same, also) = says_alone other payload x y (subst (λ k. SaysAs tables k payload x) (same_Some kind other (sym is ∙ same)) says) also
 
   segment_alone : (bytes : List ℕ) → Alone (SegmentAt tables bytes)
   segment_alone bytes p q (segment, rest, framed, (says, is)) (other, left, also, (too, same)) =
       let one = framed_alone 1 (segment, rest) (other, left) framed also in
-      pair_is p q (kind_alone (kind_of (slice_index other 0)) (drop 5 other) p.0 q.0 (subst (λ f. IsSegment tables (slice_index f.0 0) (drop 5 f.0) p.0) one says) too) (is ∙ ap (λ f. f.1) one ∙ sym same)
+      pair_is p q (kind_alone (slice_index other 0) (drop 5 other) p.0 q.0 (subst (λ f. IsSegment tables (slice_index f.0 0) (drop 5 f.0) p.0) one says) too) (is ∙ ap (λ f. f.1) one ∙ sym same)
 
   no_segment : (said : Content × List ℕ) → SegmentAt tables [] said → ⊥
   no_segment said (segment, rest, framed, says) = no_frame 1 (segment, rest) framed

@@ -8,7 +8,7 @@ use Rattle.cmap_packed.specs.Reader.{number_at}
 use Rattle.cmap_packed.specs.Bundles.{PrefixTables}
 use Rattle.cmap_packed.proofs.Fronts.{field_only, gives_if, then_only}
 use Rattle.cmap_values.specs.Spans.{Span}
-use Rattle.cmap_binary.specs.BinaryEntries.{CidColumns, CidEntryAt, Columns, SpanAt, cid_from}
+use Rattle.cmap_binary.specs.EntryByEntry.{CidColumns, CidEntryAt, Columns, SpanAt, cid_from}
 
 two_bytes : (bytes : List ℕ) → 2 ≤ length bytes → Some (get_or bytes 0 0 * 256 + get_or bytes 1 0) ≡ number_at 2 bytes
 two_bytes [] enough = absurd (omega (arith, enough))

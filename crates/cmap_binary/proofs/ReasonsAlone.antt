@@ -8,7 +8,8 @@ use Rattle.cmap_values.specs.declared.fault.Reason.{Reason}
 use Rattle.cmap_values.specs.declared.fault.Reason.TheVariants.{CidTooLarge, CodeTooLarge, Entry, Field}
 use Rattle.cmap_values.specs.declared.fault.Segment.{Segment}
 use Rattle.cmap_values.specs.declared.fault.Segment.TheVariants as segment
-use Rattle.cmap_binary.specs.BinaryEntries.{BfEntryAt, CidColumns, CidEntryAt, Columns, ColumnsAt, DestinationAt, Shape, SpanAt, SymbolAt, WidthAt, cid_from}
+use Rattle.cmap_binary.specs.BinaryEntries.{DestinationAt, Shape, SymbolAt}
+use Rattle.cmap_binary.specs.EntryByEntry.{BfEntryAt, CidColumns, CidEntryAt, Columns, ColumnsAt, SpanAt, WidthAt, cid_from}
 use Rattle.cmap_binary.specs.BinaryFiles as files
 use Rattle.cmap_binary.specs.BinaryFiles.{CodespaceAt, CollectionIn, Kind, NotdefAt, kind_of}
 use Rattle.cmap_binary.specs.WrongSegments.{Misses, MissesThen, WrongAs, WrongBfEntry, WrongCidEntries, WrongCidEntry, WrongCids, WrongCodespace, WrongCodespaces, WrongIfKind, WrongInRow, WrongLength, WrongNotdefEntries, WrongNotdefs, WrongSegment, WrongSpan, WrongTexts, WrongThen}

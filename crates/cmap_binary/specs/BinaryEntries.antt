@@ -1,92 +1,51 @@
--- The entries of a segment of a binary file, each by what the one before leaves.
-use Rattle.std.specs.Prelude.{ℕ, zero, suc, ◌+◌, ◌-◌, ◌<◌, ◌^◌, List, [], Option, Some, None}
+-- The entries of a segment of a binary file, by the columns in which their numbers stand.
+use Rattle.std.specs.Prelude.{◌≡◌, ℕ, zero, ◌+◌, ◌-◌, ◌<◌, ◌^◌, ◌==◌, List, [], ◌∷◌, map, zip, replicate, Option, Some, None, All, if◌then◌else◌}
 use Rattle.cmap_packed.specs.PrefixWords.{CodeWord, Decodes, bits}
 use Rattle.cmap_values.specs.Spans.{Span}
 use Rattle.cmap_values.specs.Files.{CidEntry, BfEntry}
 use Rattle.cmap_packed.specs.Bundles.{PrefixTables}
-use Rattle.cmap_packed.specs.Fronts.{Then, Gives, GivesIf, RowOf, ListOf, ByteAt, FieldAt, SizedAt}
+use Rattle.cmap_packed.specs.Fronts.{Then, Gives, RowOf, ByteAt, FieldAt, SizedAt}
 
 -- whether the entries of a segment are ranges, or single codes
 pub data Shape : Type 0 where
   ranges : Shape
   singles : Shape
 
--- What the columns have for the entries that are left: the bits of the deltas, and of ranges those of the counts. `base` is the code after the entry before.
-pub record Columns : Type 0 where
-  pub deltas : List ℕ
-  pub counts : Option (List ℕ)
-  pub base : ℕ
-
--- the bits of the counts, where there are counts
-abbrev pub CountsAt : Shape → List ℕ → Option (List ℕ) × List ℕ → Type 0
-CountsAt ranges text = Then (SizedAt text) (λ counts rest. Gives (Some (bits counts), rest))
-CountsAt singles text = Gives (None, text)
-
--- the columns of a segment with these deltas
-abbrev pub ColumnsAfter : Shape → List ℕ → List ℕ → Columns × List ℕ → Type 0
-ColumnsAfter shape deltas text = Then (CountsAt shape text) (λ counts rest. Gives (record { deltas = bits deltas; counts = counts; base = 0 }, rest))
-
--- the columns of a segment, each in a sized piece
-abbrev pub ColumnsAt : Shape → List ℕ → Columns × List ℕ → Type 0
-ColumnsAt shape text = Then (SizedAt text) (ColumnsAfter shape)
-
 -- the symbol of the code word that the bits begin with
 abbrev pub SymbolAt : List CodeWord → List ℕ → ℕ × List ℕ → Type 0
 SymbolAt table stream r = (len : ℕ) × Decodes table stream r.0 len r.1
 
--- how far an entry ends after its start: a range one more than its count, a single code there
-abbrev pub WidthAt : List CodeWord → Option (List ℕ) → ℕ × Option (List ℕ) → Type 0
-WidthAt table None = Gives (0, None)
-WidthAt table (Some counts) = Then (SymbolAt table counts) (λ count rest. Gives (count + 1, Some rest))
+-- the symbols of n code words, with which the bits of a sized piece begin
+abbrev pub SymbolsAt : List CodeWord → ℕ → List ℕ → List ℕ × List ℕ → Type 0
+SymbolsAt table n text = Then (SizedAt text) (λ column rest. Then (RowOf (SymbolAt table) n (bits column)) (λ symbols ignored. Gives (symbols, rest)))
 
--- an entry leaves out as many codes after the one before as its delta says
-abbrev pub SpanAt : PrefixTables → Columns → Span × Columns → Type 0
-SpanAt tables columns =
-    Then (SymbolAt tables.delta columns.deltas) (λ delta deltas. Then (WidthAt tables.count columns.counts) (λ width counts.
-    let start = columns.base + delta in
-    GivesIf (start + width < 2 ^ 32) (record { start = start; end = start + width }, record { deltas = deltas; counts = counts; base = start + width + 1 })))
+-- the codes of entries from a base on: each leaves out as many after the one before as its delta says, and ends its width after its start
+abbrev pub spans_from : ℕ → List ℕ → List ℕ → List Span
+spans_from base (delta ∷ deltas) (width ∷ widths) = let start = base + delta in record { start = start; end = start + width } ∷ spans_from (start + width + 1) deltas widths
+spans_from base _ _ = []
 
--- the columns and the raw CIDs that are left, and the CID after those of the entry before
-pub record CidColumns : Type 0 where
-  pub columns : Columns
-  pub raws : List ℕ
-  pub next : ℕ
+-- the codes of n entries, by their deltas and the counts of ranges: a range is one wider than its count, a single code has no width
+abbrev pub SpansAt : PrefixTables → Shape → ℕ → List ℕ → List Span × List ℕ → Type 0
+SpansAt tables ranges n text = Then (SymbolsAt tables.delta n text) (λ deltas mid. Then (SymbolsAt tables.count n mid) (λ counts rest. Gives (spans_from 0 deltas (map (λ count. count + 1) counts), rest)))
+SpansAt tables singles n text = Then (SymbolsAt tables.delta n text) (λ deltas rest. Gives (spans_from 0 deltas (replicate n 0), rest))
 
--- raw CID 0 is the next one
-abbrev pub cid_from : ℕ → ℕ → ℕ
-cid_from zero next = next
-cid_from (suc n) next = suc n
+-- codes with their raw CIDs: 0 is the next CID, after those of the entry before
+abbrev pub cid_entries : ℕ → List Span → List ℕ → List CidEntry
+cid_entries next (span ∷ spans) (raw ∷ raws) = let cid = if raw == 0 then next else raw in record { start = span.start; end = span.end; cid = cid } ∷ cid_entries (cid + (span.end - span.start) + 1) spans raws
+cid_entries next _ _ = []
 
--- raw CID 0 goes on after the CIDs of the entry before
-abbrev pub CidEntryAt : PrefixTables → CidColumns → CidEntry × CidColumns → Type 0
-CidEntryAt tables left =
-    Then (SpanAt tables left.columns) (λ span columns. Then (FieldAt 2 left.raws) (λ raw raws.
-    let cid = cid_from raw left.next in
-    GivesIf (cid < 2 ^ 32) (record { start = span.start; end = span.end; cid = cid }, record { columns = columns; raws = raws; next = cid + (span.end - span.start) + 1 })))
-
--- n entries of CIDs, after their columns
-abbrev pub CidsOf : PrefixTables → Shape → ℕ → List ℕ → List CidEntry → Type 0
-CidsOf tables shape n text = Then (ColumnsAt shape text) (λ columns raws. ListOf (CidEntryAt tables) n (record { columns = columns; raws = raws; next = 0 }))
-
--- what follows n in a CID segment; of no entries nothing is read
+-- n entries of CIDs; of no entries nothing is read
 abbrev pub CidEntriesOf : PrefixTables → Shape → ℕ → List ℕ → List CidEntry → Type 0
 CidEntriesOf tables shape zero text = Gives []
-CidEntriesOf tables shape (suc m) text = CidsOf tables shape (suc m) text
-
--- the entries of a CID segment, after their number
-abbrev pub CidEntriesIn : PrefixTables → Shape → List ℕ → List CidEntry → Type 0
-CidEntriesIn tables shape payload = Then (FieldAt 2 payload) (CidEntriesOf tables shape)
+CidEntriesOf tables shape n text = Then (SpansAt tables shape n text) (λ spans mid. Then (RowOf (FieldAt 2) n mid) (λ raws ignored entries.
+    (entries ≡ cid_entries 0 spans raws) × All (λ span. span.end < 2 ^ 32) spans × All (λ entry. entry.cid < 2 ^ 32) entries))
 
 -- the units of a destination, after their number where the segment doesn't fix it
 abbrev pub DestinationAt : Option ℕ → List ℕ → List ℕ × List ℕ → Type 0
 DestinationAt (Some n) text = RowOf (FieldAt 2) n text
 DestinationAt None text = Then (ByteAt text) (RowOf (FieldAt 2))
 
--- of the columns and the destinations that are left
-abbrev pub BfEntryAt : PrefixTables → Option ℕ → Columns × List ℕ → BfEntry × (Columns × List ℕ) → Type 0
-BfEntryAt tables fixed left =
-    Then (SpanAt tables left.0) (λ span columns. Then (DestinationAt fixed left.1) (λ units rest. Gives (record { start = span.start; end = span.end; units = units }, (columns, rest))))
-
--- the entries of a segment of texts, after their number
-abbrev pub BfEntriesIn : PrefixTables → Shape → Option ℕ → List ℕ → List BfEntry → Type 0
-BfEntriesIn tables shape fixed payload = Then (FieldAt 2 payload) (λ n text. Then (ColumnsAt shape text) (λ columns rest. ListOf (BfEntryAt tables fixed) n (columns, rest)))
+-- n entries of texts
+abbrev pub BfEntriesOf : PrefixTables → Shape → Option ℕ → ℕ → List ℕ → List BfEntry → Type 0
+BfEntriesOf tables shape fixed n text = Then (SpansAt tables shape n text) (λ spans mid. Then (RowOf (DestinationAt fixed) n mid) (λ texts ignored entries.
+    (entries ≡ map (λ p. record { start = p.0.start; end = p.0.end; units = p.1 }) (zip spans texts)) × All (λ span. span.end < 2 ^ 32) spans))

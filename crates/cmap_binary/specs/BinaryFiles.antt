@@ -1,11 +1,11 @@
 -- CMap files in the binary form bcmap: segments, each of which says one thing.
-use Rattle.std.specs.Prelude.{◌≡◌, ℕ, zero, suc, pos, List, [], ◌∷◌, ◌++◌, map, flat_map, filter_map, take, drop, codes, slice_get, slice_index, Option, Some, None, option_and_then}
-use Rattle.std.specs.List.{last_or}
+use Rattle.std.specs.Prelude.{◌≡◌, ℕ, zero, suc, pos, List, [], ◌∷◌, ◌++◌, map, flat_map, filter_map, take, drop, codes, slice_get, slice_index, Option, Some, None}
+use Rattle.std.specs.List.{fold}
 use Rattle.cmap_values.specs.Names.{family_of}
-use Rattle.cmap_values.specs.Files.{CidEntry, Codespace, Declaration, Mode, Collection, File, lists_of, mode_numbered}
+use Rattle.cmap_values.specs.Files.{CidEntry, Codespace, Declaration, Mode, Collection, File, FileMetadata, lists_of, mode_numbered}
 use Rattle.cmap_packed.specs.Bundles.{PrefixTables}
-use Rattle.cmap_binary.specs.BinaryEntries.{Shape, ranges, singles, CidEntriesIn, BfEntriesIn}
-use Rattle.cmap_packed.specs.Fronts.{Then, Gives, GivesIf, ListOf, RowOf, AllOf, ByteAt, FieldAt, CodeAt, FramedAt, TerminatedAt}
+use Rattle.cmap_binary.specs.BinaryEntries.{Shape, ranges, singles, CidEntriesOf, BfEntriesOf}
+use Rattle.cmap_packed.specs.Fronts.{Then, Gives, GivesIf, RowOf, AllOf, ByteAt, FieldAt, CodeAt, FramedAt, TerminatedAt}
 
 -- what a segment says
 pub data Content : Type 0 where
@@ -54,7 +54,7 @@ CodespaceAt text =
     Then (ByteAt text) (λ len mid. Then (CodeAt len mid) (λ low tail. Then (CodeAt len tail) (λ high rest. Gives (record { len = len; low = low; high = high }, rest))))
 
 abbrev pub CodespacesIn : List ℕ → List Codespace → Type 0
-CodespacesIn payload = Then (ByteAt payload) (ListOf CodespaceAt)
+CodespacesIn payload = Then (ByteAt payload) (λ n text. Then (RowOf CodespaceAt n text) (λ spaces ignored. Gives spaces))
 
 -- registry and ordering each end at the first nul
 abbrev pub CollectionIn : List ℕ → Collection → Type 0
@@ -67,8 +67,8 @@ Made reads make content = (value : _) × reads value × (content ≡ make value)
 
 -- what a payload of this type says; payload after what is read is ignored
 abbrev pub SaysAs : PrefixTables → Kind → List ℕ → Content → Type 0
-SaysAs tables (cids shape len) payload = Made (CidEntriesIn tables shape payload) (λ entries. declares (map (Declaration.cid len) entries))
-SaysAs tables (texts shape fixed) payload = Made (BfEntriesIn tables shape fixed payload) (λ entries. declares (map Declaration.bf entries))
+SaysAs tables (cids shape len) payload = Made (Then (FieldAt 2 payload) (CidEntriesOf tables shape)) (λ entries. declares (map (Declaration.cid len) entries))
+SaysAs tables (texts shape fixed) payload = Made (Then (FieldAt 2 payload) (BfEntriesOf tables shape fixed)) (λ entries. declares (map Declaration.bf entries))
 SaysAs tables base payload = Gives (uses payload)
 SaysAs tables notdefs payload = Made (NotdefsIn payload) (λ r. declares (map (Declaration.notdef r.0) r.1))
 SaysAs tables mode payload = Made (ByteAt payload) (λ r. sets_mode (mode_numbered r.0))
@@ -76,14 +76,9 @@ SaysAs tables codespaces payload = Made (CodespacesIn payload) (λ spaces. decla
 SaysAs tables name payload = Gives (sets_name payload)
 SaysAs tables collection payload = Made (CollectionIn payload) sets_collection
 
--- what a payload says, where its type is one
-abbrev pub SaysIfKind : PrefixTables → Option Kind → List ℕ → Content → Type 0
-SaysIfKind tables None payload content = ⊥
-SaysIfKind tables (Some kind) payload content = SaysAs tables kind payload content
-
 -- a segment of this type with this payload says this
 abbrev pub IsSegment : PrefixTables → ℕ → List ℕ → Content → Type 0
-IsSegment tables number payload = SaysIfKind tables (kind_of number) payload
+IsSegment tables number payload content = (kind : Kind) × (kind_of number ≡ Some kind) × SaysAs tables kind payload content
 
 -- a segment of a file: a byte for its type, its whole length, its payload
 abbrev pub SegmentAt : PrefixTables → List ℕ → Content × List ℕ → Type 0
@@ -97,26 +92,17 @@ abbrev pub name_used : Content → Option (List ℕ)
 name_used (uses used) = Some used
 name_used _ = None
 
-abbrev pub mode_set : Content → Option (Option Mode)
-mode_set (sets_mode set) = Some set
-mode_set _ = None
+-- the metadata of a file after a segment that says this: what it sets replaces what was set before
+abbrev pub metadata_after : FileMetadata → Content → FileMetadata
+metadata_after before (sets_mode set) = record before { mode = set }
+metadata_after before (sets_name set) = record before { name = Some set }
+metadata_after before (sets_collection set) = record before { collection = Some set }
+metadata_after before _ = before
 
-abbrev pub name_set : Content → Option (List ℕ)
-name_set (sets_name set) = Some set
-name_set _ = None
-
-abbrev pub collection_set : Content → Option Collection
-collection_set (sets_collection set) = Some set
-collection_set _ = None
-
--- what the segments say together: a later one replaces the former
+-- what the segments say together
 abbrev pub file_of : List Content → File
 file_of contents = record {
-  metadata = record {
-    collection = last_or None (filter_map collection_set contents);
-    name = last_or None (filter_map name_set contents);
-    mode = option_and_then (λ m. m) (last_or None (filter_map mode_set contents));
-  };
+  metadata = fold metadata_after (record { collection = None; name = None; mode = None }) contents;
   lists = lists_of (flat_map declared_in contents);
   uses = filter_map name_used contents;
 }

@@ -1,5 +1,5 @@
 -- Private aid: what contracts see of the types of segments, and of a file to which one is added.
-use Rattle.std.specs.Prelude.{◌≡◌, ℕ, List, [], ◌∷◌, ◌++◌, map, Some, Result}
+use Rattle.std.specs.Prelude.{◌≡◌, ℕ, List, [], ◌∷◌, ◌++◌, map, Result}
 use Rattle.std.specs.Global.{Vec}
 use Rattle.cmap_values.specs.CodeLengths.{length_of}
 use Rattle.cmap_values.specs.Files.{Declaration, File, Lists, lists_of}
@@ -12,7 +12,7 @@ use Rattle.cmap_values.specs.declared.fault.Fault.{Fault}
 use Rattle.cmap_values.specs.declared.fault.Reason.{Reason}
 use Rattle.cmap_packed.specs.Bundles.{PrefixTables}
 use Rattle.cmap_binary.specs.BinaryFiles as files
-use Rattle.cmap_binary.specs.BinaryFiles.{Content, declares, uses, sets_mode, sets_name, sets_collection, SegmentAt, file_of}
+use Rattle.cmap_binary.specs.BinaryFiles.{Content, declares, uses, SegmentAt, file_of, metadata_after}
 use Rattle.cmap_packed.specs.Fronts.{AllOf, RowOf}
 use Rattle.cmap_binary.specs.declared.kinds.Kind.{Kind}
 use Rattle.cmap_binary.specs.declared.kinds.Kind.TheVariants.{Cids, Texts, Base, Notdefs, Mode, Codespaces, Name, Collection}
@@ -31,11 +31,9 @@ kind_seen Collection = files.collection
 
 -- what a file says with one segment more
 abbrev pub with_content : File → Content → File
-with_content file (declares ds) = record { metadata = file.metadata; lists = append_lists file.lists (lists_of ds); uses = file.uses }
-with_content file (uses text) = record { metadata = file.metadata; lists = file.lists; uses = file.uses ++ text ∷ [] }
-with_content file (sets_mode set) = record { metadata = record { collection = file.metadata.collection; name = file.metadata.name; mode = set }; lists = file.lists; uses = file.uses }
-with_content file (sets_name text) = record { metadata = record { collection = file.metadata.collection; name = Some text; mode = file.metadata.mode }; lists = file.lists; uses = file.uses }
-with_content file (sets_collection set) = record { metadata = record { collection = Some set; name = file.metadata.name; mode = file.metadata.mode }; lists = file.lists; uses = file.uses }
+with_content file (declares ds) = record file { lists = append_lists file.lists (lists_of ds) }
+with_content file (uses text) = record file { uses = file.uses ++ text ∷ [] }
+with_content file content = record file { metadata = metadata_after file.metadata content }
 
 -- one thing is read and no other, and the file says it
 pub record SaysContent (reads : Content → Type 0) (old new : File) : Type 0 where

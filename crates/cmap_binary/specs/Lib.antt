@@ -4,4 +4,5 @@ pub mod BinaryFiles
 pub mod BinarySalvage
 pub mod BinarySeen
 pub mod ColumnsSeen
+pub mod EntryByEntry
 pub mod WrongSegments

@@ -2,7 +2,8 @@
 
 ghost use Rattle.std.specs.Prelude.{◌≡◌, ◌+◌, ◌<◌, ◌≤◌, ◌^◌, IfOk, MatchOption, option_map};
 ghost use Rattle.cmap_packed.specs.BitQueues.{bits_ahead};
-ghost use Rattle.cmap_binary.specs.BinaryEntries.{ColumnsAfter, ColumnsAt, CountsAt, SpanAt, SymbolAt, WidthAt};
+ghost use Rattle.cmap_binary.specs.BinaryEntries.{SymbolAt};
+ghost use Rattle.cmap_binary.specs.EntryByEntry.{ColumnsAfter, ColumnsAt, CountsAt, SpanAt, WidthAt};
 ghost use Rattle.cmap_packed.specs.BundleSeen.{tables_seen};
 ghost use Rattle.cmap_binary.specs.ColumnsSeen.{columns_seen, shape_seen, span_seen};
 ghost use Rattle.cmap_binary.specs.BinarySeen.{ReadsOr};

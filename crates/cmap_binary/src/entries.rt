@@ -1,6 +1,7 @@
 //! The entries of segments of a binary file.
 
-ghost use Rattle.cmap_binary.specs.BinaryEntries.{BfEntryAt, CidEntryAt, DestinationAt, cid_from};
+ghost use Rattle.cmap_binary.specs.BinaryEntries.{DestinationAt};
+ghost use Rattle.cmap_binary.specs.EntryByEntry.{BfEntryAt, CidEntryAt, cid_from};
 ghost use Rattle.cmap_binary.specs.BinaryFiles as files;
 ghost use Rattle.cmap_binary.specs.BinaryFiles.{SaysAs};
 ghost use Rattle.cmap_binary.specs.BinarySeen.{AddsRow, Declares, ReadsOr, with_cids_of_two};

@@ -7,7 +7,8 @@ use Rattle.std.proofs.lemmas.List.Elements.{All-append, All-cons, All-drop, All-
 use Rattle.std.proofs.lemmas.Nat.{mod_below, shr-shr}
 use Rattle.std.proofs.lemmas.Option.{slice_get-get_or}
 use Rattle.cmap_packed.specs.BitQueues.{Queue, bits_ahead}
-use Rattle.cmap_packed.specs.PrefixWords.{AreBits, bits_of, bits}
+use Rattle.cmap_packed.specs.PrefixWords.{bits_of, bits}
+use Rattle.cmap_packed.specs.WordsByLength.{AreBits}
 use Rattle.cmap_packed.specs.Reader.{Reading, bits_left}
 
 pub length-bits_of : (count n : ℕ) → length (bits_of count n) ≡ count

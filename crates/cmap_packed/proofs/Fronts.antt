@@ -1,11 +1,12 @@
 -- What bytes begin with, one thing after another: the parts have one value each, and so has the whole; or a part has none, and so has the whole.
-use Rattle.std.proofs.Common.{◌≡◌, true, false, ℕ, zero, suc, ◌<◌, ◌≤◌, ◌+◌, refl, sym, ap, ◌∙◌, subst, List, [], ◌∷◌, ◌++◌, length, take, drop, arith, append_assoc, append-nil}
-use Rattle.std.specs.Prelude.{◌==◌, ◌↔◌, IfOk, IsSome, MatchOption, Option, Result, Some, None, Ok, Err}
+use Rattle.std.proofs.Common.{◌≡◌, true, false, ℕ, zero, suc, ◌<◌, ◌≤◌, ◌+◌, refl, sym, ap, ◌∙◌, subst, List, [], ◌∷◌, ◌++◌, length, take, drop, inl, inr, arith, append_assoc, append-nil}
+use Rattle.std.specs.Prelude.{◌==◌, ◌↔◌, nat_le, IfOk, IsSome, MatchOption, Option, Result, Some, None, Ok, Err}
 use Rattle.std.specs.Borrow.{Bor}
 use Rattle.std.specs.List.{IsSplitAt}
-use Rattle.std.proofs.lemmas.Bool.{eqb-true, eqb-false}
-use Rattle.std.proofs.lemmas.List.{nil_from_length}
-use Rattle.std.proofs.lemmas.Option.{none-some}
+use Rattle.std.proofs.lemmas.Bool.{cases_Bool, eqb-true, eqb-false, le-leb, leb-true}
+use Rattle.std.proofs.lemmas.List.{length-drop, length-take-le, nil_from_length}
+use Rattle.std.proofs.lemmas.Option.{none-some, same_Some}
+use Rattle.cmap_values.specs.BigEndian.{big_endian}
 use Rattle.cmap_packed.specs.Reader.{number_at}
 use Rattle.cmap_values.specs.Only.{IsOnly, HoldsOfNone}
 use Rattle.cmap_packed.specs.Fronts.{Then, Gives, GivesIf, RowOf, AllOf, BytesAt, FieldAt, FramedAt}
@@ -51,20 +52,37 @@ pub finds_under : {A B C : Type 0} (P : B → Type 0) (seen : A → B) (o : Opti
 finds_under P seen None holds none = λ other is. none other is.1
 finds_under P seen (Some y) holds only = record { holds = (holds, only.holds); alone = λ other is. only.alone other is.1 }
 
+pub split_only : (size : ℕ) (bytes piece rest : List ℕ) → IsSplitAt bytes size piece rest → IsOnly (BytesAt size bytes) (piece, rest)
+split_only size bytes piece rest split = record { holds = split; alone = λ other is. pair_is other (piece, rest) (is.1 ∙ sym split.1) (is.2 ∙ sym split.2) }
+
+-- a number is what is written by the first bytes, if there are enough
+number_at-some : (width n : ℕ) (bytes : List ℕ) → number_at width bytes ≡ Some n → (width ≤ length bytes) × (n ≡ big_endian (take width bytes))
+number_at-some width n bytes is = elim (cases_Bool (nat_le width (length bytes))) [
+  | inl within ↦ (leb-true width (length bytes) within, sym (same_Some _ _ (rw within at is)))
+  | inr past ↦ absurd (none-some n (rw past at is))
+]
+
 pub field_only : (width n : ℕ) (bytes : List ℕ) → Some n ≡ number_at width bytes → IsOnly (FieldAt width bytes) (n, drop width bytes)
-field_only width n bytes is = record { holds = (sym is, refl); alone = λ other (other_is, rest). let same : other.0 ≡ n = cc in pair_is other (n, drop width bytes) same rest }
+field_only width n bytes is =
+    let (enough, number) = number_at-some width n bytes (sym is) in
+    let split : IsSplitAt bytes width (take width bytes) (drop width bytes) = (enough, refl, refl, length-take-le width bytes enough, omega (arith, length-drop width bytes, enough)) in
+    rw number (then_only _ (split_only _ _ _ _ split) gives)
 
 pub no_field : (width : ℕ) (bytes : List ℕ) → None ≡ number_at width bytes → HoldsOfNone (FieldAt width bytes)
-no_field width bytes none other is = none-some other.0 (none ∙ is.0)
+no_field width bytes none other (field, rest, split, is) = let some : number_at width bytes ≡ Some (big_endian (take width bytes)) = rw (le-leb width (length bytes) split.0) refl in none-some _ (none ∙ some)
+
+-- what a field says, and what follows it
+pub field_is : (width : ℕ) (bytes : List ℕ) (r : ℕ × List ℕ) → FieldAt width bytes r → (width ≤ length bytes) × (r.0 ≡ big_endian (take width bytes)) × (r.1 ≡ drop width bytes)
+field_is width bytes r (field, rest, split, is) = (split.0, ap (λ p. p.0) is ∙ ap big_endian split.1, ap (λ p. p.1) is ∙ split.2)
 
 pub bytes_found : (Kept : Type 0) (o : Option (Bor (List ℕ))) (after : List ℕ) (size : ℕ) (bytes : List ℕ) → MatchOption o Kept (λ piece. IsSplitAt bytes size piece.now after) → IsSome o ↔ (size ≤ length bytes) → Finds (BytesAt size bytes) (λ piece. (piece.now, after)) o
 bytes_found Kept None after size bytes kept fits = λ other is. let e : false ≡ true = fits.1 is.0 in cc
-bytes_found Kept (Some piece) after size bytes split fits = record { holds = split; alone = λ other is. pair_is other (piece.now, after) (is.1 ∙ sym split.1) (is.2 ∙ sym split.2) }
+bytes_found Kept (Some piece) after size bytes split fits = split_only size bytes piece.now after split
 
 -- a piece that gives its whole length is one
 pub framed_alone : (before : ℕ) {bytes : List ℕ} (p q : List ℕ × List ℕ) → FramedAt before bytes p → FramedAt before bytes q → p ≡ q
 framed_alone before {bytes} p q (size, rest, field, (filled, split)) (size_q, rest_q, field_q, (filled_q, split_q)) =
-    let same : size ≡ size_q = let is : Some size ≡ Some size_q = sym field.0 ∙ field_q.0 in cc in
+    let same : size ≡ size_q = (field_is 4 (drop before bytes) (size, rest) field).1 ∙ sym (field_is 4 (drop before bytes) (size_q, rest_q) field_q).1 in
     pair_is p q (split.1 ∙ ap (λ n. take n bytes) same ∙ sym split_q.1) (split.2 ∙ ap (λ n. drop n bytes) same ∙ sym split_q.2)
 
 -- no more is left after a piece than before it

@@ -4,8 +4,9 @@ use Rattle.std.specs.Prelude.{◌⊎◌, slice_get}
 use Rattle.std.proofs.lemmas.List.{drop_at}
 use Rattle.std.proofs.lemmas.Option.{same_Some}
 use Rattle.cmap_packed.specs.Bundles.{HoldsTables, PrefixTables}
-use Rattle.cmap_packed.specs.Fronts.{Then, Gives, GivesIf, RowOf, ListOf, AllOf, ByteAt, BytesAt, CodeAt, FieldAt, SizedAt, TerminatedAt}
+use Rattle.cmap_packed.specs.Fronts.{Then, Gives, GivesIf, RowOf, AllOf, ByteAt, BytesAt, CodeAt, FieldAt, SizedAt, TerminatedAt}
 use Rattle.cmap_packed.specs.PrefixWords.{CodeWord, Decodes, IsPrefixFree, IsWord}
+use Rattle.cmap_values.specs.BigEndian.{big_endian}
 use Rattle.cmap_values.specs.Only.{HoldsOfNone}
 use Rattle.cmap_packed.proofs.Fronts.{pair_is}
 use Rattle.cmap_packed.proofs.TablesDecoded.{IsPrefixFree-table}
@@ -28,7 +29,7 @@ pub row_alone : {A S : Type 0} (item : S → A × S → Type 0) → ((s : S) →
 row_alone item each zero start = gives_alone ([], start)
 row_alone item each (suc n) start = then_alone (item start) _ (each start) (λ x rest. then_alone (RowOf item n rest) _ (row_alone item each n rest) (λ xs end. gives_alone (x ∷ xs, end)))
 
-pub list_alone : {A S : Type 0} (item : S → A × S → Type 0) → ((s : S) → Alone (item s)) → (n : ℕ) (start : S) → Alone (ListOf item n start)
+pub list_alone : {A S : Type 0} (item : S → A × S → Type 0) → ((s : S) → Alone (item s)) → (n : ℕ) (start : S) → Alone (Then (RowOf item n start) (λ xs ignored. Gives xs))
 list_alone item each n start = then_alone (RowOf item n start) _ (row_alone item each n start) (λ xs ignored. gives_alone xs)
 
 pub all_alone : {A : Type 0} (item : List ℕ → A × List ℕ → Type 0) → HoldsOfNone (item []) → ((bytes : List ℕ) → Alone (item bytes)) → (bytes : List ℕ) → Alone (AllOf item bytes)
@@ -43,14 +44,14 @@ all_alone item none each bytes (x ∷ xs) (y ∷ ys) (rest, at, all) (mid, also,
 pub byte_alone : (bytes : List ℕ) → Alone (ByteAt bytes)
 byte_alone bytes p q is also = let same : p.0 ∷ p.1 ≡ q.0 ∷ q.1 = sym is ∙ also in let first : p.0 ≡ q.0 = cc in let rest : p.1 ≡ q.1 = cc in pair_is p q first rest
 
+pub bytes_alone : (len : ℕ) (bytes : List ℕ) → Alone (BytesAt len bytes)
+bytes_alone len bytes p q is also = pair_is p q (is.1 ∙ sym also.1) (is.2 ∙ sym also.2)
+
 pub field_alone : (width : ℕ) (bytes : List ℕ) → Alone (FieldAt width bytes)
-field_alone width bytes p q (is, rest) (also, left) = pair_is p q (same_Some p.0 q.0 (sym is ∙ also)) (rest ∙ sym left)
+field_alone width bytes = then_alone (BytesAt width bytes) _ (bytes_alone width bytes) (λ field rest. gives_alone (big_endian field, rest))
 
 pub code_alone : (width : ℕ) (bytes : List ℕ) → Alone (CodeAt width bytes)
 code_alone width bytes p q is also = field_alone width bytes p q is.1 also.1
-
-pub bytes_alone : (len : ℕ) (bytes : List ℕ) → Alone (BytesAt len bytes)
-bytes_alone len bytes p q is also = pair_is p q (is.1 ∙ sym also.1) (is.2 ∙ sym also.2)
 
 pub sized_alone : (bytes : List ℕ) → Alone (SizedAt bytes)
 sized_alone bytes = then_alone (FieldAt 4 bytes) BytesAt (field_alone 4 bytes) (λ len rest. bytes_alone len rest)

@@ -11,8 +11,8 @@ use Rattle.std.proofs.lemmas.List.Sums.{sum_by-append}
 use Rattle.std.proofs.lemmas.Option.{none-some, same_Some}
 use Rattle.std.proofs.Math.Nat.{mul-le-mul_right, mul_assoc, mul_comm, pow-suc}
 use Rattle.std.proofs.Math.Seq.{take-append-add}
-use Rattle.cmap_packed.specs.PrefixWords.{AreBits, lengths_from, number_after}
-use Rattle.cmap_packed.specs.WordsByLength.{Progress, Ranked, with_bit, word_in}
+use Rattle.cmap_packed.specs.PrefixWords.{lengths_from, number_after}
+use Rattle.cmap_packed.specs.WordsByLength.{AreBits, Progress, Ranked, with_bit, word_in}
 
 -- the number that bits write after the sum of two others
 number_after-add : (m n : ℕ) (ds : List ℕ) → number_from_digits_after 2 (m + n) ds ≡ m * 2 ^ length ds + number_from_digits_after 2 n ds

@@ -4,8 +4,8 @@ use Rattle.std.specs.List.{slice_get}
 use Rattle.std.proofs.lemmas.List.{append-nil, length-append, length-map, length-take-le, take-append-drop, take_at}
 use Rattle.std.proofs.lemmas.List.Elements.{All-take}
 use Rattle.std.proofs.lemmas.Option.{none-some, same_Some, slice_get_within}
-use Rattle.cmap_packed.specs.PrefixWords.{AreBits, BeginsAt, CodeWord, Decodes, IsPrefixFree, IsSound, IsWord, lengths_from, lengths_of, zip_words}
-use Rattle.cmap_packed.specs.WordsByLength.{IsFirst, IsTable, Ranked, first_word, start, words_of}
+use Rattle.cmap_packed.specs.PrefixWords.{BeginsAt, CodeWord, Decodes, IsPrefixFree, IsSound, IsWord, lengths_from, lengths_of, zip_words}
+use Rattle.cmap_packed.specs.WordsByLength.{AreBits, IsFirst, IsTable, Ranked, first_word, start, words_of}
 use Rattle.cmap_packed.proofs.RankedWords.{Begins, begun_is_found, found_begins}
 
 -- ---- code words that are made of lengths and symbols

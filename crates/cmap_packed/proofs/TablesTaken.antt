@@ -1,19 +1,17 @@
 -- Where a prefix table ends that a text begins with.
-use Rattle.std.proofs.Common.{◌≡◌, ℕ, zero, suc, ◌+◌, ◌-◌, ◌*◌, ◌≤◌, List, inl, inr, length, get_or, take, drop, Some, refl, ap, ◌∙◌, sym, arith}
-use Rattle.std.specs.Prelude.{nat_le, slice_index}
-use Rattle.std.proofs.lemmas.Bool.{cases_Bool, leb-true}
+use Rattle.std.proofs.Common.{◌≡◌, ℕ, zero, suc, ◌+◌, ◌-◌, ◌*◌, ◌≤◌, List, length, get_or, drop, refl, ap, ◌∙◌, sym, arith}
+use Rattle.std.specs.Prelude.{slice_index}
 use Rattle.std.proofs.lemmas.List.{drop-drop, get_or-drop, length-drop, length-map}
-use Rattle.std.proofs.lemmas.Option.{none-some, same_Some}
 use Rattle.std.proofs.Math.Nat.{mul-suc}
-use Rattle.cmap_values.specs.BigEndian.{big_endian}
 use Rattle.cmap_values.specs.Only.{IsOnly}
 use Rattle.cmap_packed.specs.Fronts.{FieldAt, RowOf}
 use Rattle.cmap_packed.specs.PrefixWords.{CodeWord, lengths_from}
-use Rattle.cmap_packed.specs.Reader.{Reading, IsAtByte, after_bytes, bytes_left, number_at}
+use Rattle.cmap_packed.specs.Reader.{Reading, IsAtByte, after_bytes, bytes_left}
 use Rattle.cmap_packed.specs.TableFronts.{MostAt, TableAt}
 use Rattle.cmap_packed.specs.TableTaken.{TakesTable, counted, table_end}
 use Rattle.cmap_packed.specs.WordsByLength.{IsTable, words_of}
 use Rattle.cmap_packed.proofs.BytesTaken.{bytes_left-moved}
+use Rattle.cmap_packed.proofs.Fronts.{field_is}
 use Rattle.cmap_packed.proofs.TablesDecoded.{IsPrefixFree-table, IsSound-table, lens_are}
 
 -- what follows so many bytes, which are there
@@ -27,22 +25,17 @@ IsAfter-more text mid rest a b first second = record {
   rest_is = second.rest_is ∙ ap (drop b) first.rest_is ∙ drop-drop b a text;
 }
 
-number_at-some : (width n : ℕ) (bytes : List ℕ) → number_at width bytes ≡ Some n → (width ≤ length bytes) × (n ≡ big_endian (take width bytes))
-number_at-some width n bytes is = elim (cases_Bool (nat_le width (length bytes))) [
-  | inl within ↦ (leb-true width (length bytes) within, sym (same_Some _ _ (rw within at is)))
-  | inr past ↦ absurd (none-some n (rw past at is))
-]
-
 pub fields_after : (width count : ℕ) (text : List ℕ) (r : List ℕ × List ℕ) → RowOf (FieldAt width) count text r → IsAfter text (width * count) r.1 × (length r.0 ≡ count)
 fields_after width zero text r is = let none : width * 0 ≡ 0 = omega arith in rw (is, none) (record { enough = omega arith; rest_is = refl }, refl)
-fields_after width (suc count) text r (x, mid, (number, next), (xs, end, row, is)) =
+fields_after width (suc count) text r (x, mid, field, (xs, end, row, is)) =
+    let (enough, number, next) = field_is width text (x, mid) field in
     let (more, size) = fields_after width count mid (xs, end) row in
     let up : width + width * count ≡ width * suc count = omega (arith, mul-suc width count) in
-    rw is (rw up at (IsAfter-more text mid end width (width * count) (record { enough = (number_at-some width x text number).0; rest_is = next }) more), ap suc size)
+    rw is (rw up at (IsAfter-more text mid end width (width * count) (record { enough = enough; rest_is = next }) more), ap suc size)
 
 most_after : (text : List ℕ) (r : ℕ × List ℕ) → MostAt text r → IsAfter text 3 r.1 × (r.0 ≡ counted text)
-most_after text r (filled, tail, (number, next), (most, rest, byte, is)) =
-    let (enough, filled_is) = number_at-some 2 filled text number in
+most_after text r (filled, tail, field, (most, rest, byte, is)) =
+    let (enough, filled_is, next) = field_is 2 text (filled, tail) field in
     let third : most ≡ slice_index text 2 = ap (λ bs. get_or bs 0 0) (sym (sym next ∙ byte)) ∙ get_or-drop 2 text 0 0 in
     let second : IsAfter tail 1 rest = record { enough = omega (arith, ap length byte); rest_is = ap (drop 1) (sym byte) } in
     rw (is, third, filled_is) (IsAfter-more text tail rest 2 1 (record { enough = enough; rest_is = next }) second, refl)

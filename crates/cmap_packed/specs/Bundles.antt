@@ -18,13 +18,9 @@ pub record Bundle : Type 0 where
 abbrev pub HoldsTables : List ℕ → PrefixTables → Type 0
 HoldsTables text = Then (TableAt 4 text) (λ delta mid. Then (TableAt 1 mid) (λ count ignored. Gives (record { delta = delta; count = count })))
 
--- files, each of which tells its length after six bytes, which aren't checked
-abbrev pub AreFiles : List ℕ → List (List ℕ) → Type 0
-AreFiles = AllOf (FramedAt 6)
-
--- the bytes are a bundle with these tables, in a sized piece, and these files after it
+-- the bytes are a bundle with these tables, in a sized piece, and these files after it, each of which tells its length after six bytes that aren't checked
 unfoldable pub IsBundle : List ℕ → Bundle → Type 0
-IsBundle bytes = Then (SizedAt bytes) (λ text rest bundle. HoldsTables text bundle.tables × AreFiles rest bundle.files)
+IsBundle bytes = Then (SizedAt bytes) (λ text rest bundle. HoldsTables text bundle.tables × AllOf (FramedAt 6) rest bundle.files)
 
 -- ten bytes that stand in a bundle for a file that isn't there, and that no reader takes for one: the front of a binary file of version 0, and their number
 abbrev pub no_file_bytes : List ℕ

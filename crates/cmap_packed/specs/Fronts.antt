@@ -1,8 +1,8 @@
 -- What bytes begin with: a value, and the bytes after it.
-use Rattle.std.specs.Prelude.{◌≡◌, ℕ, zero, suc, ◌+◌, ◌<◌, ◌≤◌, List, [], ◌∷◌, length, take, drop, slice_index, Some}
+use Rattle.std.specs.Prelude.{◌≡◌, ℕ, zero, suc, ◌+◌, ◌<◌, ◌≤◌, List, [], ◌∷◌, length, take, drop, slice_index}
 use Rattle.std.specs.List.{IsSplitAt}
 pub use Rattle.cmap_values.specs.CodeLengths.{IsCodeLength}
-use Rattle.cmap_packed.specs.Reader.{number_at}
+use Rattle.cmap_values.specs.BigEndian.{big_endian}
 
 -- first this, which leaves something; then that, of what is left
 abbrev pub Then : {A S B : Type 0} → (A × S → Type 0) → (A → S → B → Type 0) → B → Type 0
@@ -20,10 +20,6 @@ abbrev pub RowOf : {A S : Type 0} → (S → A × S → Type 0) → ℕ → S �
 RowOf item zero start row = Gives ([], start) row
 RowOf item (suc n) start row = Then (item start) (λ x rest. Then (RowOf item n rest) (λ xs end. Gives (x ∷ xs, end))) row
 
--- n of these, and what follows is ignored
-abbrev pub ListOf : {A S : Type 0} → (S → A × S → Type 0) → ℕ → S → List A → Type 0
-ListOf item n start = Then (RowOf item n start) (λ xs ignored. Gives xs)
-
 -- these up to the end
 abbrev pub AllOf : {A : Type 0} → (List ℕ → A × List ℕ → Type 0) → List ℕ → List A → Type 0
 AllOf item bytes [] = bytes ≡ []
@@ -32,17 +28,17 @@ AllOf item bytes (x ∷ xs) = (rest : List ℕ) × item bytes (x, rest) × AllOf
 abbrev pub ByteAt : List ℕ → ℕ × List ℕ → Type 0
 ByteAt bytes r = bytes ≡ r.0 ∷ r.1
 
+-- `len` bytes
+abbrev pub BytesAt : ℕ → List ℕ → List ℕ × List ℕ → Type 0
+BytesAt len bytes r = IsSplitAt bytes len r.0 r.1
+
 -- a number of `width` bytes
 abbrev pub FieldAt : ℕ → List ℕ → ℕ × List ℕ → Type 0
-FieldAt width bytes r = (number_at width bytes ≡ Some r.0) × (r.1 ≡ drop width bytes)
+FieldAt width bytes = Then (BytesAt width bytes) (λ field rest. Gives (big_endian field, rest))
 
 -- the number of a code of this width
 abbrev pub CodeAt : ℕ → List ℕ → ℕ × List ℕ → Type 0
 CodeAt width bytes r = IsCodeLength width × FieldAt width bytes r
-
--- `len` bytes
-abbrev pub BytesAt : ℕ → List ℕ → List ℕ × List ℕ → Type 0
-BytesAt len bytes r = IsSplitAt bytes len r.0 r.1
 
 -- a length in four bytes, and that many bytes
 abbrev pub SizedAt : List ℕ → List ℕ × List ℕ → Type 0
@@ -52,10 +48,6 @@ SizedAt bytes = Then (FieldAt 4 bytes) BytesAt
 abbrev pub FramedAt : ℕ → List ℕ → List ℕ × List ℕ → Type 0
 FramedAt before bytes r = Then (FieldAt 4 (drop before bytes)) (λ size rest piece. (before + 4 ≤ size) × BytesAt size bytes piece) r
 
--- the byte that ends a text
-abbrev pub nul : ℕ
-nul = 0
-
--- the bytes up to the first nul, which stands at `end`, and those after it
+-- the bytes up to the first zero byte, which stands at `end`, and those after it
 abbrev pub TerminatedAt : List ℕ → List ℕ × List ℕ → Type 0
-TerminatedAt bytes r = (end : ℕ) × (end < length bytes) × (slice_index bytes end ≡ nul) × ((k : ℕ) → k < end → slice_index bytes k ≡ nul → ⊥) × (r ≡ (take end bytes, drop (end + 1) bytes))
+TerminatedAt bytes r = (end : ℕ) × (end < length bytes) × (slice_index bytes end ≡ 0) × ((k : ℕ) → k < end → slice_index bytes k ≡ 0 → ⊥) × (r ≡ (take end bytes, drop (end + 1) bytes))

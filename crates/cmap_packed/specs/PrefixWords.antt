@@ -12,9 +12,6 @@ bits_of (suc count) n = n / 2 ^ count % 2 ∷ bits_of count n
 abbrev pub bits : List ℕ → List ℕ
 bits bytes = flat_map (λ b. bits_of 8 b) bytes
 
-abbrev pub AreBits : List ℕ → Type 0
-AreBits ds = All (λ d. d < 2) ds
-
 -- a symbol, and how many bits its code word has
 pub record CodeWord : Type 0 where
   pub len : ℕ
@@ -30,7 +27,7 @@ number_after before len = sum_by (λ shorter. 2 ^ (len - shorter)) before
 -- the bits of the code word at an index, which has this entry: as many as it says, which write the number after those before it
 pub record IsWord (table : List CodeWord) (index : ℕ) (entry : CodeWord) (word : List ℕ) : Type 0 where
   pub entry_is : slice_get table index ≡ Some entry
-  pub are_bits : AreBits word
+  pub are_bits : All (λ bit. bit < 2) word
   pub length_is : length word ≡ entry.len
   pub number_is : number_from_digits 2 word ≡ number_after (take index (lengths_of table)) entry.len
 

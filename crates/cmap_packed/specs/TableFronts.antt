@@ -7,13 +7,9 @@ use Rattle.cmap_packed.specs.PrefixWords.{CodeWord, AreWordLengths, lengths_from
 abbrev pub MostAt : List ℕ → ℕ × List ℕ → Type 0
 MostAt text = Then (FieldAt 2 text) (λ filled tail. Then (ByteAt tail) (λ most rest. Gives (if filled == 0 then 0 else most, rest)))
 
--- how many symbols have a code word of each length from 1 on, in two bytes each
-abbrev pub LengthCountsAt : List ℕ → List ℕ × List ℕ → Type 0
-LengthCountsAt text = Then (MostAt text) (RowOf (FieldAt 2))
-
--- the counts, and a symbol of this many bytes for each code word
+-- how many symbols have a code word of each length from 1 on, in two bytes each, and a symbol of this many bytes for each code word
 abbrev pub TableAt : ℕ → List ℕ → List CodeWord × List ℕ → Type 0
 TableAt width text =
-    Then (LengthCountsAt text) (λ counts mid.
+    Then (Then (MostAt text) (RowOf (FieldAt 2))) (λ counts mid.
     let lens = lengths_from 1 counts in
     Then (RowOf (FieldAt width) (length lens) mid) (λ symbols rest. GivesIf (AreWordLengths lens) (zip_words lens symbols, rest)))

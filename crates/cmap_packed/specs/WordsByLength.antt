@@ -1,6 +1,9 @@
 -- Private aid: code words by how many there are of each length, and the one that begins bits, as it is looked for length by length.
-use Rattle.std.specs.Prelude.{◌≡◌, ℕ, ◌+◌, ◌-◌, ◌*◌, ◌^◌, ◌<◌, ◌≤◌, List, [], ◌∷◌, ◌++◌, length, get_or, drop, Option, Some, None, if◌then◌else◌, nat_lt}
+use Rattle.std.specs.Prelude.{◌≡◌, ℕ, All, ◌+◌, ◌-◌, ◌*◌, ◌^◌, ◌<◌, ◌≤◌, List, [], ◌∷◌, ◌++◌, length, get_or, drop, Option, Some, None, if◌then◌else◌, nat_lt}
 use Rattle.cmap_packed.specs.PrefixWords.{CodeWord, AreWordLengths, lengths_from, zip_words}
+
+abbrev pub AreBits : List ℕ → Type 0
+AreBits ds = All (λ d. d < 2) ds
 
 abbrev pub words_of : List ℕ → List ℕ → List CodeWord
 words_of counts symbols = zip_words (lengths_from 1 counts) symbols

@@ -3,7 +3,8 @@
 ghost use Rattle.std.specs.Prelude.{◌≡◌, IfOk, option_and_then, slice_get};
 ghost use Rattle.std.specs.Option.{option_copied};
 ghost use Rattle.cmap_packed.specs.BundleSeen.{bundle_seen, tables_seen};
-ghost use Rattle.cmap_packed.specs.Bundles.{AreFiles, HoldsTables, IsBundle};
+ghost use Rattle.cmap_packed.specs.Bundles.{HoldsTables, IsBundle};
+ghost use Rattle.cmap_packed.specs.Fronts.{AllOf, FramedAt};
 ghost use Rattle.cmap_values.specs.Outcomes.{Finds};
 ghost use Rattle.cmap_values.specs.CMapNames.{index_of_name};
 ghost use Rattle.cmap_values.specs.NamesSeen.{names_seen};
@@ -91,7 +92,7 @@ const UNCHECKED: usize = 6;
 
 /// All the files that the bytes are.
 fn split_files<'b>(alloc: Global, mut bytes: &'b [u8]) -> Result<Option<Vec<&'b [u8]>>, AllocError>
-    ensures { IfOk result (Finds (AreFiles bytes.now) (λ files. names_seen files.items)) }
+    ensures { IfOk result (Finds (AllOf (FramedAt 6) bytes.now) (λ files. names_seen files.items)) }
 {
     let mut files = Vec::new(alloc);
     while !bytes.is_empty() {

@@ -15,7 +15,8 @@ use Rattle.cmap_values.specs.declared.code_length.CodeLength.{CodeLength}
 use Rattle.cmap_values.specs.declared.code_length.CodeLength.TheVariants.{One, Two, Three, Four}
 use Rattle.cmap_values.specs.declared.declarations.CidRange.{CidRange}
 use Rattle.cmap_packed.specs.Bundles.{PrefixTables}
-use Rattle.cmap_binary.specs.BinaryEntries.{CidEntriesIn, Shape, cid_from, ranges, singles}
+use Rattle.cmap_binary.specs.BinaryEntries.{Shape, ranges, singles}
+use Rattle.cmap_binary.specs.EntryByEntry.{cid_from}
 use Rattle.cmap_binary.specs.BinaryFiles.{IsSegment, declares}
 use Rattle.cmap_writer.specs.Arranged.{AddsByLength, AddsCidEntries, AddsFull, AddsInTurn, AddsTextEntries, AreEnded, AreFull, AreInOne, CanFollow, HoldsEntries, HoldEach, IsArranged, StandInTurn, lists_by_length, cid_type, count_of, segment_type, shape_of, value_of}
 use Rattle.cmap_writer.specs.EncodersSeen.{shape_seen}
@@ -27,7 +28,7 @@ use Rattle.cmap_writer.specs.Segments.{declared_span}
 use Rattle.cmap_writer.specs.Written.{bytes_of}
 use Rattle.cmap_writer.specs.declared.prepared.Prepared.{Prepared}
 use Rattle.cmap_writer.specs.declared.segments.Segment.{Segment}
-use Rattle.cmap_writer.proofs.CidsWritten.{IsSegment-ranges, IsSegment-singles, cids}
+use Rattle.cmap_writer.proofs.CidsWritten.{CidEntriesIn, IsSegment-ranges, IsSegment-singles, cids}
 use Rattle.cmap_writer.proofs.SegmentNumbers.{cid_spans}
 use Rattle.cmap_writer.proofs.SegmentsMade.{Follow, shape_at}
 

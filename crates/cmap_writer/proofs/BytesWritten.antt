@@ -1,14 +1,12 @@
 -- Numbers that are written in bytes, and read back.
-use Rattle.std.proofs.Common.{◌≡◌, true, ℕ, zero, suc, ◌+◌, ◌-◌, ◌*◌, ◌/◌, ◌%◌, ◌^◌, ◌<◌, List, [], ◌∷◌, ◌++◌, length, take, drop, Some, None, refl, ap, ◌∙◌, sym, arith}
-use Rattle.std.specs.Prelude.{option_map, nat_le, if◌then◌else◌, bit_and}
+use Rattle.std.proofs.Common.{◌≡◌, ℕ, zero, suc, ◌+◌, ◌-◌, ◌*◌, ◌/◌, ◌%◌, ◌^◌, ◌<◌, List, [], ◌∷◌, length, refl, ap, ◌∙◌, sym, arith}
+use Rattle.std.specs.Prelude.{bit_and}
 use Rattle.std.specs.List.{flat_map}
 use Rattle.std.specs.Int.Digits.{number_from_digits_after}
-use Rattle.std.proofs.lemmas.Bool.{le-leb}
-use Rattle.std.proofs.lemmas.List.{drop_at, length-append, take_at}
+use Rattle.std.proofs.lemmas.List.{length-append}
 use Rattle.std.proofs.lemmas.Nat.{and_mask, mod-pow-add, pow-add}
 use Rattle.std.proofs.Math.Nat.{add-mul, mod-eq_of_lt, mul_assoc}
 use Rattle.cmap_values.specs.BigEndian.{big_endian}
-use Rattle.cmap_packed.specs.Reader.{front, number_at}
 use Rattle.cmap_writer.specs.Written.{bytes_of}
 
 pub length-bytes_of : (width n : ℕ) → length (bytes_of width n) ≡ width
@@ -38,19 +36,6 @@ number_after-bytes_of (suc width) m n =
 
 pub big_endian-bytes_of : (width n : ℕ) → n < 2 ^ (8 * width) → big_endian (bytes_of width n) ≡ n
 big_endian-bytes_of width n small = omega (arith, number_after-bytes_of width 0 n, mod-eq_of_lt small)
-
--- ---- what a reader finds
-pub front-written : (width : ℕ) (bytes rest : List ℕ) → length bytes ≡ width → front width (bytes ++ rest) ≡ Some bytes
-front-written width bytes rest size =
-    let fits : nat_le width (length (bytes ++ rest)) ≡ true = le-leb width (length (bytes ++ rest)) (omega (arith, length-append bytes rest)) in
-    ap (λ b. if b then Some (take width (bytes ++ rest)) else None) fits ∙ ap Some (take_at bytes rest width size)
-
-pub number_at-written : (width n : ℕ) (rest : List ℕ) → n < 2 ^ (8 * width) → number_at width (bytes_of width n ++ rest) ≡ Some n
-number_at-written width n rest small =
-    ap (option_map big_endian) (front-written width (bytes_of width n) rest (length-bytes_of width n)) ∙ ap Some (big_endian-bytes_of width n small)
-
-pub after-written : (width n : ℕ) (rest : List ℕ) → drop width (bytes_of width n ++ rest) ≡ rest
-after-written width n rest = drop_at (bytes_of width n) rest width (length-bytes_of width n)
 
 -- ---- numbers in a row
 pub length-row : (width : ℕ) (xs : List ℕ) → length (flat_map (λ n. bytes_of width n) xs) ≡ width * length xs

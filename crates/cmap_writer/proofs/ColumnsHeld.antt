@@ -4,7 +4,8 @@ use Rattle.std.proofs.lemmas.List.{append_assoc}
 use Rattle.cmap_runs.specs.Ranges.{Span}
 use Rattle.cmap_packed.specs.PrefixWords.{BeginWithWordsOf, CodeWord, bits}
 use Rattle.cmap_packed.specs.Bundles.{PrefixTables}
-use Rattle.cmap_binary.specs.BinaryEntries.{Columns, ColumnsAt, WidthAt, ranges, singles}
+use Rattle.cmap_binary.specs.BinaryEntries.{ranges, singles}
+use Rattle.cmap_binary.specs.EntryByEntry.{Columns, ColumnsAt, WidthAt}
 use Rattle.cmap_writer.specs.ColumnsWritten.{HaveSpans, WritesColumn, WritesColumns}
 use Rattle.cmap_writer.specs.Held.{AreInOrder, AreShaped, counts_of, deltas_of}
 use Rattle.cmap_writer.specs.Written.{Appends}

@@ -1,13 +1,14 @@
 -- What a file keeps whose lists say the same.
 use Rattle.std.proofs.Common.{◌≡◌, ℕ, Bool, true, false, List, [], ◌∷◌, ◌++◌, Option, Some, None, map, refl, ap, ◌∙◌, sym}
 use Rattle.std.specs.Prelude.{◌==◌, ◌&&◌, nat_le, filter_map, flat_map, if◌then◌else◌, option_map}
-use Rattle.std.specs.List.{last_or}
+use Rattle.std.specs.List.{fold}
 use Rattle.std.proofs.lemmas.List.{append-nil}
 use Rattle.std.proofs.lemmas.List.Concat.{flat_map-append}
 use Rattle.std.proofs.lemmas.List.Elements.{filter_map-append}
+use Rattle.std.proofs.lemmas.List.Sums.{fold-append}
 use Rattle.std.proofs.lemmas.Option.{none-some, same_Some}
 use Rattle.cmap_values.specs.Files.{BfEntry, ByLength, CidEntry, Declaration, File, FileMetadata, Lists, lists_of, of_length}
-use Rattle.cmap_binary.specs.BinaryFiles.{Content, collection_set, declared_in, declares, file_of, magic, mode_set, name_set, name_used}
+use Rattle.cmap_binary.specs.BinaryFiles.{Content, declared_in, declares, file_of, magic, metadata_after, name_used}
 use Rattle.cmap_binary.specs.BinaryFiles as files
 use Rattle.cmap_unicode.specs.Cids.{without_texts}
 use Rattle.cmap_layers.specs.Layers.{Layer}
@@ -36,37 +37,35 @@ all_declared : (parts : List (List Declaration)) → flat_map declared_in (map d
 all_declared [] = refl
 all_declared (part ∷ parts) = ap (λ ds. part ++ ds) (all_declared parts)
 
-module _ (m : FileMetadata) (names : List (List ℕ)) (parts : List (List Declaration)) where
-  later : List Content
-  later = map files.uses names ++ map declares parts
+-- the metadata stay
+parts_keep : (m : FileMetadata) (parts : List (List Declaration)) → fold metadata_after m (map declares parts) ≡ m
+parts_keep m [] = refl
+parts_keep m (part ∷ parts) = parts_keep m parts
 
-  later_none : {B : Type 0} (f : Content → Option B) → ((x : List ℕ) → f (files.uses x) ≡ None) → ((x : List Declaration) → f (declares x) ≡ None) → filter_map f later ≡ []
-  unfolding later
-  later_none f first second = filter_map-append f (map files.uses names) (map declares parts) ∙ ap (λ xs. xs ++ filter_map f (map declares parts)) (nothing f files.uses first names) ∙ nothing f declares second parts
-
-  first_alone : {B : Type 0} (f : Content → Option B) → ((x : List ℕ) → f (files.uses x) ≡ None) → ((x : List Declaration) → f (declares x) ≡ None) → filter_map f (metadata_contents m ++ later) ≡ filter_map f (metadata_contents m)
-  first_alone f first second = filter_map-append f (metadata_contents m) later ∙ ap (λ xs. filter_map f (metadata_contents m) ++ xs) (later_none f first second) ∙ append-nil _
+later_keep : (m : FileMetadata) (names : List (List ℕ)) (parts : List (List Declaration)) → fold metadata_after m (map files.uses names ++ map declares parts) ≡ m
+later_keep m [] parts = parts_keep m parts
+later_keep m (x ∷ names) parts = later_keep m names parts
 
 -- what is said of metadata, and nothing else
-record IsSaid (c : Option Collection) (n : Option (List ℕ)) (w : Option Mode) (contents : List Content) : Type 0 where
-  collection : last_or None (filter_map collection_set contents) ≡ c
-  name : last_or None (filter_map name_set contents) ≡ n
-  mode : option_and_then (λ m. m) (last_or None (filter_map mode_set contents)) ≡ w
+record IsSaid (m : FileMetadata) (contents : List Content) : Type 0 where
+  metadata : (file_of contents).metadata ≡ m
   names : filter_map name_used contents ≡ []
   declared : flat_map declared_in contents ≡ []
 
-is_said : (c : Option Collection) (n : Option (List ℕ)) (w : Option Mode) → IsSaid c n w (metadata_contents (record { collection = c; name = n; mode = w }))
-is_said None None None = record { collection = refl; name = refl; mode = refl; names = refl; declared = refl }
-is_said None None (Some w) = record { collection = refl; name = refl; mode = refl; names = refl; declared = refl }
-is_said None (Some n) None = record { collection = refl; name = refl; mode = refl; names = refl; declared = refl }
-is_said None (Some n) (Some w) = record { collection = refl; name = refl; mode = refl; names = refl; declared = refl }
-is_said (Some c) None None = record { collection = refl; name = refl; mode = refl; names = refl; declared = refl }
-is_said (Some c) None (Some w) = record { collection = refl; name = refl; mode = refl; names = refl; declared = refl }
-is_said (Some c) (Some n) None = record { collection = refl; name = refl; mode = refl; names = refl; declared = refl }
-is_said (Some c) (Some n) (Some w) = record { collection = refl; name = refl; mode = refl; names = refl; declared = refl }
+abbrev about : Option Collection → Option (List ℕ) → Option Mode → FileMetadata
+about c n w = record { collection = c; name = n; mode = w }
+
+is_said : (c : Option Collection) (n : Option (List ℕ)) (w : Option Mode) → IsSaid (about c n w) (metadata_contents (about c n w))
+is_said None None None = record { metadata = refl; names = refl; declared = refl }
+is_said None None (Some w) = record { metadata = refl; names = refl; declared = refl }
+is_said None (Some n) None = record { metadata = refl; names = refl; declared = refl }
+is_said None (Some n) (Some w) = record { metadata = refl; names = refl; declared = refl }
+is_said (Some c) None None = record { metadata = refl; names = refl; declared = refl }
+is_said (Some c) None (Some w) = record { metadata = refl; names = refl; declared = refl }
+is_said (Some c) (Some n) None = record { metadata = refl; names = refl; declared = refl }
+is_said (Some c) (Some n) (Some w) = record { metadata = refl; names = refl; declared = refl }
 
 pub file_said : (m : FileMetadata) (names : List (List ℕ)) (parts : List (List Declaration)) → file_of (metadata_contents m ++ (map files.uses names ++ map declares parts)) ≡ record { metadata = m; lists = lists_of (flat_map (λ part. part) parts); uses = names }
-unfolding later
 file_said m names parts =
     let said = is_said m.collection m.name m.mode in
     let used : filter_map name_used (metadata_contents m ++ (map files.uses names ++ map declares parts)) ≡ names =
@@ -75,16 +74,9 @@ file_said m names parts =
     let declared : flat_map declared_in (metadata_contents m ++ (map files.uses names ++ map declares parts)) ≡ flat_map (λ part. part) parts =
     flat_map-append declared_in (metadata_contents m) (map files.uses names ++ map declares parts) ∙ ap (λ xs. xs ++ flat_map declared_in (map files.uses names ++ map declares parts)) said.declared
     ∙ flat_map-append declared_in (map files.uses names) (map declares parts) ∙ ap (λ xs. xs ++ flat_map declared_in (map declares parts)) (none_declared names) ∙ all_declared parts in
-    rw (
-      first_alone m names parts collection_set (λ x. refl) (λ x. refl),
-      first_alone m names parts name_set (λ x. refl) (λ x. refl),
-      first_alone m names parts mode_set (λ x. refl) (λ x. refl),
-      said.collection,
-      said.name,
-      said.mode,
-      used,
-      declared,
-    ) refl
+    let metadata : fold metadata_after (about None None None) (metadata_contents m ++ (map files.uses names ++ map declares parts)) ≡ m =
+    fold-append metadata_after (about None None None) (metadata_contents m) (map files.uses names ++ map declares parts) ∙ ap (λ before. fold metadata_after before (map files.uses names ++ map declares parts)) said.metadata ∙ later_keep m names parts in
+    rw (metadata, used, declared) refl
 
 -- ---- what codes stand for
 same_choice : (b : Bool) (x x' y y' : List CidEntry) (code : ℕ) → cid_told x code ≡ cid_told x' code → cid_told y code ≡ cid_told y' code → cid_told (if b then x else y) code ≡ cid_told (if b then x' else y') code

@@ -7,10 +7,21 @@ use Rattle.cmap_packed.specs.Bundles.{PrefixTables}
 use Rattle.cmap_binary.specs.BinaryFiles.{Content, IsSegment, SegmentAt}
 use Rattle.cmap_packed.specs.Fronts.{BytesAt, FieldAt, FramedAt, RowOf, SizedAt}
 use Rattle.cmap_writer.specs.Written.{bytes_of, Appends, Writes, IsFramed, IsSized}
-use Rattle.cmap_writer.proofs.BytesWritten.{after-written, length-bytes_of, number_at-written}
+use Rattle.cmap_writer.proofs.BytesWritten.{big_endian-bytes_of, length-bytes_of}
+
+pub BytesAt-written : (bytes rest : List ℕ) → BytesAt (length bytes) (bytes ++ rest) (bytes, rest)
+BytesAt-written bytes rest = (
+  omega (arith, length-append bytes rest),
+  sym (take_at bytes rest (length bytes) refl),
+  sym (drop_at bytes rest (length bytes) refl),
+  refl,
+  omega (arith, length-append bytes rest),
+)
 
 pub FieldAt-written : (width n : ℕ) (rest : List ℕ) → n < 2 ^ (8 * width) → FieldAt width (bytes_of width n ++ rest) (n, rest)
-FieldAt-written width n rest small = (number_at-written width n rest small, sym (after-written width n rest))
+FieldAt-written width n rest small =
+    let split = subst (λ len. BytesAt len (bytes_of width n ++ rest) (bytes_of width n, rest)) (length-bytes_of width n) (BytesAt-written (bytes_of width n) rest) in
+    (bytes_of width n, rest, split, ap (λ m. (m, rest)) (sym (big_endian-bytes_of width n small)))
 
 -- numbers of so many bytes each, one after another
 abbrev pub fields : ℕ → List ℕ → List ℕ
@@ -22,15 +33,6 @@ fields_written width (x ∷ xs) rest small =
     let first = All-head (λ n. n < 2 ^ (8 * width)) x xs small in
     let later = fields_written width xs rest (All-tail (λ n. n < 2 ^ (8 * width)) x xs small) in
     subst (λ bs. RowOf (FieldAt width) (suc (length xs)) bs (x ∷ xs, rest)) (sym (append_assoc (bytes_of width x) (fields width xs) rest)) (x, fields width xs ++ rest, FieldAt-written width x (fields width xs ++ rest) first, (xs, rest, later, refl))
-
-pub BytesAt-written : (bytes rest : List ℕ) → BytesAt (length bytes) (bytes ++ rest) (bytes, rest)
-BytesAt-written bytes rest = (
-  omega (arith, length-append bytes rest),
-  sym (take_at bytes rest (length bytes) refl),
-  sym (drop_at bytes rest (length bytes) refl),
-  refl,
-  omega (arith, length-append bytes rest),
-)
 
 pub SizedAt-written : (piece rest : List ℕ) → length piece < 2 ^ 32 → SizedAt (bytes_of 4 (length piece) ++ (piece ++ rest)) (piece, rest)
 SizedAt-written piece rest small = (length piece, piece ++ rest, FieldAt-written 4 (length piece) (piece ++ rest) small, BytesAt-written piece rest)

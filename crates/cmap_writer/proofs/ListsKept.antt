@@ -7,6 +7,7 @@ use Rattle.std.proofs.lemmas.List.Elements.{All-head, All-tail}
 use Rattle.std.proofs.lemmas.List.{length-append}
 use Rattle.cmap_values.specs.Files.{ByLength, CidEntry, Codespace, Declaration}
 use Rattle.cmap_values.specs.ListsByKind.{by_length}
+use Rattle.cmap_binary.specs.BinaryFiles as files
 use Rattle.cmap_binary.specs.BinaryFiles.{Content, SegmentAt, declares}
 use Rattle.cmap_packed.specs.Bundles.{PrefixTables}
 use Rattle.cmap_writer.specs.Fields.{NotdefFits, NotdefsFit, SpaceFits, notdef_bytes, notdef_lists_bytes, notdefs_bytes, notdefs_payload, part_segments, parts_of, segment_bytes, space_bytes, spaces_bytes, spaces_payload}
@@ -60,7 +61,7 @@ pub short_spaces : (spaces : List Codespace) → length spaces ≤ 255 → All S
 short_spaces spaces few all = omega (arith, few, spaces_short spaces all)
 
 one_spaces : (spaces : List Codespace) → length spaces ≤ 255 → All SpaceFits spaces → Writes SegmentByAny (declares (map Declaration.codespace spaces)) (segment_bytes 12 (spaces_payload spaces))
-one_spaces spaces few all = segment_written 12 (spaces_payload spaces) (declares (map Declaration.codespace spaces)) (short_spaces spaces few all) (λ tables. (spaces, spaces_read spaces all, refl))
+one_spaces spaces few all = segment_written 12 (spaces_payload spaces) (declares (map Declaration.codespace spaces)) (short_spaces spaces few all) (λ tables. (files.codespaces, refl, (spaces, spaces_read spaces all, refl)))
 
 pub spaces_written : (spaces : List Codespace) → All SpaceFits spaces → DeclareAll SegmentByAny (map Declaration.codespace spaces) (spaces_bytes spaces)
 spaces_written spaces all = parts_written Declaration.codespace 12 spaces_payload 255 SpaceFits one_spaces (omega arith) spaces all
@@ -81,7 +82,7 @@ short_notdefs len es few all =
     omega (arith, few, notdefs_short len es all, length-append (bytes_of 2 (length es)) rows, length-bytes_of 2 (length es))
 
 one_notdefs : (len : ℕ) (es : List CidEntry) → length es ≤ 65535 → All (NotdefFits len) es → Writes SegmentByAny (declares (map (Declaration.notdef len) es)) (segment_bytes 10 (notdefs_payload len es))
-one_notdefs len es few all = segment_written 10 (notdefs_payload len es) (declares (map (Declaration.notdef len) es)) (short_notdefs len es few all) (λ tables. ((len, es), notdefs_read len es (omega (arith, few)) all, refl))
+one_notdefs len es few all = segment_written 10 (notdefs_payload len es) (declares (map (Declaration.notdef len) es)) (short_notdefs len es few all) (λ tables. (files.notdefs, refl, ((len, es), notdefs_read len es (omega (arith, few)) all, refl)))
 
 notdefs_written : (len : ℕ) (es : List CidEntry) → All (NotdefFits len) es → DeclareAll SegmentByAny (map (Declaration.notdef len) es) (notdefs_bytes len es)
 notdefs_written len es all = parts_written (Declaration.notdef len) 10 (notdefs_payload len) 65535 (NotdefFits len) (one_notdefs len) (omega arith) es all

@@ -91,17 +91,17 @@ length-payload collection =
     omega (arith, length-append (terminated_bytes registry) (terminated_bytes ordering ++ tail), length-append (terminated_bytes ordering) tail, length-append registry (0 ∷ []), length-append ordering (0 ∷ []), length-bytes_of 2 (nat_abs collection.supplement))
 
 one_collection : (collection : Collection) → CollectionFits collection → Writes SegmentByAny (files.sets_collection collection) (segment_bytes 14 (collection_payload collection))
-one_collection collection (fits, small) = segment_written 14 (collection_payload collection) (files.sets_collection collection) (omega (arith, small, length-payload collection)) (λ tables. (collection, collection_read collection fits, refl))
+one_collection collection (fits, small) = segment_written 14 (collection_payload collection) (files.sets_collection collection) (omega (arith, small, length-payload collection)) (λ tables. (files.collection, refl, (collection, collection_read collection fits, refl)))
 
 one_name : (name : List ℕ) → NameFits name → Writes SegmentByAny (files.sets_name name) (segment_bytes 13 name)
-one_name name small = segment_written 13 name (files.sets_name name) small (λ tables. refl)
+one_name name small = segment_written 13 name (files.sets_name name) small (λ tables. (files.name, refl, refl))
 
 numbered : (mode : Mode) → mode_numbered (mode_number mode) ≡ Some mode
 numbered horizontal = refl
 numbered vertical = refl
 
 one_mode : (mode : Mode) → Unit {0} → Writes SegmentByAny (files.sets_mode (Some mode)) (segment_bytes 11 (mode_number mode ∷ []))
-one_mode mode h = segment_written 11 (mode_number mode ∷ []) (files.sets_mode (Some mode)) (omega arith) (λ tables. ((mode_number mode, []), refl, ap files.sets_mode (sym (numbered mode))))
+one_mode mode h = segment_written 11 (mode_number mode ∷ []) (files.sets_mode (Some mode)) (omega arith) (λ tables. (files.mode, refl, ((mode_number mode, []), refl, ap files.sets_mode (sym (numbered mode)))))
 
 any_mode : (o : Option Mode) → IfSome o (λ mode. Unit {0})
 any_mode None = tt
@@ -117,7 +117,7 @@ metadata_written m fits =
     (joined SegmentByAny (from_option files.sets_name m.name) (from_option sets m.mode) (name_bytes m.name) (mode_bytes m.mode) name mode)
 
 one_use : (name : List ℕ) → NameFits name → Writes SegmentByAny (files.uses name) (segment_bytes 9 name)
-one_use name small = segment_written 9 name (files.uses name) small (λ tables. refl)
+one_use name small = segment_written 9 name (files.uses name) small (λ tables. (files.base, refl, refl))
 
 pub uses_written : (names : List (List ℕ)) → All NameFits names → WritesAll SegmentByAny (map files.uses names) (uses_bytes names)
 uses_written [] all = refl

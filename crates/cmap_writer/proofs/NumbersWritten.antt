@@ -6,14 +6,14 @@ use Rattle.cmap_values.specs.Files.{CidEntry}
 use Rattle.cmap_values.specs.DeclarationsSeen.{cid_range_span, entries_seen}
 use Rattle.cmap_values.specs.declared.declarations.CidRange.{CidRange}
 use Rattle.cmap_packed.specs.Bundles.{PrefixTables}
-use Rattle.cmap_binary.specs.BinaryEntries.{CidEntriesIn, Shape, ranges, singles}
+use Rattle.cmap_binary.specs.BinaryEntries.{Shape, ranges, singles}
 use Rattle.cmap_writer.specs.ColumnsWritten.{WritesColumns}
 use Rattle.cmap_writer.specs.Held.{AreHeld, AreInOrder, AreShaped, counts_by, deltas_of, entry_span, spans_of}
 use Rattle.cmap_writer.specs.EncodersSeen.{shape_seen}
 use Rattle.cmap_writer.specs.Segments.{IsPayloadOf, WritesNumbers}
 use Rattle.cmap_writer.specs.Written.{Appends, bytes_of}
 use Rattle.cmap_writer.specs.declared.segments.Segment.{Segment}
-use Rattle.cmap_writer.proofs.CidsWritten.{cids, payload_written}
+use Rattle.cmap_writer.proofs.CidsWritten.{CidEntriesIn, cids, payload_written}
 use Rattle.cmap_writer.proofs.ColumnsHeld.{range_columns, single_columns}
 
 pub spans_seen : (xs : List CidRange) → map cid_range_span xs ≡ spans_of (entries_seen xs)

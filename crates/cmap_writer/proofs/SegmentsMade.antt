@@ -6,7 +6,8 @@ use Rattle.std.proofs.lemmas.List.{length-map, length-take-le, map-append, take-
 use Rattle.std.proofs.lemmas.List.Elements.{All-head, All-tail}
 use Rattle.cmap_values.specs.DeclarationsSeen.{cid_entry_seen, entries_seen}
 use Rattle.cmap_values.specs.declared.declarations.CidRange.{CidRange}
-use Rattle.cmap_binary.specs.BinaryEntries.{Shape, cid_from}
+use Rattle.cmap_binary.specs.BinaryEntries.{Shape}
+use Rattle.cmap_binary.specs.EntryByEntry.{cid_from}
 use Rattle.cmap_writer.specs.Follows.{Follows, HasShapeOf}
 use Rattle.cmap_writer.specs.Held.{AreHeld, AreInOrder, AreOwnCids, AreShaped, HasShape, spans_of}
 use Rattle.cmap_writer.specs.Pieces.{IsShort}

@@ -5,13 +5,15 @@ use Rattle.std.proofs.lemmas.List.{append_assoc, append-nil, length-map}
 use Rattle.std.proofs.lemmas.List.Elements.{All-head, All-tail}
 use Rattle.cmap_runs.specs.Ranges.{Span}
 use Rattle.cmap_values.specs.DeclarationsSeen.{bf_entry_seen, bf_range_span}
-use Rattle.cmap_values.specs.Files.{Declaration}
+use Rattle.cmap_values.specs.Files.{BfEntry, Declaration}
 use Rattle.cmap_values.specs.UnitsSeen.{units_seen}
 use Rattle.cmap_values.specs.declared.declarations.BfRange.{BfRange}
 use Rattle.cmap_packed.specs.Bundles.{PrefixTables}
-use Rattle.cmap_binary.specs.BinaryEntries.{BfEntriesIn, BfEntryAt, Columns, DestinationAt, Shape, ranges, singles}
-use Rattle.cmap_binary.specs.BinaryFiles.{SaysIfKind, declares}
-use Rattle.cmap_packed.specs.Fronts.{FieldAt, RowOf}
+use Rattle.cmap_binary.specs.BinaryEntries.{BfEntriesOf, DestinationAt, Shape, ranges, singles}
+use Rattle.cmap_binary.specs.EntryByEntry.{BfEntryAt, BfsByEntry, Columns}
+use Rattle.cmap_binary.specs.BinaryFiles as files
+use Rattle.cmap_binary.proofs.EntriesByColumns.{bfs_same}
+use Rattle.cmap_packed.specs.Fronts.{FieldAt, RowOf, Then}
 use Rattle.cmap_writer.specs.ColumnsWritten.{HaveSpans, WritesColumns}
 use Rattle.cmap_writer.specs.EncodersSeen.{shape_seen}
 use Rattle.cmap_writer.specs.Held.{AreInOrder, AreShaped, counts_by, deltas_of}
@@ -53,12 +55,18 @@ texts_written tables fixed (x ∷ xs) columns tail (later, span, spans) counted 
       subst (λ bs. RowOf (BfEntryAt tables fixed) (suc (length xs)) (columns, bs) (map bf_entry_seen (x ∷ xs), (last, tail))) (sym (append_assoc (destination fixed units) (destinations fixed xs) tail)) (bf_entry_seen x, (later, rest), here, (map bf_entry_seen xs, (last, tail), row, refl)),
     )
 
+-- the entries of a segment, after their number
+abbrev BfEntriesIn : PrefixTables → Shape → Option ℕ → List ℕ → List BfEntry → Type 0
+BfEntriesIn tables shape fixed payload = Then (FieldAt 2 payload) (BfEntriesOf tables shape fixed)
+
 payload_written : (tables : PrefixTables) (shape : Shape) (fixed : Option ℕ) (xs : List BfRange) (bytes : List ℕ) → AreHeldTexts shape fixed xs → WritesColumns tables shape (map bf_range_span xs) bytes → BfEntriesIn tables shape fixed (bytes_of 2 (length xs) ++ (bytes ++ destinations fixed xs)) (map bf_entry_seen xs)
 payload_written tables shape fixed xs bytes held (columns, at, spans) =
     let texts = destinations fixed xs in
     let (last, row) = texts_written tables fixed xs columns [] spans held.counted held.short in
     let all = subst (λ bs. RowOf (BfEntryAt tables fixed) (length xs) (columns, bs) (map bf_entry_seen xs, (last, []))) (append-nil texts) row in
-    (length xs, bytes ++ texts, FieldAt-written 2 (length xs) (bytes ++ texts) held.few, (columns, texts, at texts, (map bf_entry_seen xs, (last, []), all, refl)))
+    let es = map bf_entry_seen xs in
+    let entries : BfsByEntry tables shape fixed (length xs) (bytes ++ texts) es = (columns, texts, at texts, (es, (last, []), all, refl)) in
+    (length xs, bytes ++ texts, FieldAt-written 2 (length xs) (bytes ++ texts) held.few, (bfs_same tables shape fixed (length xs) (bytes ++ texts) es).1 entries)
 
 -- the segment of these
 pub segment_declares : (segment : Segment) (fixed : Option ℕ) (xs : List BfRange) → AreHeldTexts (shape_seen segment.shape) fixed xs → IsNumberOf (shape_seen segment.shape) fixed segment.number → segment.deltas.items ≡ deltas_of 0 (map bf_range_span xs) → segment.counts.items ≡ counts_by (shape_seen segment.shape) (map bf_range_span xs) → segment.values.items ≡ destinations fixed xs → DeclaresAll segment (map Declaration.bf (map bf_entry_seen xs))
@@ -70,4 +78,4 @@ segment_declares segment fixed xs held number deltas counts values tables payloa
     let size : length segment.deltas.items ≡ length xs = ap length deltas ∙ length-deltas 0 spans ∙ length-map xs bf_range_span in
     let is : payload ≡ bytes_of 2 (length xs) ++ (columns ++ destinations fixed xs) = whole ∙ ap (λ n. bytes_of 2 n ++ (columns ++ segment.values.items)) size ∙ ap (λ bs. bytes_of 2 (length xs) ++ (columns ++ bs)) values in
     let entries = subst (λ bs. BfEntriesIn tables shape fixed bs es) (sym is) (payload_written tables shape fixed xs columns held (columns_written tables shape spans columns held.order held.shaped spelled)) in
-    subst (λ kind. SaysIfKind tables kind payload (declares (map Declaration.bf es))) (sym number) (es, entries, refl)
+    (files.texts shape fixed, number, (es, entries, refl))

@@ -1,7 +1,8 @@
 -- Columns that are written.
 use Rattle.std.specs.Prelude.{ℕ, List, [], ◌∷◌}
 use Rattle.cmap_runs.specs.Ranges.{Span}
-use Rattle.cmap_binary.specs.BinaryEntries.{Columns, ColumnsAt, Shape, SpanAt}
+use Rattle.cmap_binary.specs.BinaryEntries.{Shape}
+use Rattle.cmap_binary.specs.EntryByEntry.{Columns, ColumnsAt, SpanAt}
 use Rattle.cmap_packed.specs.Bundles.{PrefixTables}
 use Rattle.cmap_packed.specs.PrefixWords.{BeginWithWordsOf, CodeWord, bits}
 use Rattle.cmap_writer.specs.Spelled.{IsSpelledIn}

@@ -1,9 +1,9 @@
 //! The table that comes next in bytes.
 
 ghost use Rattle.std.specs.Prelude.{IfOk};
-ghost use Rattle.cmap_packed.specs.Fronts.{FieldAt, RowOf};
+ghost use Rattle.cmap_packed.specs.Fronts.{FieldAt, RowOf, Then};
 ghost use Rattle.cmap_packed.specs.Reader.{IsAtByte};
-ghost use Rattle.cmap_packed.specs.TableFronts.{LengthCountsAt, MostAt, TableAt};
+ghost use Rattle.cmap_packed.specs.TableFronts.{MostAt, TableAt};
 ghost use Rattle.cmap_packed.specs.TableTaken.{ParsesTable};
 ghost use Rattle.cmap_values.specs.CodeLengths.{IsCodeLength};
 ghost use Rattle.cmap_values.specs.Outcomes.{Finds};
@@ -58,7 +58,7 @@ fn take_table(alloc: Global, text: &mut &[u8], width: u8) -> Result<Option<Prefi
 /// How many words there are of each length.
 fn take_length_counts(alloc: Global, text: &mut &[u8]) -> Result<Option<Vec<u32>>, AllocError>
     ensures { IfOk result
-        (Finds (LengthCountsAt text.old.now) (λ counts. (counts.items, text.new.now))) }
+        (Finds (Then (MostAt text.old.now) (RowOf (FieldAt 2))) (λ counts. (counts.items, text.new.now))) }
 {
     let Some(most) = take_most(text) else {
         return Ok(None);

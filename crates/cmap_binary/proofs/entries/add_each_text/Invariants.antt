@@ -1,6 +1,6 @@
 use Rattle.cmap_values.specs.Files.{bf}
 use Rattle.cmap_values.specs.DeclarationsSeen.{lists_seen}
-use Rattle.cmap_binary.specs.BinaryEntries.{BfEntryAt}
+use Rattle.cmap_binary.specs.EntryByEntry.{BfEntryAt}
 use Rattle.cmap_packed.specs.BundleSeen.{tables_seen}
 use Rattle.cmap_binary.specs.ColumnsSeen.{columns_seen}
 use Rattle.cmap_binary.proofs.RowsAdded.{HasAdded}

@@ -2,7 +2,7 @@ use Rattle.std.proofs.Common.{◌*◌, ◌+◌, ◌≤◌, drop, vec_capacity, v
 use Rattle.cmap_values.specs.Files.{cid}
 use Rattle.cmap_values.specs.DeclarationsSeen.{lists_seen}
 use Rattle.cmap_values.specs.declared.declarations.Lists.{Lists}
-use Rattle.cmap_binary.specs.BinaryEntries.{CidEntryAt}
+use Rattle.cmap_binary.specs.EntryByEntry.{CidEntryAt}
 use Rattle.cmap_binary.specs.BinarySeen.{with_cids_of_two}
 use Rattle.cmap_packed.specs.BundleSeen.{tables_seen}
 use Rattle.cmap_binary.specs.ColumnsSeen.{cid_columns_seen, columns_seen}

@@ -1,11 +1,11 @@
 use Rattle.std.proofs.Common.{length, ◌++◌}
 use Rattle.cmap_values.specs.NamesSeen.{names_seen}
-use Rattle.cmap_packed.specs.Bundles.{AreFiles}
+use Rattle.cmap_packed.specs.Fronts.{AllOf, FramedAt}
 use Rattle.cmap_packed.proofs.Fronts.{Continues}
 use Rattle.cmap_packed.proofs.bundle.split_files.Given as goal
 
 abbrev pub invariant-loop-bytes : goal.invariant-loop-bytes
-invariant-loop-bytes l = Continues (AreFiles l.initial.bytes) (λ more. names_seen l.files.items ++ more) (AreFiles l.bytes)
+invariant-loop-bytes l = Continues (AllOf (FramedAt 6) l.initial.bytes) (λ more. names_seen l.files.items ++ more) (AllOf (FramedAt 6) l.bytes)
 
 abbrev pub decreases-loop-bytes : goal.decreases-loop-bytes
 decreases-loop-bytes l = length l.bytes

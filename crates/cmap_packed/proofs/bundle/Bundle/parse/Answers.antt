@@ -1,8 +1,8 @@
 use Rattle.std.proofs.Common.{ap, ◌∙◌, List, ℕ}
 use Rattle.std.proofs.lemmas.Result.{IfOk-from_err}
 use Rattle.cmap_values.specs.Only.{IsOnly, HoldsOfNone}
-use Rattle.cmap_packed.specs.Bundles.{AreFiles, Bundle, HoldsTables, IsBundle, PrefixTables}
-use Rattle.cmap_packed.specs.Fronts.{SizedAt}
+use Rattle.cmap_packed.specs.Bundles.{Bundle, HoldsTables, IsBundle, PrefixTables}
+use Rattle.cmap_packed.specs.Fronts.{AllOf, FramedAt, SizedAt}
 use Rattle.cmap_packed.proofs.Fronts.{then_next, then_none, then_only}
 use Rattle.cmap_packed.proofs.bundle.Bundle.parse.Goals as goal
 
@@ -15,11 +15,11 @@ module _ (bytes text rest : List ℕ) (sized : IsOnly (SizedAt bytes) (text, res
   unfolding IsBundle
   no_tables none = then_next _ sized (λ bundle is. none bundle.tables is.0)
 
-  no_files : HoldsOfNone (AreFiles rest) → HoldsOfNone (IsBundle bytes)
+  no_files : HoldsOfNone (AllOf (FramedAt 6) rest) → HoldsOfNone (IsBundle bytes)
   unfolding IsBundle
   no_files none = then_next _ sized (λ bundle is. none bundle.files is.1)
 
-  bundle_only : (tables : PrefixTables) (files : List (List ℕ)) → IsOnly (HoldsTables text) tables → IsOnly (AreFiles rest) files → IsOnly (IsBundle bytes) (record { tables = tables; files = files })
+  bundle_only : (tables : PrefixTables) (files : List (List ℕ)) → IsOnly (HoldsTables text) tables → IsOnly (AllOf (FramedAt 6) rest) files → IsOnly (IsBundle bytes) (record { tables = tables; files = files })
   unfolding IsBundle
   bundle_only tables files holds are = then_only _ sized (record {
     holds = (holds.holds, are.holds);
