@@ -28,7 +28,7 @@ _cmap() {
         mapfile -t COMPREPLY < <(compgen -f -- "$current")
         return
         ;;
-    --budget | --name | --codes | --collection | --use) return ;;
+    --budget | --max-faults | --name | --codes | --collection | --use) return ;;
     --deny)
         mapfile -t COMPREPLY < <(compgen -W "$warnings" -- "$current")
         return
@@ -48,7 +48,7 @@ _cmap() {
         bundle) mapfile -t COMPREPLY < <(compgen -W "--output --name --verify --help" -- "$current") && return ;;
         encode) mapfile -t COMPREPLY < <(compgen -W "--to-unicode --collection --simple --exact --missing --pieces --budget --lenient" -- "$current") ;;
         find | decode | text) mapfile -t COMPREPLY < <(compgen -W "--to-unicode --collection --simple --budget --lenient" -- "$current") ;;
-        check) mapfile -t COMPREPLY < <(compgen -W "--budget --files-from --null --first --lint --to-unicode --deny --quiet" -- "$current") ;;
+        check) mapfile -t COMPREPLY < <(compgen -W "--budget --files-from --null --first --max-faults --lint --to-unicode --deny --quiet" -- "$current") ;;
         *) mapfile -t COMPREPLY < <(compgen -W "--budget --lenient" -- "$current") ;;
         esac
         mapfile -t -O "${#COMPREPLY[@]}" COMPREPLY < <(compgen -W "--base --bundle --no-predefined --json --help" -- "$current")

@@ -10,14 +10,14 @@ use self::files::{CheckOptions, check};
 use self::warnings::LintOptions;
 use crate::command_line::files_of;
 use crate::command_line::flags::{
-    BUDGET, DENY, FILES_FROM, FIRST, JSON, LINT, LINT_TO_UNICODE, NULL, QUIET,
+    BUDGET, DENY, FILES_FROM, FIRST, JSON, LINT, LINT_TO_UNICODE, MAX_FAULTS, NULL, QUIET,
 };
 use crate::options::Sources;
 use clap::ArgMatches;
 use cmap_files::failure::Failure;
 use cmap_files::paths::PathList;
 use cmap_sources::bases::Bases;
-use cmap_sources::reading::{Faults, Form, Manner};
+use cmap_sources::reading::{Faults, Form, MOST_FAULTS, Manner};
 
 /// What the arguments of `check` ask for, and where files are looked up by their names.
 #[derive(Clone, Copy)]
@@ -59,6 +59,11 @@ fn list_of<'w>(arguments: &ArgMatches<'w>) -> Option<PathList<'w>> {
 
 /// How files are read.
 fn manner_of(arguments: &ArgMatches<'_>) -> Manner {
+    let (form, most_faults) = if JSON.is_given(arguments) {
+        (Form::Json, u64::MAX)
+    } else {
+        (Form::Text, MOST_FAULTS)
+    };
     Manner {
         budget: BUDGET.number(arguments),
         faults: if FIRST.is_given(arguments) {
@@ -66,10 +71,7 @@ fn manner_of(arguments: &ArgMatches<'_>) -> Manner {
         } else {
             Faults::All
         },
-        form: if JSON.is_given(arguments) {
-            Form::Json
-        } else {
-            Form::Text
-        },
+        form,
+        most_faults: MAX_FAULTS.number(arguments).unwrap_or(most_faults),
     }
 }

@@ -15,6 +15,9 @@ const UCS2: &str = "-UCS2";
 /// How the name of a CMap begins whose codes are Unicode.
 const UNI: &[u8] = b"Uni";
 
+/// What the collection of a ToUnicode CMap ends with, whose codes have no CIDs.
+const UNICODE: &str = "-UCS";
+
 /// The name of the character collection of an encoding, as `Adobe-Japan1`: of the first of its layers that has one.
 pub(crate) fn declared_collection(
     alloc: Global,
@@ -25,8 +28,10 @@ pub(crate) fn declared_collection(
     };
     let name = path_text(alloc, &name)?;
     match name.as_str().strip_suffix(UCS2) {
-        Some(collection) => Ok(Some(String::from_str(alloc, collection)?)),
-        None => Ok(None),
+        Some(collection) if !collection.ends_with(UNICODE) => {
+            Ok(Some(String::from_str(alloc, collection)?))
+        }
+        _ => Ok(None),
     }
 }
 

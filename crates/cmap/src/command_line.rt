@@ -4,9 +4,9 @@ pub(crate) mod flags;
 
 use self::flags::{
     BASE, BINARY, BUDGET, BUNDLE, CMAP_NAME, CODES, COLLECTION, DENY, EFFECTIVE, EXACT, FILES_FROM,
-    FIRST, FLATTEN, Flag, JSON, LENIENT, LINT, LINT_TO_UNICODE, MISSING, NAME, NO_PREDEFINED, NULL,
-    OF_COLLECTION, OUTPUT, PIECES, QUIET, SIMPLE, TEXT_OUTPUT, TIDY, TO_UNICODE, USE, VERIFY,
-    VERTICAL, values_of,
+    FIRST, FLATTEN, Flag, JSON, LENIENT, LINT, LINT_TO_UNICODE, MAX_FAULTS, MISSING, NAME,
+    NO_PREDEFINED, NULL, OF_COLLECTION, OUTPUT, PIECES, QUIET, SIMPLE, TEXT_OUTPUT, TIDY,
+    TO_UNICODE, USE, VERIFY, VERTICAL, values_of,
 };
 use clap::{Arg, ArgAction, ArgMatches, Command};
 use cmap_files::inputs::STANDARD_INPUT;
@@ -164,7 +164,7 @@ const OF_FILES: &[Form] = &[
     },
     Form {
         name: "diff",
-        about: "Prints what codes have in two files, where they differ",
+        about: "Prints what two files state and what codes have in them, where they differ",
         flags: &[BASE, BUNDLE, NO_PREDEFINED, JSON, BUDGET, LENIENT],
         files: &[CMAP_FILE, OTHER_FILE],
         arguments: None,
@@ -181,6 +181,7 @@ const OF_FILES: &[Form] = &[
             FILES_FROM,
             NULL,
             FIRST,
+            MAX_FAULTS,
             QUIET,
             LINT,
             LINT_TO_UNICODE,

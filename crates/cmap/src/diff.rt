@@ -7,6 +7,7 @@ use clap::ArgMatches;
 use cmap_files::failure::Failure;
 use cmap_files::inputs::STANDARD_INPUT;
 use cmap_files::status::{ACCEPTED, DIFFERENT, FAILED};
+use cmap_report::diff::metadata::{Statement, push_statement, push_statement_json, statements};
 use cmap_report::diff::{DiffLine, diff_lines, push_diff_json, push_diff_line};
 use cmap_sources::bases::Bases;
 use cmap_sources::maps::map_needed;
@@ -36,7 +37,7 @@ impl<'m, 'w> DiffOptions<'m, 'w> {
     }
 }
 
-/// Prints what codes have where two files differ, and gives the status. A file that is refused is a failure, unlike
+/// Prints what two files state and what codes have in them, where they differ, and gives the status. A file that is refused is a failure, unlike
 /// with other subcommands, since status 1 says that the files differ.
 pub(crate) fn diff(
     rt: &HostRuntime,
@@ -56,25 +57,53 @@ fn compare(
 ) -> Result<u8, Failure> {
     let left = map_needed(rt, options.left, options.manner, bases)?;
     let right = map_needed(rt, options.right, options.manner, bases)?;
-    let lines = diff_lines(rt.alloc(), &left, &right)?;
-    let status = if lines.is_empty() {
+    let printed = printed(rt.alloc(), &left, &right, options.json)?;
+    rt.print(printed.as_str())?;
+    Ok(if printed.is_empty() {
         ACCEPTED
     } else {
         DIFFERENT
-    };
-    rt.print(printed(rt.alloc(), lines, options.json)?.as_str())?;
-    Ok(status)
+    })
 }
 
-/// The lines as they are printed.
-fn printed(alloc: Global, lines: Vec<DiffLine>, json: bool) -> Result<String, AllocError> {
+/// A line for each difference.
+fn printed(alloc: Global, left: &CMap, right: &CMap, json: bool) -> Result<String, AllocError> {
     let mut printed = String::new(alloc);
-    for line in lines {
+    push_statements(alloc, &mut printed, &statements(alloc, left, right)?, json)?;
+    push_lines(alloc, &mut printed, diff_lines(alloc, left, right)?, json)?;
+    Ok(printed)
+}
+
+/// Adds what the files state.
+fn push_statements(
+    alloc: Global,
+    printed: &mut String,
+    found: &[Statement],
+    json: bool,
+) -> Result<(), AllocError> {
+    for statement in found {
         if json {
-            push_diff_json(alloc, &mut printed, line)?;
+            push_statement_json(alloc, printed, statement)?;
         } else {
-            push_diff_line(&mut printed, &line)?;
+            push_statement(printed, statement)?;
         }
     }
-    Ok(printed)
+    Ok(())
+}
+
+/// Adds what codes have.
+fn push_lines(
+    alloc: Global,
+    printed: &mut String,
+    lines: Vec<DiffLine>,
+    json: bool,
+) -> Result<(), AllocError> {
+    for line in lines {
+        if json {
+            push_diff_json(alloc, printed, line)?;
+        } else {
+            push_diff_line(printed, &line)?;
+        }
+    }
+    Ok(())
 }

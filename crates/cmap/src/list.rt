@@ -9,10 +9,11 @@ use cmap_files::status::ACCEPTED;
 use cmap_report::list::effective::effective_lines;
 use cmap_report::list::line::{Line, Place, push_json, push_line};
 use cmap_report::list::lines_by_layer;
+use cmap_report::list::metadata::push_metadata;
 use cmap_sources::bases::Bases;
 use cmap_sources::maps::map_needed;
 use cmap_sources::reading::Manner;
-use hayro_cmap::CMap;
+use hayro_cmap::{CMap, Layer};
 use std::alloc::{AllocError, Global};
 
 /// What the arguments of `list` ask for.
@@ -65,23 +66,41 @@ fn lines_of(
 /// What codes have over all layers.
 fn effective(alloc: Global, map: &CMap, json: bool) -> Result<String, AllocError> {
     let mut printed = String::new(alloc);
+    if !json {
+        push_metadata(&mut printed, map.metadata())?;
+    }
     let lines = effective_lines(alloc, map)?;
     push_lines(alloc, &mut printed, lines, Place::AllLayers, json)?;
     Ok(printed)
 }
 
-/// The declarations. Each layer but the top one has its number over them.
+/// The declarations. Each layer but the top one has its number over them, and each its metadata.
 fn declared(alloc: Global, map: &CMap, json: bool) -> Result<String, AllocError> {
     let mut printed = String::new(alloc);
     let layers = lines_by_layer(alloc, map)?;
     for (index, lines) in layers.into_iter().enumerate() {
         let layer = index + 1;
-        if index > 0 && !json {
-            writeln!(printed, "layer {layer}")?;
+        if !json {
+            push_heading(&mut printed, layer, map.layers().as_slice().get(index))?;
         }
         push_lines(alloc, &mut printed, lines, Place::Layer(layer), json)?;
     }
     Ok(printed)
+}
+
+/// Adds the number of a layer, but of the top one, and its metadata.
+fn push_heading(
+    printed: &mut String,
+    number: usize,
+    layer: Option<&Layer>,
+) -> Result<(), AllocError> {
+    if number > 1 {
+        writeln!(printed, "layer {number}")?;
+    }
+    match layer {
+        Some(layer) => push_metadata(printed, layer.metadata()),
+        None => Ok(()),
+    }
 }
 
 fn push_lines(

@@ -10,7 +10,7 @@ use cmap_escape::count::Count;
 use cmap_files::failure::Failure;
 use cmap_files::inputs::STANDARD_INPUT;
 use cmap_sources::bases::Bases;
-use cmap_sources::reading::{Faults, Form, Manner};
+use cmap_sources::reading::{Faults, Form, MOST_FAULTS, Manner};
 
 /// Where files are looked up by their names.
 #[derive(Clone, Copy)]
@@ -64,6 +64,7 @@ pub(crate) fn manner_of(arguments: &ArgMatches<'_>) -> Manner {
             Faults::First
         },
         form: Form::Text,
+        most_faults: MOST_FAULTS,
     }
 }
 

@@ -8,7 +8,7 @@ use clap::ArgMatches;
 use cmap_files::failure::Failure;
 use cmap_rewrite::command::{Change, RewriteOptions, rewrite};
 use cmap_sources::bases::Bases;
-use cmap_sources::reading::{Faults, Form, Manner};
+use cmap_sources::reading::{Faults, Form, MOST_FAULTS, Manner};
 
 /// What the arguments ask for, and where files are looked up by their names. `clap` refuses them without a path for
 /// the text.
@@ -29,6 +29,7 @@ impl<'m, 'w> Rewriting<'m, 'w> {
                     budget: BUDGET.number(arguments),
                     faults: Faults::First,
                     form: Form::Text,
+                    most_faults: MOST_FAULTS,
                 },
                 is_flat: FLATTEN.is_given(arguments),
                 change: if TIDY.is_given(arguments) {
@@ -54,6 +55,7 @@ impl<'m, 'w> Rewriting<'m, 'w> {
                     budget: None,
                     faults: Faults::All,
                     form: Form::Text,
+                    most_faults: MOST_FAULTS,
                 },
                 is_flat: false,
                 change: Change::Repair,

@@ -89,13 +89,14 @@ fn place_of(rt: &HostRuntime, target: &str) -> Result<Place, Failure> {
     }
 }
 
-/// The place of a path, unless what is there is neither a file nor a folder. A folder is found out when the file is
-/// put in its place.
+/// The place of a path, unless what is there isn't a regular file. A folder is an error.
 fn found_place(rt: &HostRuntime, target: &str) -> io::Result<Option<Place>> {
     let path = linked_path(rt, target)?;
     let permissions = match fs::metadata(rt, path.as_str()) {
         Ok(metadata) if metadata.is_file() => Some(metadata.permissions()),
-        Ok(metadata) if metadata.is_dir() => None,
+        Ok(metadata) if metadata.is_dir() => {
+            return Err(io::Error::from(ErrorKind::IsADirectory));
+        }
         Ok(_) => return Ok(None),
         Err(error) if error.kind() == ErrorKind::NotFound => None,
         Err(error) => return Err(error),
@@ -133,8 +134,11 @@ fn create_beside(rt: &HostRuntime, target: &str) -> Result<(String, File), Failu
             Err(error) => return Err(unwritable(rt, target, &error)),
         }
     }
-    let error = io::Error::from(ErrorKind::AlreadyExists);
-    Err(unwritable(rt, target, &error))
+    Err(fault(
+        rt,
+        target,
+        "can't be written: files whose names end with .new-0 to .new-99 stand beside it",
+    ))
 }
 
 /// Sets the permissions, if there are any, and writes all bytes to the disk.

@@ -1,5 +1,9 @@
-//! The lines of `cmap diff`: what codes have in two maps, where they differ.
+//! The lines of `cmap diff`: what two maps state, and what codes have in them, where they differ.
 
+mod codespaces;
+pub mod metadata;
+
+use self::codespaces::add_codespaces;
 use crate::list::line::{Given, Line, Place, add_texts_of, push_json, push_line};
 use cmap_diff::{CidDifference, TextDifference, cid_differences, text_differences};
 use cmap_queries::code_lengths::LENGTHS;
@@ -26,7 +30,7 @@ impl Side {
     }
 
     /// The mark of its lines.
-    fn mark(self) -> &'static str {
+    pub(crate) fn mark(self) -> &'static str {
         match self {
             Side::Left => "- ",
             Side::Right => "+ ",
@@ -34,17 +38,18 @@ impl Side {
     }
 }
 
-/// What codes in a row have in one of the maps, and other codes in the other one.
+/// What codes in a row have in one of the maps, and not in the other one.
 #[derive(Drop)]
 pub struct DiffLine {
     side: Side,
     line: Line,
 }
 
-/// What codes have where the maps differ: first their CIDs, for each length of codes, if a map declares some, then
+/// What codes have where the maps differ: first their codespace ranges, then their CIDs, for each length of codes, if a map declares some, then
 /// their texts. Of each stretch the line of the first map comes first. A map in which the codes have nothing has none.
 pub fn diff_lines(alloc: Global, left: &CMap, right: &CMap) -> Result<Vec<DiffLine>, AllocError> {
     let mut lines = Vec::new(alloc);
+    add_codespaces(alloc, &mut lines, left, right)?;
     if declares_cids(left) || declares_cids(right) {
         for len in LENGTHS {
             add_cids(alloc, &mut lines, left, right, *len)?;

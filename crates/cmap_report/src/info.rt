@@ -80,14 +80,18 @@ fn push_collection_or_dash(out: &mut String, metadata: &Metadata) -> Result<(), 
 }
 
 /// Adds a collection as `Adobe-Japan1-2`.
-fn push_collection(out: &mut String, collection: &CharacterCollection) -> Result<(), AllocError> {
+pub(crate) fn push_collection(
+    out: &mut String,
+    collection: &CharacterCollection,
+) -> Result<(), AllocError> {
     escape::push_name(out, collection.family.registry())?;
     out.push('-')?;
     escape::push_name(out, collection.family.ordering())?;
     write!(out, "-{}", collection.supplement)
 }
 
-fn mode_name(mode: Option<WritingMode>) -> Option<&'static str> {
+/// The word for a writing mode.
+pub(crate) fn mode_name(mode: Option<WritingMode>) -> Option<&'static str> {
     match mode? {
         WritingMode::Horizontal => Some("horizontal"),
         WritingMode::Vertical => Some("vertical"),

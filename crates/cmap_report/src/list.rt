@@ -2,6 +2,7 @@
 
 pub mod effective;
 pub mod line;
+pub mod metadata;
 
 use self::line::{Given, Line, add_texts_of};
 use cmap_queries::code_lengths::LENGTHS;

@@ -2,11 +2,11 @@
 
 use crate::binary::binary_of;
 use crate::changes::{one_file, repaired, tidied};
+use crate::naming::{given_name, named, with_name};
 use crate::obstacle::push_obstacle;
 use cmap_escape::escape::push_text;
 use cmap_files::beside::write_output;
 use cmap_files::failure::Failure;
-use cmap_files::path_text::path_bytes;
 use cmap_files::status::ACCEPTED;
 use cmap_sources::alone::file_of;
 use cmap_sources::bases::Bases;
@@ -15,7 +15,6 @@ use cmap_sources::reading::{Input, Manner};
 use cmap_text_writer::{Obstacle, TextLengths, write_text_by};
 use cmap_values::fault::Fault;
 use cmap_values::file::File;
-use cmap_values::metadata::Metadata;
 use std::alloc::{AllocError, Global};
 
 /// What becomes of the declarations of a file.
@@ -58,11 +57,12 @@ pub fn rewrite(
     strings: &[Vec<u8>],
     bases: &mut Bases<'_>,
 ) -> Result<u8, Failure> {
+    let name = new_name(rt, options)?;
     if options.is_flat || !options.codes.is_empty() {
         let map = map_needed(rt, options.file, options.manner, bases)?;
         let kept = (!options.codes.is_empty()).then_some(strings);
         let file = one_file(rt.alloc(), options.file, &map, kept)?;
-        return finish(rt, options, file, bases);
+        return finish(rt, options, renamed(file, name), bases);
     }
     let bytes = bytes_needed(rt, options.file, bases)?;
     let input = Input {
@@ -73,22 +73,18 @@ pub fn rewrite(
     let file = match options.change {
         Change::Nothing => file,
         Change::Tidy => tidied(rt.alloc(), file)?,
-        Change::Repair => repaired(rt.alloc(), file)?,
+        Change::Repair => with_name(rt.alloc(), repaired(rt.alloc(), file)?, options.output)?,
     };
-    finish(rt, options, file, bases)
+    finish(rt, options, renamed(file, name), bases)
 }
 
-/// Gives the file its name, and writes it.
+/// Writes the file.
 fn finish(
     rt: &HostRuntime,
     options: &RewriteOptions<'_, '_>,
     file: File<'_>,
     bases: &Bases<'_>,
 ) -> Result<u8, Failure> {
-    let file = match options.name {
-        Some(name) => named(file, path_bytes(rt.alloc(), name)?),
-        None => file,
-    };
     let bytes = if options.is_binary {
         binary_of(rt, options.file, &file, bases.bundle)?
     } else {
@@ -103,21 +99,22 @@ fn finish(
     Ok(ACCEPTED)
 }
 
-/// The file with another name.
-fn named<'d>(file: File<'d>, name: Vec<u8>) -> File<'d> {
-    let File {
-        metadata,
-        lists,
-        uses,
-    } = file;
-    File {
-        metadata: Metadata {
-            character_collection: metadata.character_collection,
-            name: Some(name),
-            writing_mode: metadata.writing_mode,
-        },
-        lists,
-        uses,
+/// The name that is asked for.
+fn new_name(
+    rt: &HostRuntime,
+    options: &RewriteOptions<'_, '_>,
+) -> Result<Option<Vec<u8>>, Failure> {
+    match options.name {
+        Some(name) => Ok(Some(given_name(rt, "--name", name)?)),
+        None => Ok(None),
+    }
+}
+
+/// The file with a new name, if there is one.
+fn renamed<'d>(file: File<'d>, name: Option<Vec<u8>>) -> File<'d> {
+    match name {
+        Some(name) => named(file, name),
+        None => file,
     }
 }
 

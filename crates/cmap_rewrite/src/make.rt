@@ -1,13 +1,15 @@
 //! `cmap make`: a file of what a table says.
 
+use crate::collection::spelled_collection;
 use crate::command::text_of;
-use crate::table::{TableFault, declared_by};
+use crate::naming::{given_name, with_name};
+use crate::table::{Declared, TableFault, declared_by};
 use cmap_files::beside::write_output;
 use cmap_files::failure::{Failure, fault};
 use cmap_files::inputs::needed;
-use cmap_files::path_text::{is_plain, path_bytes};
+use cmap_files::path_text::is_plain;
 use cmap_files::status::ACCEPTED;
-use cmap_values::character_collection::{CharacterCollection, CidFamily};
+use cmap_values::character_collection::CharacterCollection;
 use cmap_values::fault::Fault;
 use cmap_values::file::File;
 use cmap_values::metadata::Metadata;
@@ -44,16 +46,41 @@ pub fn make(rt: &HostRuntime, options: &MakeOptions<'_, '_>) -> Result<u8, Failu
         Err(Fault::Refused(wrong)) => return Err(wrong_line(rt, options.table, wrong)),
         Err(Fault::Memory) => return Err(Failure::Memory),
     };
+    write_made(rt, options, metadata, declared)
+}
+
+/// Writes a file of what a table declares. The options come before the metadata of the table.
+fn write_made(
+    rt: &HostRuntime,
+    options: &MakeOptions<'_, '_>,
+    metadata: Metadata,
+    declared: Declared,
+) -> Result<u8, Failure> {
     let lengths = declared.text_lengths();
-    let names = names_of(rt.alloc(), options.uses)?;
+    let names = names_of(rt, options.uses)?;
+    let Declared {
+        lists,
+        metadata: stated,
+        ..
+    } = declared;
     let file = File {
-        metadata,
-        lists: declared.lists,
+        metadata: completed(metadata, stated),
+        lists,
         uses: slices_of(rt.alloc(), &names)?,
     };
+    let file = with_name(rt.alloc(), file, options.output)?;
     let text = text_of(rt.alloc(), options.table, &file, lengths)?;
     write_output(rt, options.output, &text)?;
     Ok(ACCEPTED)
+}
+
+/// Metadata with the parts of another one that it lacks.
+fn completed(given: Metadata, other: Metadata) -> Metadata {
+    Metadata {
+        character_collection: given.character_collection.or(other.character_collection),
+        name: given.name.or(other.name),
+        writing_mode: given.writing_mode.or(other.writing_mode),
+    }
 }
 
 /// The failure of a line of a table.
@@ -72,7 +99,7 @@ fn metadata_of(rt: &HostRuntime, options: &MakeOptions<'_, '_>) -> Result<Metada
         None => None,
     };
     let name = match options.name {
-        Some(name) => Some(path_bytes(rt.alloc(), name)?),
+        Some(name) => Some(given_name(rt, "--name", name)?),
         None => None,
     };
     Ok(Metadata {
@@ -87,29 +114,17 @@ fn collection_of(rt: &HostRuntime, spelled: &str) -> Result<CharacterCollection,
     if !is_plain(spelled) {
         return Err(fault(rt, spelled, "not UTF-8"));
     }
-    let Some((registry, ordering, supplement)) = parts_of(spelled) else {
-        return Err(fault(rt, spelled, "not REGISTRY-ORDERING-SUPPLEMENT"));
-    };
-    let family = CidFamily::from_registry_ordering(
-        rt.alloc(),
-        registry.as_bytes(),
-        ordering.as_bytes(),
-    )?;
-    Ok(CharacterCollection { family, supplement })
-}
-
-/// The registry, the ordering and the supplement. An ordering may have hyphens.
-fn parts_of(spelled: &str) -> Option<(&str, &str, i32)> {
-    let (front, supplement) = spelled.rsplit_once('-')?;
-    let (registry, ordering) = front.split_once('-')?;
-    Some((registry, ordering, supplement.parse::<i32>().ok()?))
+    match spelled_collection(rt.alloc(), spelled)? {
+        Some(collection) => Ok(collection),
+        None => Err(fault(rt, spelled, "not REGISTRY-ORDERING-SUPPLEMENT")),
+    }
 }
 
 /// The bytes of the names.
-fn names_of(alloc: Global, arguments: &[&str]) -> Result<Vec<Vec<u8>>, AllocError> {
-    let mut names = Vec::new(alloc);
+fn names_of(rt: &HostRuntime, arguments: &[&str]) -> Result<Vec<Vec<u8>>, Failure> {
+    let mut names = Vec::new(rt.alloc());
     for argument in arguments {
-        names.push(path_bytes(alloc, argument)?)?;
+        names.push(given_name(rt, "--use", argument)?)?;
     }
     Ok(names)
 }

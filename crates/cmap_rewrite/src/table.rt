@@ -5,13 +5,18 @@ mod quoted;
 
 use self::codes::{CodePair, code_pair};
 use self::quoted::unquoted;
+use crate::collection::spelled_collection;
+use crate::shown_name::name_bytes;
 use cmap_escape::count::Count;
 use cmap_queries::arguments::decimal;
 use cmap_text_writer::TextLengths;
+use cmap_values::character_collection::CharacterCollection;
 use cmap_values::code_length::CodeLength;
 use cmap_values::declarations::{BfRange, CidRange, Codespace, Lists};
 use cmap_values::fault::Fault;
+use cmap_values::metadata::Metadata;
 use cmap_values::units::Units;
+use cmap_values::writing_mode::WritingMode;
 use std::alloc::{AllocError, Global};
 
 /// A line of a table that isn't one, counted from 1 on.
@@ -38,6 +43,12 @@ pub enum WrongLine {
     Text,
     /// More follows the codes of a codespace range.
     Codespace,
+    /// A comment of `list` has no name.
+    Name,
+    /// One has no collection.
+    Collection,
+    /// One has no writing mode.
+    WritingMode,
 }
 
 impl WrongLine {
@@ -51,6 +62,9 @@ impl WrongLine {
             WrongLine::Cid => "a CID was expected",
             WrongLine::Text => "a text between quotation marks was expected",
             WrongLine::Codespace => "nothing more was expected",
+            WrongLine::Name => "a name was expected",
+            WrongLine::Collection => "a collection was expected, as Adobe-Japan1-6",
+            WrongLine::WritingMode => "horizontal or vertical was expected",
         }
     }
 }
@@ -59,6 +73,8 @@ impl WrongLine {
 #[derive(Drop)]
 pub struct Declared {
     pub lists: Lists,
+    /// What the comments say that `list` prints of metadata.
+    pub metadata: Metadata,
     text_codes: TextCodes,
 }
 
@@ -78,6 +94,11 @@ impl Declared {
     fn new(alloc: Global) -> Declared {
         Declared {
             lists: Lists::new(alloc),
+            metadata: Metadata {
+                character_collection: None,
+                name: None,
+                writing_mode: None,
+            },
             text_codes: TextCodes::Absent,
         }
     }
@@ -101,7 +122,7 @@ impl Declared {
     }
 }
 
-/// What the lines of a table declare. Empty lines, and those that begin with `#`, say nothing.
+/// What the lines of a table declare. Empty lines say nothing, and no comments but those that `list` prints.
 pub fn declared_by(alloc: Global, table: &str) -> Result<Declared, Fault<TableFault>> {
     let mut declared = Declared::new(alloc);
     let mut number = Count::of(0);
@@ -127,8 +148,11 @@ fn at_line(line: Count, fault: Fault<WrongLine>) -> Fault<TableFault> {
 
 /// Adds what a line declares.
 fn add_line(alloc: Global, declared: &mut Declared, line: &str) -> Result<(), Fault<WrongLine>> {
-    if line.is_empty() || line.starts_with('#') {
+    if line.is_empty() {
         return Ok(());
+    }
+    if line.starts_with('#') {
+        return add_comment(alloc, &mut declared.metadata, line);
     }
     let Some((kind, rest)) = line.split_once(' ') else {
         return Err(Fault::Refused(WrongLine::Kind));
@@ -140,6 +164,36 @@ fn add_line(alloc: Global, declared: &mut Declared, line: &str) -> Result<(), Fa
         "text" => add_texts(alloc, declared, rest),
         "layer" => Err(Fault::Refused(WrongLine::Layer)),
         _ => Err(Fault::Refused(WrongLine::Kind)),
+    }
+}
+
+/// Adds the metadata that a comment says, as `list` prints it.
+fn add_comment(alloc: Global, metadata: &mut Metadata, line: &str) -> Result<(), Fault<WrongLine>> {
+    let Some((key, value)) = line.split_once(": ") else {
+        return Ok(());
+    };
+    match key {
+        "# name" => metadata.name = Some(name_of(alloc, value)?),
+        "# collection" => metadata.character_collection = Some(collection_of(alloc, value)?),
+        "# writing mode" => metadata.writing_mode = Some(mode_of(value)?),
+        _ => {}
+    }
+    Ok(())
+}
+
+fn name_of(alloc: Global, shown: &str) -> Result<Vec<u8>, Fault<WrongLine>> {
+    name_bytes(alloc, shown)?.ok_or(Fault::Refused(WrongLine::Name))
+}
+
+fn collection_of(alloc: Global, spelled: &str) -> Result<CharacterCollection, Fault<WrongLine>> {
+    spelled_collection(alloc, spelled)?.ok_or(Fault::Refused(WrongLine::Collection))
+}
+
+fn mode_of(word: &str) -> Result<WritingMode, Fault<WrongLine>> {
+    match word {
+        "horizontal" => Ok(WritingMode::Horizontal),
+        "vertical" => Ok(WritingMode::Vertical),
+        _ => Err(Fault::Refused(WrongLine::WritingMode)),
     }
 }
 

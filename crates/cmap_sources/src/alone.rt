@@ -3,8 +3,8 @@
 use crate::bases::Bases;
 use crate::fault_line::LineCounter;
 use crate::format::report_format;
-use crate::reading::{Faults, Input};
-use crate::refused::stop_line;
+use crate::reading::{Faults, Input, MOST_FAULTS, first_of};
+use crate::refused::{more_line, stop_line};
 use cmap_binary::{is_marked_binary, read_binary, salvage_binary};
 use cmap_files::failure::Failure;
 use cmap_text::{read_text, salvage_text};
@@ -61,7 +61,7 @@ fn read_past<'d>(
     Ok(file)
 }
 
-/// Reports the faults of a file, each with its byte and its line.
+/// Reports the first faults of a file, each with its byte and its line, and how many more there are.
 fn report_stops(
     rt: &HostRuntime,
     input: Input<'_>,
@@ -71,8 +71,18 @@ fn report_stops(
     let Input { path, bytes } = input;
     let files = bases.files();
     let mut lines = LineCounter::new();
-    for stop in stops {
+    let (printed, others) = first_of(stops, MOST_FAULTS);
+    for stop in printed {
         let line = stop_line(rt.alloc(), path, bytes, &files, *stop, &mut lines)?;
+        eprintln!(rt; "cmap: {line}")?;
+    }
+    report_others(rt, path, others.len())
+}
+
+/// Reports how many more faults there are.
+fn report_others(rt: &HostRuntime, path: &str, count: usize) -> Result<(), Failure> {
+    if count > 0 {
+        let line = more_line(rt.alloc(), path, count)?;
         eprintln!(rt; "cmap: {line}")?;
     }
     Ok(())

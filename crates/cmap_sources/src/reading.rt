@@ -2,7 +2,7 @@
 
 use crate::bases::{Bases, Files, ReadBases};
 use crate::fault_line::LineCounter;
-use crate::refused::{push_refusal_json, push_refusal_line};
+use crate::refused::{more_json, more_line, push_refusal_json, push_refusal_line};
 use cmap_files::failure::Failure;
 use hayro_cmap::{CMap, Cause, Fault, Refusal, SalvagedMap};
 use std::alloc::{AllocError, Global};
@@ -48,7 +48,12 @@ pub struct Manner {
     pub budget: Option<u64>,
     pub faults: Faults,
     pub form: Form,
+    /// The most faults of a file that are printed. The others are counted.
+    pub most_faults: u64,
 }
+
+/// The most faults of a file that are printed, if no option says otherwise.
+pub const MOST_FAULTS: u64 = 100;
 
 /// How often a file is parsed at most. The loop ends because each parse but the last misses a name that wasn't looked
 /// up before, and files use a limited number of names. But no clause says how many, so it has this bound, which no
@@ -120,10 +125,10 @@ impl Reading {
         match CMap::parse_from(alloc, manner.budget, input.bytes, bases.bundle, files) {
             Ok(map) => {
                 self.map = Some(map);
-                self.set_faults(alloc, input, manner.form, bases, &[])
+                self.set_faults(alloc, input, manner, bases, &[])
             }
             Err(Fault::Refused(refusal)) => {
-                self.set_faults(alloc, input, manner.form, bases, &[refusal])
+                self.set_faults(alloc, input, manner, bases, &[refusal])
             }
             Err(Fault::Memory) => Err(AllocError),
         }
@@ -141,7 +146,7 @@ impl Reading {
         let read = CMap::salvage(alloc, manner.budget, input.bytes, bases.bundle, files)?;
         let SalvagedMap { map, faults } = read;
         self.map = Some(map);
-        self.set_faults(alloc, input, manner.form, bases, &faults)
+        self.set_faults(alloc, input, manner, bases, &faults)
     }
 
     /// Sets the names of bases that are missing and can be read, or if there are none, the lines of the faults.
@@ -149,13 +154,13 @@ impl Reading {
         &mut self,
         alloc: Global,
         input: Input<'_>,
-        form: Form,
+        manner: Manner,
         bases: &Bases<'_>,
         faults: &[Refusal<'_>],
     ) -> Result<(), AllocError> {
         self.missing = missing_names(alloc, bases, faults)?;
         if self.missing.is_empty() {
-            self.faults = lines_of(alloc, input, form, bases, faults)?;
+            self.faults = lines_of(alloc, input, manner, bases, faults)?;
         }
         Ok(())
     }
@@ -221,20 +226,39 @@ fn missing_name<'n>(fault: &Refusal<'n>) -> Option<&'n [u8]> {
     }
 }
 
-/// The lines of faults.
+/// The lines of faults, and one that counts those which aren't printed.
 fn lines_of(
     alloc: Global,
     input: Input<'_>,
-    form: Form,
+    manner: Manner,
     bases: &Bases<'_>,
     faults: &[Refusal<'_>],
 ) -> Result<Vec<String>, AllocError> {
+    let Manner { form, .. } = manner;
     let mut lines = Vec::new(alloc);
     let mut counter = LineCounter::new();
-    for fault in faults {
+    let (printed, others) = first_of(faults, manner.most_faults);
+    for fault in printed {
         lines.push(line_of(alloc, input, form, bases, fault, &mut counter)?)?;
     }
+    if !others.is_empty() {
+        lines.push(more_of(alloc, input.path, form, others.len())?)?;
+    }
     Ok(lines)
+}
+
+/// The faults that are printed, at most this many, and the others.
+pub(crate) fn first_of<T>(faults: &[T], most: u64) -> (&[T], &[T]) {
+    let most = usize::try_from(most).unwrap_or(usize::MAX);
+    faults.split_at(faults.len().min(most))
+}
+
+/// The line that counts the faults which aren't printed.
+fn more_of(alloc: Global, path: &str, form: Form, count: usize) -> Result<String, AllocError> {
+    match form {
+        Form::Text => more_line(alloc, path, count),
+        Form::Json => more_json(alloc, path, count),
+    }
 }
 
 /// The line of a fault.

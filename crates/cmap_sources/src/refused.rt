@@ -129,6 +129,26 @@ pub fn stop_line<N: NamedFile>(
     Ok(line)
 }
 
+/// The line that counts the faults of a file which aren't printed.
+pub fn more_line(alloc: Global, path: &str, count: usize) -> Result<String, AllocError> {
+    let mut line = String::new(alloc);
+    push_text(&mut line, path)?;
+    let plural = if count == 1 { "" } else { "s" };
+    write!(line, ": {count} more fault{plural}")?;
+    Ok(line)
+}
+
+/// The same as an object.
+pub fn more_json(alloc: Global, path: &str, count: usize) -> Result<String, AllocError> {
+    let mut object = Object::new(alloc);
+    object.set_text("file", path);
+    object.set("more", Value::from(count));
+    object.set("ok", Value::from(false));
+    let mut line = String::new(alloc);
+    push_value(alloc, &mut line, &object.finish()?)?;
+    Ok(line)
+}
+
 /// Adds a text and a name after it, or nothing if there is no name.
 fn push_named(out: &mut String, text: &str, name: Option<&[u8]>) -> Result<(), AllocError> {
     let Some(name) = name else {

@@ -51,6 +51,20 @@ impl<'m, 'w> LintOptions<'m, 'w> {
         Ok(())
     }
 
+    /// Whether a warning is printed. Most ToUnicode CMaps have the name of all others, and texts for some codes alone:
+    /// there the warnings about this are printed only where `denied` has their names.
+    fn prints(&self, warning: Warning) -> bool {
+        match warning {
+            Warning::NameDiffers | Warning::NoMapping if self.to_unicode => self.names(warning),
+            _ => true,
+        }
+    }
+
+    /// Whether `denied` has the name of a warning.
+    fn names(&self, warning: Warning) -> bool {
+        self.denied.iter().any(|name| *name == warning.name())
+    }
+
     /// Whether a warning makes the status 1.
     fn denies(&self, warning: Warning) -> bool {
         for name in self.denied {
@@ -80,9 +94,9 @@ pub(crate) fn push_warnings(
     }
     let mut is_denied = false;
     for finding in &findings_of(alloc, subject)? {
-        push_line(alloc, lines, path, finding, form)?;
-        if options.denies(finding.warning) {
-            is_denied = true;
+        if options.prints(finding.warning) {
+            push_line(alloc, lines, path, finding, form)?;
+            is_denied = is_denied || options.denies(finding.warning);
         }
     }
     Ok(is_denied)

@@ -216,6 +216,14 @@ pub(crate) const FIRST: Flag = Flag {
     help: "Only the first fault of each file",
 };
 
+pub(crate) const MAX_FAULTS: Flag = Flag {
+    id: "max-faults",
+    short: None,
+    long: "max-faults",
+    value: Value::Number("N"),
+    help: "The most faults of a file that are printed: 100, and with --json all",
+};
+
 pub(crate) const QUIET: Flag = Flag {
     id: "quiet",
     short: Some('q'),
@@ -237,7 +245,7 @@ pub(crate) const LINT_TO_UNICODE: Flag = Flag {
     short: None,
     long: "to-unicode",
     value: Value::Nothing,
-    help: "As --lint, and what looks wrong in maps to Unicode",
+    help: "As --lint, and what looks wrong in maps to Unicode; name-differs and no-mapping only with --deny NAME",
 };
 
 pub(crate) const DENY: Flag = Flag {

@@ -1,7 +1,8 @@
-//! What codes have over all layers, run by run.
+//! What codes have over all layers, run by run: the CIDs that are declared for them, and their texts.
 
 use crate::list::line::{Given, Line, add_texts_of};
 use cmap_queries::code_lengths::{LENGTHS, has_codes};
+use cmap_unicode::declared_stretch;
 use hayro_cmap::runs::Range;
 use hayro_cmap::{CMap, CidStretch, Cids, CodeLength, TextStretch};
 use std::alloc::{AllocError, Global};
@@ -24,7 +25,7 @@ fn add_cids(lines: &mut Vec<Line>, map: &CMap, len: CodeLength) -> Result<(), Al
     let mut next: u64 = 0;
     while next <= end {
         let first = next as u32;
-        let stretch = map.layers().cid_stretch(first, len);
+        let stretch = declared_stretch(map.layers(), first, len);
         add_stretch(lines, stretch, first, len)?;
         next = u64::from(stretch.last) + 1;
     }
