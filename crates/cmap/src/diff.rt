@@ -37,8 +37,8 @@ impl<'m, 'w> DiffOptions<'m, 'w> {
     }
 }
 
-/// Prints what two files state and what codes have in them, where they differ, and gives the status. A file that is refused is a failure, unlike
-/// with other subcommands, since status 1 says that the files differ.
+/// Prints what two files state and what codes have in them, where they differ, and gives the status. A file that is
+/// refused is a failure, unlike with other subcommands, since status 1 says that the files differ.
 pub(crate) fn diff(
     rt: &HostRuntime,
     options: &DiffOptions<'_, '_>,

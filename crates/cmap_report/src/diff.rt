@@ -45,8 +45,9 @@ pub struct DiffLine {
     line: Line,
 }
 
-/// What codes have where the maps differ: first their codespace ranges, then their CIDs, for each length of codes, if a map declares some, then
-/// their texts. Of each stretch the line of the first map comes first. A map in which the codes have nothing has none.
+/// What codes have where the maps differ: first their codespace ranges, then their CIDs, for each length of codes, if a
+/// map declares some, then their texts. Of each stretch the line of the first map comes first. A map in which the codes
+/// have nothing has none.
 pub fn diff_lines(alloc: Global, left: &CMap, right: &CMap) -> Result<Vec<DiffLine>, AllocError> {
     let mut lines = Vec::new(alloc);
     add_codespaces(alloc, &mut lines, left, right)?;
