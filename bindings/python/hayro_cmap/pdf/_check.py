@@ -102,7 +102,8 @@ class FontReport:
         kinds = [("without a text", self.no_text), ("without a CID", self.no_cid)]
         for what, codes in [*kinds, ("in no codespace range", self.outside_codespace)]:
             if codes:
-                yield f"{number}: {what}: {total(codes):,} codes, {len(codes):,} different: {some(codes)}"
+                count = f"{total(codes):,} code{'' if total(codes) == 1 else 's'}"
+                yield f"{number}: {what}: {count}, {len(codes):,} different: {some(codes)}"
 
     def as_json(self) -> Dict[str, Any]:
         """The same as values of JSON."""
