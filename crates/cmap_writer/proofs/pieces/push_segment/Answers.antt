@@ -10,4 +10,4 @@ returns-clause-written c =
     let payload = c.args.payload.now in
     let appends = Appends c.args.out.now.items c.push_framed.new.out.items in
     IfOk-weaker c.push_framed.result (λ x. appends (IsFramed (number ∷ []) payload)) (λ x. appends (SaysSegment number payload))
-      (λ x appended. let (bytes, new_is, framed) = appended in (bytes, new_is, SegmentAt-written number payload bytes framed)) c.push_framed.ensures.written
+    (λ x appended. let (bytes, new_is, framed) = appended in (bytes, new_is, SegmentAt-written number payload bytes framed)) c.push_framed.ensures.written
