@@ -55,7 +55,7 @@ class Counts(unittest.TestCase):
                 f"font {font.font.number}: warning: font {font.font.number}: few-texts: 3 shown codes, first <8140>",
                 f"font {font.font.number}: without a text: 3 codes, 3 different: <8140> <8141> <8181>",
                 f"font {font.font.number}: without a CID: 2 codes, 2 different: <8141> <8181>",
-                f"font {font.font.number}: in no codespace range: 1 codes, 1 different: <8181>",
+                f"font {font.font.number}: in no codespace range: 1 code, 1 different: <8181>",
             ],
         )
 
