@@ -14,8 +14,10 @@ use Rattle.cmap_layers.specs.LayersSeen.{layer_seen, layers_seen}
 use Rattle.cmap_layers.specs.declared.layer.Layer as declared
 use Rattle.cmap_chains.specs.Answers.{IsByName}
 use Rattle.cmap_chains.specs.Layers.{AreLayers, IsBase, Means, OfAnswer}
+use Rattle.cmap_load.specs.Indexed.{index_of}
+use Rattle.cmap_load.specs.declared.indices.Indices.{Indices}
 use Rattle.cmap_load.specs.declared.table.Table.{Table}
-use Rattle.cmap_load.specs.Loading.{Answer, AreLoaded, IsAnswered, IsTable, IsWithin, MeansOnly, bytes_at, first_answer, given, tables_of}
+use Rattle.cmap_load.specs.Loading.{Answer, AreLoaded, IsAnswered, IsFound, IsTable, IsWithin, MeansOnly, bytes_at, first_answer, given, tables_of}
 use Rattle.cmap_load.proofs.Agreed.{AreLayers-as, AreLayers-same}
 use Rattle.cmap_load.proofs.Agreed.{opened_layers}
 use Rattle.cmap_load.proofs.Passing.{of_bytes}
@@ -182,3 +184,7 @@ layers_few tables answers made bytes there loaded =
     let few = AreLayers-few (MeansOnly tables) (IsAnswered answers) 16 bytes (layers_seen made) (loaded.from bytes there) in
     let same : length (layers_seen made) ≡ length made = simp length-map in
     (omega (arith, few.0, same), omega (arith, few.1, same))
+
+-- an index that is found
+pub found_at : (table : Table) → IsTable table → (name : List ℕ) (indices : Indices) (found : Option ℕ) → indices ≡ table.indices → found ≡ index_of indices name → IsFound (given table) name found
+found_at table is name indices found same has = subst (IsFound (given table) name) (sym (has ∙ ap (λ known. index_of known name) same)) (is.indexed name)

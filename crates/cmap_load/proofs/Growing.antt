@@ -1,13 +1,9 @@
 -- Answers, and one more.
-use Rattle.std.proofs.Common.{◌≡◌, refl, sym, ap, ◌∙◌, arith, ℕ, zero, suc, ◌+◌, ◌<◌, Bool, true, false, List, [], ◌∷◌, ◌++◌, length, drop, get_or, Option, Some, None, inl, inr}
-use Rattle.std.specs.Prelude.{◌⊎◌, bytes_eq, option_and_then, slice_get, if◌then◌else◌}
-use Rattle.std.specs.Option.{option_copied, option_map}
-use Rattle.std.proofs.lemmas.List.{drop_more, get_or-map}
-use Rattle.std.proofs.lemmas.Option.{slice_get-map, slice_get-get_or}
+use Rattle.std.proofs.Common.{◌≡◌, refl, sym, ap, subst, ◌∙◌, arith, ℕ, zero, suc, ◌+◌, ◌<◌, Bool, true, false, List, [], ◌∷◌, ◌++◌, length, length-append, Option, Some, None, inl, inr}
+use Rattle.std.specs.Prelude.{◌⊎◌, bytes_eq, slice_get, if◌then◌else◌}
 use Rattle.std.proofs.lemmas.Slice.Eq.{bytes_eq-Decides}
-use Rattle.std.proofs.Math.ListN.{length-map}
-use Rattle.cmap_load.specs.declared.answer.Answer as declared
-use Rattle.cmap_load.specs.Loading.{Answer, answer_seen, answers_seen, bytes_at, first_answer, is_of_name}
+use Rattle.cmap_load.specs.Indexed.{index_after}
+use Rattle.cmap_load.specs.Loading.{Answer, IsFound, bytes_at, first_answer, is_of_name}
 
 pub slice_get_pushed : {A : Type 0} (xs : List A) (y : A) (i : ℕ) (x : A) → slice_get (xs ++ y ∷ []) i ≡ Some x → (slice_get xs i ≡ Some x) ⊎ ((i ≡ length xs) × (x ≡ y))
 slice_get_pushed [] y zero x h = inr (refl, (cc))
@@ -39,23 +35,6 @@ answer_front (answer ∷ answers) more name bytes h =
     ] in
     step h
 
--- the first answer to a name among those from an index on: the one there, or one after it
-module _ (answers : List declared.Answer) (i : ℕ) (d : declared.Answer) (name : List ℕ) (within : i < length answers) where
-  first_at : first_answer (drop i (answers_seen answers)) name ≡ (if is_of_name (option_copied (get_or answers i d).name) name then Some (option_copied (get_or answers i d).bytes) else first_answer (drop (i + 1) (answers_seen answers)) name)
-  first_at =
-      let seen : i < length (answers_seen answers) = simp length-map within in
-      let one : get_or (answers_seen answers) i (answer_seen d) ≡ answer_seen (get_or answers i d) = get_or-map answer_seen answers i d (answer_seen d) within in
-      ap (λ answers. first_answer answers name) (drop_more (answers_seen answers) i (answer_seen d) seen)
-      ∙ ap (λ (a : Answer). if is_of_name a.name name then Some a.bytes else first_answer (drop (i + 1) (answers_seen answers)) name) one
-
-  pub first_here : is_of_name (option_copied (get_or answers i d).name) name ≡ true → first_answer (drop i (answers_seen answers)) name ≡ Some (bytes_at (answers_seen answers) i)
-  first_here same =
-      let there : bytes_at (answers_seen answers) i ≡ option_copied (get_or answers i d).bytes = ap (λ o. option_and_then (λ (a : Answer). a.bytes) o) (slice_get-map answer_seen answers i ∙ ap (λ o. option_map answer_seen o) (slice_get-get_or answers i d within)) in
-      first_at ∙ ap (λ b. if b then Some (option_copied (get_or answers i d).bytes) else first_answer (drop (i + 1) (answers_seen answers)) name) same ∙ ap Some (sym there)
-
-  pub first_after : is_of_name (option_copied (get_or answers i d).name) name ≡ false → first_answer (drop i (answers_seen answers)) name ≡ first_answer (drop (i + 1) (answers_seen answers)) name
-  first_after other = first_at ∙ ap (λ b. if b then Some (option_copied (get_or answers i d).bytes) else first_answer (drop (i + 1) (answers_seen answers)) name) other
-
 bytes_eq-same : (name : List ℕ) → bytes_eq name name ≡ true
 bytes_eq-same name = (bytes_eq-Decides name name).1 refl
 
@@ -69,3 +48,45 @@ answer_last (first ∷ answers) name bytes none =
       | false ↦ λ e. later e
     ] in
     step none
+
+still_none : (answers : List Answer) (answer : Answer) (name : List ℕ) → first_answer answers name ≡ None → is_of_name answer.name name ≡ false → first_answer (answers ++ answer ∷ []) name ≡ None
+still_none [] answer name none other = ap (λ (b : Bool). if b then Some answer.bytes else None) other
+still_none (first ∷ answers) answer name none other =
+    let later = still_none answers answer name in
+    let step = elim (is_of_name first.name name) as (λ b. (if b then Some first.bytes else first_answer answers name) ≡ None → (if b then Some first.bytes else first_answer (answers ++ answer ∷ []) name) ≡ None) [
+      | true ↦ λ e. absurd (cc)
+      | false ↦ λ e. later e other
+    ] in
+    step none
+
+-- what was found is found there too
+found_still : (answers : List Answer) (answer : Answer) (name : List ℕ) (found : Option ℕ) → IsFound answers name found → is_of_name answer.name name ≡ false → IsFound (answers ++ answer ∷ []) name found
+found_still answers answer name None is other = still_none answers answer name is other
+found_still answers answer name (Some i) is other =
+    let within : i < length (answers ++ answer ∷ []) = simp length-append (omega (arith, is.0)) in
+    (within, answer_front answers (answer ∷ []) name (bytes_at answers i) is.1 ∙ ap Some (sym (bytes_at_within answers (answer ∷ []) i is.0)))
+
+module _ (answers : List Answer) (old : List ℕ → Option ℕ) (are : (other : List ℕ) → IsFound answers other (old other)) (bytes : Option (List ℕ)) where
+  -- an answer without a name
+  indexed_first : (other : List ℕ) → IsFound (answers ++ record { name = None; bytes = bytes } ∷ []) other (old other)
+  indexed_first other = found_still answers (record { name = None; bytes = bytes }) other (old other) (are other) refl
+
+  -- the answer to a name that had none
+  indexed_next : (name : List ℕ) → first_answer answers name ≡ None → (new : List ℕ → Option ℕ) → ((other : List ℕ) → new other ≡ (if bytes_eq name other then Some (length answers) else old other))
+      → (other : List ℕ) → IsFound (answers ++ record { name = Some name; bytes = bytes } ∷ []) other (new other)
+  indexed_next name none new set other =
+      let answer : Answer = record { name = Some name; bytes = bytes } in
+      let last : bytes_eq name other ≡ true → IsFound (answers ++ answer ∷ []) other (Some (length answers)) = λ same.
+      let is : name ≡ other = (bytes_eq-Decides name other).0 same in
+      let long : length answers < length (answers ++ answer ∷ []) = simp length-append (omega arith) in
+      (long, subst (λ n. first_answer (answers ++ answer ∷ []) n ≡ Some bytes) is (answer_last answers name bytes none) ∙ ap Some (sym (bytes_at_last answers answer))) in
+      let found : (b : Bool) → bytes_eq name other ≡ b → IsFound (answers ++ answer ∷ []) other (if b then Some (length answers) else old other) = λ b. elim b as (λ k. bytes_eq name other ≡ k → IsFound (answers ++ answer ∷ []) other (if k then Some (length answers) else old other)) [
+        | true ↦ λ e. last e
+        | false ↦ λ e. found_still answers answer other (old other) (are other) e
+      ] in
+      subst (IsFound (answers ++ answer ∷ []) other) (sym (set other)) (found (bytes_eq name other) refl)
+
+  pub indexed_pushed : (name : Option (List ℕ)) → ((n : List ℕ) → name ≡ Some n → first_answer answers n ≡ None) → (new : List ℕ → Option ℕ) → ((other : List ℕ) → new other ≡ index_after name (length answers) other (old other))
+      → (other : List ℕ) → IsFound (answers ++ record { name = name; bytes = bytes } ∷ []) other (new other)
+  indexed_pushed None none new set other = subst (IsFound (answers ++ record { name = None; bytes = bytes } ∷ []) other) (sym (set other)) (indexed_first other)
+  indexed_pushed (Some name) none new set other = indexed_next name (none name refl) new set other

@@ -1,15 +1,19 @@
 -- A height that becomes known.
 use Rattle.std.proofs.Common.{◌≡◌, ◌≢◌, sym, ap, subst, ◌∙◌, arith, ℕ, ◌<◌, ◌≤◌, List, length, get_or, sum, Option, Some, inl, inr}
-use Rattle.std.specs.Prelude.{slice_index}
+use Rattle.std.specs.Prelude.{slice_get, slice_index}
 use Rattle.std.specs.Global.{Vec}
 use Rattle.std.specs.List.{sum_by}
 use Rattle.std.proofs.Math.ListN.{set, length-set}
 use Rattle.std.proofs.lemmas.Bool.{cases_eq, cases_lt}
 use Rattle.std.proofs.lemmas.List.{get_or-set_same, get_or-set_other}
 use Rattle.std.proofs.lemmas.List.Sums.{sum_by-set}
+use Rattle.std.proofs.lemmas.Option.{get_or_from_slice_get, slice_get-get_or, slice_get_within}
+use Rattle.cmap_values.specs.Files.{File}
+use Rattle.cmap_values.specs.FilesSeen.{file_seen}
 use Rattle.cmap_chains.specs.Budgets.{IsOver}
 use Rattle.cmap_chains.proofs.BudgetLeft.{not_over}
-use Rattle.cmap_load.specs.Loading.{Costs, HasNoRoom, IsBegun, IsLeft, IsSpent, IsTable, OfBytes, bytes_at, given, tables_of}
+use Rattle.cmap_load.specs.Loading.{Costs, HasFirst, HasNoRoom, IsBegun, IsLeft, IsSpent, IsTable, MeansOnly, OfBytes, bytes_at, given, tables_of}
+use Rattle.cmap_load.specs.declared.step.FirstUses.{FirstUses}
 use Rattle.cmap_load.specs.declared.table.Table.{Table}
 use Rattle.cmap_load.proofs.Chain.{answered_once}
 use Rattle.cmap_load.proofs.Passing.{IsOver-cost, of_bytes}
@@ -37,6 +41,9 @@ module _ (table : Table) (is : IsTable table) (at height cost : ℕ) (within : a
 
   pub IsTable-set : OfBytes (bytes_at (given table) at) (Costs table height cost) → IsTable (record table { heights = heights; costs = costs })
   IsTable-set (whole_bytes, there, whole) = record {
+    indexed = is.indexed;
+    firsts = is.firsts;
+    begun = is.begun;
     files = is.files;
     heights = ap length written ∙ length-set table.heights.items at height ∙ is.heights;
     costs = ap length spent ∙ length-set table.costs.items at cost ∙ is.costs;
@@ -84,3 +91,42 @@ lowers table is at most height left after bytes within there few le leaves no_ro
     | inr unknown ↦ omega (arith, unknown, le, few)
   ]
 ]
+
+-- the first uses of a file that become known
+module _ (table : Table) (is : IsTable table) (at : ℕ) (first : FirstUses) (within : at < length table.answers.items) (firsts : Vec FirstUses) (written : firsts.items ≡ set table.firsts.items at first) where
+  in_firsts : at < length table.firsts.items
+  in_firsts = omega (arith, is.firsts, within)
+
+  known_here : (other : FirstUses) → slice_get firsts.items at ≡ Some other → first ≡ other
+  known_here other there = sym (get_or-set_same table.firsts.items at first other in_firsts) ∙ ap (λ l. get_or l at other) (sym written) ∙ get_or_from_slice_get firsts.items at other other there
+
+  known_there : (i : ℕ) (other : FirstUses) → i ≢ at → slice_get firsts.items i ≡ Some other → slice_get table.firsts.items i ≡ Some other
+  known_there i other differs there =
+      let lt = slice_get_within firsts.items i other there in
+      let long = ap length written ∙ length-set table.firsts.items at first in
+      let old_lt : i < length table.firsts.items = omega (arith, lt, long) in
+      slice_get-get_or table.firsts.items i other old_lt
+      ∙ ap Some (sym (get_or-set_other table.firsts.items at i first other differs) ∙ ap (λ l. get_or l i other) (sym written) ∙ get_or_from_slice_get firsts.items i other other there)
+
+  pub IsTable-first : OfBytes (bytes_at (given table) at) (λ bytes. (file : File) × MeansOnly (tables_of table) bytes file × HasFirst (tables_of table) (given table) table.budget file.uses first) → IsTable (record table { firsts = firsts })
+  IsTable-first (bytes, has, (file, only, begins)) = record {
+    indexed = is.indexed;
+    files = is.files;
+    heights = is.heights;
+    costs = is.costs;
+    firsts = ap length written ∙ length-set table.firsts.items at first ∙ is.firsts;
+    read = is.read;
+    high = λ i lt le. let (whole_bytes, there, known) = is.high i lt le in (whole_bytes, there, record { lengths = known.lengths; whole = known.whole; costs = known.costs });
+    begun = λ i parsed other read there. elim (cases_eq i at) [
+      | inl here ↦ (
+          let read_here : slice_get table.files.items at ≡ Some parsed = ap (slice_get table.files.items) (sym here) ∙ read in
+          let meant = of_bytes (bytes_at (given table) at) (λ b. MeansOnly (tables_of table) b (file_seen parsed)) (is.read at parsed read_here) bytes has in
+          let same : file_seen parsed ≡ file = only.alone (file_seen parsed) meant.holds in
+          subst (HasFirst (tables_of table) (given table) table.budget (file_seen parsed).uses) (known_here other (ap (slice_get firsts.items) (sym here) ∙ there))
+          (subst (λ (f : File). HasFirst (tables_of table) (given table) table.budget f.uses first) (sym same) begins))
+      | inr differs ↦ is.begun i parsed other read (known_there i other differs there)
+    ];
+  }
+
+  pub IsBegun-first : IsBegun table → IsBegun (record table { firsts = firsts })
+  IsBegun-first begun = record { some = begun.some; has = begun.has; high = begun.high }

@@ -1,10 +1,10 @@
 -- Uses that are passed, and one that isn't.
-use Rattle.std.proofs.Common.{◌≡◌, refl, sym, ap, subst, ◌∙◌, arith, ℕ, zero, suc, ◌+◌, ◌<◌, ◌≤◌, false, List, [], ◌∷◌, ◌++◌, add-one, append-nil, length, sum, take, drop, get_or, Option, Some, None, inr}
-use Rattle.std.specs.Prelude.{slice_index}
+use Rattle.std.proofs.Common.{◌≡◌, refl, sym, ap, subst, ◌∙◌, arith, ℕ, zero, suc, ◌+◌, ◌-◌, ◌<◌, ◌≤◌, false, List, [], ◌∷◌, ◌++◌, add-one, append-nil, append_assoc, length, length-append, sum, take, drop, get_or, Option, Some, None, inl, inr}
+use Rattle.std.specs.Prelude.{slice_get, slice_index}
 use Rattle.std.specs.Borrow.{Bor}
 use Rattle.std.proofs.Math.ListN.{length-map}
-use Rattle.std.proofs.lemmas.List.{drop_more, get_or-map, take-append-drop, take_more}
-use Rattle.std.proofs.lemmas.Option.{slice_get_read}
+use Rattle.std.proofs.lemmas.List.{drop-map, drop_more, get_or-map, length-take-le, take-append-drop, take_at, take_more, take_rest}
+use Rattle.std.proofs.lemmas.Option.{slice_get_cases}
 use Rattle.cmap_values.specs.Files.{File}
 use Rattle.cmap_values.specs.FilesSeen.{file_seen}
 use Rattle.cmap_values.specs.NamesSeen.{names_seen}
@@ -12,7 +12,8 @@ use Rattle.cmap_values.specs.declared.file.File.{File as FileDeclared}
 use Rattle.cmap_chains.specs.Budgets.{IsOver, OpensEach, OpensUse, Trail}
 use Rattle.cmap_chains.specs.BytesSpent.{Leaves}
 use Rattle.cmap_chains.proofs.BudgetLeft.{Leaves-append, Leaves-none, Leaves-one}
-use Rattle.cmap_load.specs.Loading.{ArePassed, HasStuck, IsAnswered, IsCost, IsFound, IsLeft, IsPassedOver, IsSpent, IsStuck, IsStuckAt, IsTable, IsWhole, MeansOnly, OfBytes, OpensOnly, bytes_at, given, tables_of}
+use Rattle.cmap_load.specs.Loading.{AreFirst, ArePassed, AreWhole, HasFirst, HasStuck, IsAnswered, IsCost, IsFound, IsLeft, IsPassedOver, IsSpent, IsStuck, IsStuckAt, IsTable, IsWhole, MeansOnly, OfBytes, OpensOnly, bytes_at, given, tables_of}
+use Rattle.cmap_load.specs.declared.step.FirstUses.{FirstUses}
 use Rattle.cmap_load.specs.declared.step.Stuck.{Stuck}
 use Rattle.cmap_load.specs.declared.table.Table.{Table}
 use Rattle.cmap_load.proofs.Trails.{each_after, opens_more, uses_more}
@@ -63,6 +64,14 @@ module _ (uses : List (Bor (List ℕ))) (i : ℕ) (d : Bor (List ℕ)) (lt : i <
       let same : take (i + 1) (names_seen uses) ≡ take i (names_seen uses) ++ (get_or uses i d).now ∷ [] = take_more (names_seen uses) i [] seen_lt ∙ ap (λ n. take i (names_seen uses) ++ n ∷ []) (get_or-map (λ x. x.now) uses i d [] lt) in
       subst (λ u. OpensEach R u (before ++ first, false)) (sym same) (each_after R (take i (names_seen uses)) ((get_or uses i d).now ∷ []) (before, false) (first, false) refl each next)
 
+-- the rest of the uses of a file that was read
+pub rest_of : (files : List FileDeclared) (i k : ℕ) (read file : FileDeclared) (uses : List (Bor (List ℕ))) → slice_get files i ≡ Some read → slice_get files i ≡ Some file → uses ≡ read.uses.items
+    → names_seen (take (length uses - k) (drop k uses)) ≡ drop k (names_seen file.uses.items)
+rest_of files i k read file uses here there is =
+    let e : Some read ≡ Some file = sym here ∙ there in
+    let same : read ≡ file = cc in
+    ap names_seen (take_rest uses k) ∙ sym (drop-map (λ x. x.now) k uses) ∙ ap (λ l. drop k (names_seen l)) is ∙ ap (λ (f : FileDeclared). drop k (names_seen f.uses.items)) same
+
 module _ (table : Table) where
   use_of : (name : List ℕ) (i height : ℕ) (bytes lengths : List ℕ) → IsFound (given table) name (Some i) → bytes_at (given table) i ≡ Some bytes → IsWhole (tables_of table) (given table) height bytes lengths
       → OpensUse (IsAnswered (given table)) (OpensOnly (tables_of table) (IsAnswered (given table)) height) height name (lengths, false)
@@ -104,24 +113,80 @@ module _ (table : Table) where
           leaves = Leaves-append old mid new passed.lengths lengths passed.leaves leaves;
         }
 
-    pub stuck_at : (room : ℕ) (stuck : Stuck) → stuck.name ≡ get_or uses i d → stuck.left ≡ mid → highest ≤ room → IsFound (given table) stuck.name.now stuck.found → IsStuck table room stuck.left stuck.found → IsStuckAt table room (names_seen uses) old stuck
-    stuck_at room stuck name left le found has_none = record {
+    pub stuck_at : (room : ℕ) (stuck : Stuck) → stuck.name ≡ get_or uses i d → stuck.left ≡ mid → stuck.before.count ≡ i → stuck.before.highest ≡ highest → ((count : ℕ) → Leaves old count mid → IsCost old count stuck.before.cost) → highest ≤ room
+        → IsFound (given table) stuck.name.now stuck.found → IsStuck table room stuck.left stuck.found → IsStuckAt table room (names_seen uses) old stuck
+    stuck_at room stuck name left counted high costs le found has_none = record {
       before = take i (names_seen uses);
       after = drop (i + 1) (names_seen uses);
       split = split_at uses i d lt ∙ ap (λ (n : Bor (List ℕ)). take i (names_seen uses) ++ n.now ∷ drop (i + 1) (names_seen uses)) (sym name);
-      passed = record {
-        lengths = passed.lengths;
-        whole = record { opened = uses_more (tables_of table) (IsAnswered (given table)) highest room le (take i (names_seen uses)) passed.lengths passed.whole.opened };
-        leaves = subst (Leaves old (sum passed.lengths)) (sym left) passed.leaves;
-      };
+      count = let seen : i ≤ length (names_seen uses) = simp length-map (omega (arith, lt)) in counted ∙ sym (length-take-le i (names_seen uses) seen);
+      high = omega (arith, high, le);
+      passed = subst (λ h. ArePassed table h (take i (names_seen uses)) old stuck.left) (sym high) (subst (λ l. ArePassed table highest (take i (names_seen uses)) old l) (sym left) passed);
+      cost = λ count leaves. costs count (subst (λ l. Leaves old count l) left leaves);
       found = found;
       has_none = has_none;
     }
 
+  -- the first uses, which are known
+  pub first_passed : (room : ℕ) (uses : List (List ℕ)) (first : FirstUses) (old new : Option ℕ) → HasFirst (tables_of table) (given table) table.budget uses first → first.highest ≤ room → IsLeft table.budget old → Leaves old first.cost new → AreFirst table room uses old new first
+  first_passed room uses first old new has le left leaves = record {
+    within = has.within;
+    high = le;
+    passed = record { lengths = has.lengths; whole = has.whole; leaves = Leaves-cost table.budget old new (sum has.lengths) first.cost left has.costs leaves };
+  }
+
+  -- uses, and others after them
+  passed_both : (low high most : ℕ) (before after : List (List ℕ)) (old mid new : Option ℕ) → low ≤ most → high ≤ most → ArePassed table low before old mid → ArePassed table high after mid new → ArePassed table most (before ++ after) old new
+  passed_both low high most before after old mid new le less first second =
+      let answer = IsAnswered (given table) in let tables = tables_of table in
+      record {
+        lengths = first.lengths ++ second.lengths;
+        whole = record {
+          opened = each_after (OpensUse answer (OpensOnly tables answer most) most) before after (first.lengths, false) (second.lengths, false) refl
+              (uses_more tables answer low most le before first.lengths first.whole.opened)
+              (uses_more tables answer high most less after second.lengths second.whole.opened);
+        };
+        leaves = Leaves-append old mid new first.lengths second.lengths first.leaves second.leaves;
+      }
+
+  module _ (room : ℕ) (uses : List (List ℕ)) (old mid : Option ℕ) (first : FirstUses) (are : AreFirst table room uses old mid first) where
+    pub first_left : IsLeft table.budget old → IsLeft table.budget mid
+    first_left left = IsLeft-less table.budget old mid (sum are.passed.lengths) left are.passed.leaves
+
+    pub all_passed : (high most : ℕ) (new : Option ℕ) → first.highest ≤ most → high ≤ most → ArePassed table high (drop first.count uses) mid new → ArePassed table most uses old new
+    all_passed high most new le less rest = subst (λ l. ArePassed table most l old new) (take-append-drop first.count uses) (passed_both first.highest high most (take first.count uses) (drop first.count uses) old mid new le less are.passed rest)
+
+    pub stuck_after : (stuck : Stuck) → IsStuckAt table room (drop first.count uses) mid stuck → (most cost : ℕ) → first.highest ≤ most → stuck.before.highest ≤ most → most ≤ room → ((count : ℕ) → Leaves old count stuck.left → IsCost old count cost)
+        → IsStuckAt table room uses old (record stuck { before = record { count = first.count + stuck.before.count; highest = most; cost = cost } })
+    stuck_after stuck at most cost le less few costs = record {
+      before = take first.count uses ++ at.before;
+      after = at.after;
+      split = sym (take-append-drop first.count uses) ∙ ap (λ l. take first.count uses ++ l) at.split ∙ sym (append_assoc (take first.count uses) at.before (stuck.name.now ∷ at.after));
+      count = ap (λ n. first.count + n) at.count ∙ ap (λ n. n + length at.before) (sym (length-take-le first.count uses are.within)) ∙ sym (length-append (take first.count uses) at.before);
+      high = few;
+      passed = passed_both first.highest stuck.before.highest most (take first.count uses) at.before old mid stuck.left le less are.passed at.passed;
+      cost = costs;
+      found = at.found;
+      has_none = at.has_none;
+    }
+
+    -- the uses before one are uses of the file
+    pub count_within : (stuck : Stuck) → IsStuckAt table room (drop first.count uses) mid stuck → first.count + stuck.before.count ≤ length uses
+    count_within stuck at =
+        let all = ap length (take-append-drop first.count uses) in
+        let here = length-append (take first.count uses) (drop first.count uses) in
+        let front = length-take-le first.count uses are.within in
+        let rest = ap length at.split in
+        let parts = length-append at.before (stuck.name.now ∷ at.after) in
+        omega (arith, all, here, front, rest, parts, at.count)
+
   -- ---- a file
   module _ (is : IsTable table) where
-    pub reads_at : (i : ℕ) (file : FileDeclared) → i < length table.answers.items → file ≡ get_or table.files.items i file → OfBytes (bytes_at (given table) i) (λ bytes. MeansOnly (tables_of table) bytes (file_seen file))
-    reads_at i file lt here = is.read i file (slice_get_read table.files.items (length table.answers.items) i file (sym is.files) lt here)
+    pub file_at : (i : ℕ) → i < length table.answers.items → (file : FileDeclared) × (slice_get table.files.items i ≡ Some file)
+    file_at i lt = elim (slice_get_cases table.files.items i).1 [
+      | inl (file, within, got, _) ↦ (file, got)
+      | inr (past, _) ↦ (let files = is.files in absurd (omega (arith, lt, files, past)))
+    ]
 
   module _ (bytes : List ℕ) (file : File) (only : MeansOnly (tables_of table) bytes file) (left mid : Option ℕ) (leaves : Leaves left (length bytes) mid) where
     pub whole_at : (highest : ℕ) (after : Option ℕ) → ArePassed table highest file.uses mid after → IsSpent table (highest + 1) bytes left after
@@ -131,14 +196,25 @@ module _ (table : Table) where
       leaves = Leaves-append left mid after (length bytes ∷ []) passed.lengths (Leaves-one left mid (length bytes) leaves) passed.leaves;
     }
 
-    pub has_stuck : (room : ℕ) (stuck : Stuck) → IsStuckAt table room file.uses mid stuck → HasStuck table room bytes left stuck
-    has_stuck room stuck at = record {
-      lengths = at.passed.lengths;
-      uses = record { file = file; only = only; before = at.before; after = at.after; split = at.split; whole = at.passed.whole };
-      leaves = Leaves-append left mid stuck.left (length bytes ∷ []) at.passed.lengths (Leaves-one left mid (length bytes) leaves) at.passed.leaves;
-      found = at.found;
-      has_none = at.has_none;
-    }
+    pub has_stuck : (room : ℕ) (stuck : Stuck) → IsLeft table.budget mid → IsStuckAt table room file.uses mid stuck → HasStuck table room bytes left stuck
+    has_stuck room stuck within at =
+        let answer = IsAnswered (given table) in let tables = tables_of table in
+        let same : take stuck.before.count file.uses ≡ at.before = ap (λ l. take stuck.before.count l) at.split ∙ take_at at.before (stuck.name.now ∷ at.after) stuck.before.count (sym at.count) in
+        let long = ap length at.split in
+        let parts = length-append at.before (stuck.name.now ∷ at.after) in
+        record {
+          lengths = at.passed.lengths;
+          uses = record { file = file; only = only; before = at.before; after = at.after; split = at.split; whole = record { opened = uses_more tables answer stuck.before.highest room at.high at.before at.passed.lengths at.passed.whole.opened } };
+          before = record {
+            within = omega (arith, long, parts, at.count);
+            lengths = at.passed.lengths;
+            whole = subst (λ l. AreWhole tables (given table) stuck.before.highest l at.passed.lengths) (sym same) at.passed.whole;
+            costs = IsCost-left table.budget mid within.0 (sum at.passed.lengths) stuck.before.cost within.1 (at.cost (sum at.passed.lengths) at.passed.leaves);
+          };
+          leaves = Leaves-append left mid stuck.left (length bytes ∷ []) at.passed.lengths (Leaves-one left mid (length bytes) leaves) at.passed.leaves;
+          found = at.found;
+          has_none = at.has_none;
+        }
 
 pub IsLeft-over : (table : Table) (found : Option ℕ) (height : ℕ) (old new : Option ℕ) → IsPassedOver table found height old new → IsLeft table.budget old → IsLeft table.budget new
 IsLeft-over table None height old new over left = absurd over

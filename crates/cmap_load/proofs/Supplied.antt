@@ -12,7 +12,7 @@ use Rattle.cmap_load.specs.Loads.{IsLoading, answers_of, tables_in, wanted_by, w
 use Rattle.cmap_load.specs.declared.loader.Loader.{Loader}
 use Rattle.cmap_load.specs.declared.step.Next.{Next}
 use Rattle.cmap_load.specs.declared.step.Next.TheVariants as next
-use Rattle.cmap_load.specs.Loading.{Answer, IsAwaited, IsAwaiting, IsBegun, IsNext, IsReady, IsTable, IsTaken, IsWanted, Leads, LeadsToAnswer, OfBytes, answers_seen, bytes_at, given, tables_of}
+use Rattle.cmap_load.specs.Loading.{Answer, IsAwaited, IsAwaiting, IsBegun, IsNext, IsReady, IsTable, IsTaken, IsWanted, Leads, LeadsToAnswer, OfBytes, answers_seen, bytes_at, first_answer, given, tables_of}
 use Rattle.cmap_load.specs.declared.step.Wanted.{Wanted}
 use Rattle.cmap_load.specs.declared.table.Table.{Table}
 use Rattle.cmap_load.proofs.Growing.{bytes_at_front, bytes_at_within}
@@ -25,6 +25,11 @@ module _ (table : Table) (wanted : Wanted) where
   -- that of a name which is wanted
   pub awaited : (bytes : Option (List ℕ)) → IsBegun table → ((first : List ℕ) → bytes_at (given table) 0 ≡ Some first → IsAwaiting table first wanted) → IsAwaited table wanted bytes
   awaited bytes begun next = record {
+    new = λ name is.
+        let at = next begun.has.0 begun.has.1 in
+        let e : Some at.name ≡ Some name = sym at.is ∙ is in
+        let same : at.name ≡ name = cc in
+        subst (λ n. first_answer (given table) n ≡ None) same at.new.1;
     begun = inl begun;
     leads = λ first begin.
         let same : length (given table) ≡ length table.answers.items = simp length-map in
@@ -38,6 +43,7 @@ module _ (table : Table) (wanted : Wanted) where
   -- that of the first file
   pub first_awaited : (base : List ℕ) → table.answers.items ≡ [] → wanted.names.items ≡ [] → wanted.left ≡ table.budget → IsAwaited table wanted (Some base)
   first_awaited base none no_names left = record {
+    new = λ name is. ap (λ items. first_answer (answers_seen items) name) none;
     begun = inr (none, (base, refl, tt));
     leads = λ first begin.
         let all : List Answer = given table ++ answer (Some base) ∷ [] in

@@ -7,7 +7,7 @@ use Rattle.cmap_chains.specs.Answers.{IsByName}
 use Rattle.cmap_chains.specs.Budgets.{Opens, OpensEach, OpensEachFirst, OpensFirst, OpensUse, OpensUseFirst, Trail}
 use Rattle.cmap_chains.specs.Layers.{Means}
 use Rattle.cmap_chains.proofs.FirstFiles.{IsFrontOf, each_front, each_once, front_after}
-use Rattle.cmap_load.specs.Loading.{Agrees, Answer, IsAnswered, IsWhole, OpensOnly, OpensOnlyFirst, Uses}
+use Rattle.cmap_load.specs.Loading.{Agrees, Answer, AreWhole, IsAnswered, IsWhole, OpensOnly, OpensOnlyFirst, Uses}
 use Rattle.std.proofs.Common.{append-nil}
 
 -- ---- uses
@@ -175,6 +175,11 @@ module _ (tables : Option PrefixTables) (answers others : List Answer) (agrees :
   pub IsWhole-as : (most : ℕ) (bytes lengths : List ℕ) → IsWhole tables answers most bytes lengths → IsWhole tables others most bytes lengths
   IsWhole-as most bytes lengths whole = record { opened = opens_as tables {answer = IsAnswered answers} {other = IsAnswered others} agrees most bytes (lengths, false) whole.opened }
 
+  pub AreWhole-as : (room : ℕ) (uses : List (List ℕ)) (lengths : List ℕ) → AreWhole tables answers room uses lengths → AreWhole tables others room uses lengths
+  AreWhole-as room uses lengths whole = record {
+    opened = each_as (use_as tables {answer = IsAnswered answers} {other = IsAnswered others} agrees {R = OpensOnly tables (IsAnswered answers) room} {S = OpensOnly tables (IsAnswered others) room} (opens_as tables {answer = IsAnswered answers} {other = IsAnswered others} agrees room) room) uses (lengths, false) whole.opened;
+  }
+
   pub Uses-as : (room : ℕ) (bytes name lengths : List ℕ) → Uses tables answers room bytes name lengths → Uses tables others room bytes name lengths
   Uses-as room bytes name lengths uses = record {
     file = uses.file;
@@ -182,7 +187,7 @@ module _ (tables : Option PrefixTables) (answers others : List Answer) (agrees :
     before = uses.before;
     after = uses.after;
     split = uses.split;
-    whole = record { opened = each_as (use_as tables {answer = IsAnswered answers} {other = IsAnswered others} agrees {R = OpensOnly tables (IsAnswered answers) room} {S = OpensOnly tables (IsAnswered others) room} (opens_as tables {answer = IsAnswered answers} {other = IsAnswered others} agrees room) room) uses.before (lengths, false) uses.whole.opened };
+    whole = AreWhole-as room uses.before lengths uses.whole;
   }
 
 -- what is opened whole is one list

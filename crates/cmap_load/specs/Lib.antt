@@ -1,2 +1,3 @@
+pub mod Indexed
 pub mod Loading
 pub mod Loads

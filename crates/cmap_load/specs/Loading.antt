@@ -1,5 +1,5 @@
 -- What is known of files, by what was answered to the names of those that others use.
-use Rattle.std.specs.Prelude.{◌≡◌, ℕ, zero, suc, ◌-◌, ◌<◌, ◌≤◌, ◌⊎◌, Bool, true, false, List, [], ◌∷◌, ◌++◌, Contains, length, map, sum, bytes_eq, MatchOption, Option, Some, None, option_and_then, slice_get, slice_index, if◌then◌else◌}
+use Rattle.std.specs.Prelude.{◌≡◌, ℕ, zero, suc, ◌-◌, ◌<◌, ◌≤◌, ◌⊎◌, Bool, true, false, List, [], ◌∷◌, ◌++◌, Contains, length, map, sum, take, bytes_eq, MatchOption, Option, Some, None, option_and_then, slice_get, slice_index, if◌then◌else◌}
 use Rattle.std.specs.Option.{option_copied}
 use Rattle.cmap_values.specs.Files.{File}
 use Rattle.cmap_values.specs.FilesSeen.{file_seen}
@@ -14,7 +14,9 @@ use Rattle.cmap_chains.specs.Layers.{AreLayers, Means}
 use Rattle.cmap_chains.specs.Refusals.{IsFault, IsOwnFault}
 use Rattle.cmap_chains.specs.declared.refusal.Cause.{Cause}
 use Rattle.cmap_chains.specs.declared.refusal.Cause.TheVariants.{Malformed, NoFile, ChainLength, OverBudget}
+use Rattle.cmap_load.specs.Indexed.{index_of}
 use Rattle.cmap_load.specs.declared.answer.Answer as declared
+use Rattle.cmap_load.specs.declared.step.FirstUses.{FirstUses}
 use Rattle.cmap_load.specs.declared.step.Stuck.{Stuck}
 use Rattle.cmap_load.specs.declared.step.Wanted.{Wanted}
 use Rattle.cmap_load.specs.declared.step.Passed.{Passed}
@@ -182,13 +184,27 @@ pub record Costs (table : Table) (height cost : ℕ) (bytes : List ℕ) : Type 0
   pub whole : IsWhole (tables_of table) (given table) height bytes lengths
   pub costs : IsCost table.budget (sum lengths) cost
 
+-- the first of these uses are whole
+pub record HasFirst (tables : Option PrefixTables) (answers : List Answer) (budget : Option ℕ) (uses : List (List ℕ)) (first : FirstUses) : Type 0 where
+  pub within : first.count ≤ length uses
+  pub lengths : List ℕ
+  pub whole : AreWhole tables answers first.highest (take first.count uses) lengths
+  pub costs : IsCost budget (sum lengths) first.cost
+
+-- the index of the answer to each name
+abbrev pub AreIndexed : Table → Type 0
+AreIndexed table = (name : List ℕ) → IsFound (given table) name (index_of table.indices name)
+
 -- what a table says is so
 pub record IsTable (table : Table) : Type 0 where
+  pub indexed : AreIndexed table
   pub files : length table.files.items ≡ length table.answers.items
   pub heights : length table.heights.items ≡ length table.answers.items
   pub costs : length table.costs.items ≡ length table.answers.items
+  pub firsts : length table.firsts.items ≡ length table.answers.items
   pub read : (i : ℕ) (file : parsed.File) → slice_get table.files.items i ≡ Some file → OfBytes (bytes_at (given table) i) (λ bytes. MeansOnly (tables_of table) bytes (file_seen file))
   pub high : (i : ℕ) → i < length table.answers.items → slice_index table.heights.items i ≤ 16 → OfBytes (bytes_at (given table) i) (Costs table (slice_index table.heights.items i) (slice_index table.costs.items i))
+  pub begun : (i : ℕ) (file : parsed.File) (first : FirstUses) → slice_get table.files.items i ≡ Some file → slice_get table.firsts.items i ≡ Some first → HasFirst (tables_of table) (given table) table.budget (file_seen file).uses first
 
 -- the first file was answered, and isn't known to be whole
 pub record IsBegun (table : Table) : Type 0 where
@@ -216,12 +232,21 @@ module _ (table : Table) where
     pub whole : AreWhole (tables_of table) (given table) room uses lengths
     pub leaves : Leaves old (sum lengths) new
 
+  -- the first of these uses, with at most this many files in their chains, and what is left after them
+  pub record AreFirst (room : ℕ) (uses : List (List ℕ)) (old new : Option ℕ) (first : FirstUses) : Type 0 where
+    pub within : first.count ≤ length uses
+    pub high : first.highest ≤ room
+    pub passed : ArePassed first.highest (take first.count uses) old new
+
   -- the first of these uses that isn't passed
   pub record IsStuckAt (room : ℕ) (uses : List (List ℕ)) (old : Option ℕ) (stuck : Stuck) : Type 0 where
     pub before : List (List ℕ)
     pub after : List (List ℕ)
     pub split : uses ≡ before ++ stuck.name.now ∷ after
-    pub passed : ArePassed room before old stuck.left
+    pub count : stuck.before.count ≡ length before
+    pub high : stuck.before.highest ≤ room
+    pub passed : ArePassed stuck.before.highest before old stuck.left
+    pub cost : (count : ℕ) → Leaves old count stuck.left → IsCost old count stuck.before.cost
     pub found : IsFound (given table) stuck.name.now stuck.found
     pub has_none : IsStuck room stuck.left stuck.found
 
@@ -239,6 +264,7 @@ module _ (table : Table) where
   pub record HasStuck (room : ℕ) (bytes : List ℕ) (old : Option ℕ) (stuck : Stuck) : Type 0 where
     pub lengths : List ℕ
     pub uses : Uses (tables_of table) (given table) room bytes stuck.name.now lengths
+    pub before : HasFirst (tables_of table) (given table) table.budget uses.file.uses stuck.before
     pub leaves : Leaves old (sum (length bytes ∷ lengths)) stuck.left
     pub found : IsFound (given table) stuck.name.now stuck.found
     pub has_none : IsStuck room stuck.left stuck.found
@@ -260,7 +286,7 @@ module _ (table : Table) where
   abbrev pub IsStep : List ℕ → Step → Type 0
   IsStep first (step.Whole i height cost) = (i < length table.answers.items) × (height ≤ 16) × (height < slice_index table.heights.items i) × OfBytes (bytes_at (given table) i) (Costs table height cost)
       × ((i ≡ 0) → IsWithin (tables_of table) (given table) table.budget first)
-  IsStep first (step.Wanted wanted) = IsAwaiting first wanted
+  IsStep first (step.Wanted i before wanted) = (i < length table.answers.items) × OfBytes (bytes_at (given table) i) (λ bytes. (file : File) × MeansOnly (tables_of table) bytes file × HasFirst (tables_of table) (given table) table.budget file.uses before) × IsAwaiting first wanted
   IsStep first (step.Refused refusal) = IsRefusal (tables_of table) (given table) table.budget first (names_seen refusal.names.items) refusal.cause
 
   abbrev pub IsNext : List ℕ → Next → Type 0
@@ -276,6 +302,7 @@ module _ (table : Table) where
 
   -- this answer is awaited: that of the first file, or of one that is used
   pub record IsAwaited (wanted : Wanted) (bytes : Option (List ℕ)) : Type 0 where
+    pub new : (name : List ℕ) → option_copied wanted.name ≡ Some name → first_answer (given table) name ≡ None
     pub begun : IsBegun table ⊎ ((table.answers.items ≡ []) × OfBytes bytes (λ b. Unit {0}))
     pub leads : (first : List ℕ) → bytes_at (given table ++ record { name = option_copied wanted.name; bytes = bytes } ∷ []) 0 ≡ Some first
         → LeadsToAnswer (tables_of table) (given table ++ record { name = option_copied wanted.name; bytes = bytes } ∷ []) table.budget first (names_seen wanted.names.items) wanted.left bytes

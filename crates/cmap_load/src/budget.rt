@@ -6,7 +6,7 @@ ghost use Rattle.cmap_chains.specs.Budgets.{IsOver};
 ghost use Rattle.cmap_chains.specs.BytesSpent.{Leaves};
 ghost use Rattle.cmap_load.specs.Loading.{IsCost};
 
-/// Takes `count` bytes from what is left of a budget, if there is one; whether so many are left.
+/// Takes `count` bytes from what is left of a budget, if there is one; false where fewer are left.
 pub(crate) fn spend(left: &mut Option<u64>, count: u64) -> bool
     ensures spent { OnTrue result (Leaves left.old count left.new) }
     ensures over { OnFalse result (IsOver left.old count × (left.new ≡ left.old)) }

@@ -5,6 +5,7 @@
 mod answer;
 mod budget;
 mod from_source;
+mod indices;
 mod loader;
 mod step;
 mod table;

@@ -2,10 +2,30 @@
 
 use cmap_chains::Refusal;
 
+/// The first uses of a file, whose files are whole.
+#[derive(Clone, Copy)]
+pub(crate) struct FirstUses {
+    /// How many uses they are.
+    pub(crate) count: usize,
+    /// How many files stand in the longest of their chains.
+    pub(crate) highest: u8,
+    /// How many bytes are opened for them, where there is a budget.
+    pub(crate) cost: u64,
+}
+
+/// No uses.
+pub(crate) const NO_USES: FirstUses = FirstUses {
+    count: 0,
+    highest: 0,
+    cost: 0,
+};
+
 /// The first use of a file that can't be passed: that of a file which wasn't read, for which the chain
-/// has no room, or which would pass the budget.
+/// is too long, or which would pass the budget.
 #[derive(Drop)]
 pub(crate) struct Stuck<'a> {
+    /// The uses before it.
+    pub(crate) before: FirstUses,
     pub(crate) name: &'a [u8],
     /// The index of the answer to the name.
     pub(crate) found: Option<usize>,
@@ -49,7 +69,8 @@ pub(crate) enum Step<'a> {
     /// The file at this index is whole: how many files stand in its longest chain, and how many bytes
     /// are opened for it.
     Whole(usize, u8, u64),
-    Wanted(Wanted<'a>),
+    /// A file is wanted, which the file at this index uses after these uses.
+    Wanted(usize, FirstUses, Wanted<'a>),
     Refused(Refusal<'a>),
 }
 

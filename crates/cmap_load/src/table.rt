@@ -1,8 +1,8 @@
 //! The files that were read, each once.
 
-ghost use Rattle.std.specs.Prelude.{◌≡◌, ◌++◌, ◌<◌, ◌≤◌, ◌∷◌, [], ⊤, ℕ, IfErr, IfOk, IfSome, List, MatchOption, OnOk, Some, length, slice_get, slice_set};
+ghost use Rattle.std.specs.Prelude.{◌≡◌, ◌++◌, ◌<◌, ◌≤◌, ◌∷◌, [], ⊤, ℕ, IfErr, IfOk, IfSome, List, MatchOption, None, OnOk, Some, length, slice_get, slice_set};
 ghost use Rattle.std.specs.Option.{option_copied};
-ghost use Rattle.cmap_load.specs.Loading.{AreLoaded, FailsToOpen, IsAwaited, IsBegun, IsFound, IsLeft, IsLook, IsNext, IsOpened, IsPassed, IsPassedOver, IsReady, IsStep, IsStuck, IsTable, IsTaken, IsWithin, OfBytes, answers_seen, bytes_at, given, is_of_name, tables_of};
+ghost use Rattle.cmap_load.specs.Loading.{AreFirst, AreIndexed, AreLoaded, FailsToOpen, IsAwaited, IsBegun, IsLeft, IsLook, IsNext, IsOpened, IsPassed, IsPassedOver, IsReady, IsStep, IsStuck, IsTable, IsTaken, IsWithin, OfBytes, bytes_at, first_answer, given, tables_of};
 ghost use Rattle.cmap_values.specs.declared.file.File.{File};
 ghost use Rattle.cmap_packed.specs.BundleSeen.{tables_given};
 ghost use Rattle.cmap_values.specs.FilesSeen.{file_seen};
@@ -11,7 +11,8 @@ ghost use Rattle.cmap_values.specs.Outcomes.{Outcome, RefusesWith};
 
 use crate::answer::Answer;
 use crate::budget::{spend, spent};
-use crate::step::{Look, Next, Passed, Step, Stuck, Wanted};
+use crate::indices::Indices;
+use crate::step::{FirstUses, Look, NO_USES, Next, Passed, Step, Stuck, Wanted};
 use cmap_chains::{Cause, Refusal, read_file};
 use cmap_layers::layer::Layer;
 use cmap_layers::layers::Layers;
@@ -28,16 +29,18 @@ const MOST_FILES: u8 = 16;
 const UNKNOWN: u8 = 17;
 
 /// The files that were read. At the same index stand what was answered, what the file says, how many
-/// files stand in its longest chain (or more than may, if that isn't known), and how many bytes are
-/// opened for it, each use counted (if the height is known, and there is a budget).
+/// files stand in its longest chain (or more than may, if that isn't known), how many bytes are opened
+/// for it, each use counted (if the height is known, and there is a budget), and its first uses.
 #[derive(Drop)]
 pub(crate) struct Table<'a, 'b> {
     pub(crate) bundle: Option<&'b Bundle<'b>>,
     pub(crate) budget: Option<u64>,
     pub(crate) answers: Vec<Answer<'a>>,
+    pub(crate) indices: Indices<'a>,
     pub(crate) files: Vec<File<'a>>,
     pub(crate) heights: Vec<u8>,
     pub(crate) costs: Vec<u64>,
+    pub(crate) firsts: Vec<FirstUses>,
 }
 
 impl<'a, 'b> Table<'a, 'b> {
@@ -52,9 +55,11 @@ impl<'a, 'b> Table<'a, 'b> {
             bundle,
             budget,
             answers: Vec::new(alloc),
+            indices: Indices::new(alloc),
             files: Vec::new(alloc),
             heights: Vec::new(alloc),
             costs: Vec::new(alloc),
+            firsts: Vec::new(alloc),
         }
     }
 
@@ -84,19 +89,79 @@ impl<'a, 'b> Table<'a, 'b> {
         requires left { IsLeft self.now.budget left }
         ensures { IsPassed self.now room left (names_seen uses.now) result }
     {
-        let mut left = left;
+        let mut after = left;
         let mut highest: u8 = 0;
-        for name in uses {
-            let found = find(&self.answers, *name);
-            let Some(height) = self.pass_over(found, room, &mut left) else {
-                let name = *name;
-                return Passed::Stuck(Stuck { name, found, left });
+        for (i, name) in uses.iter().enumerate() {
+            let found = self.indices.find(*name);
+            let Some(height) = self.pass_over(found, room, &mut after) else {
+                let before = FirstUses {
+                    count: i,
+                    highest,
+                    cost: spent(left, after),
+                };
+                return Passed::Stuck(Stuck {
+                    before,
+                    name: *name,
+                    found,
+                    left: after,
+                });
             };
-            if height > highest {
-                highest = height;
+            highest = highest.max(height);
+        }
+        Passed::All(highest, after)
+    }
+
+    /// The first uses of the file at an index, if at most `room` files stand in their chains and what
+    /// they cost is left; else none.
+    fn first_uses(&self, at: usize, room: u8, left: &mut Option<u64>) -> FirstUses
+        requires table { IsTable self.now }
+        requires at { at < length self.now.answers.items }
+        requires left { IsLeft self.now.budget left.old }
+        ensures { (file : File) → slice_get self.now.files.items at ≡ Some file
+            → AreFirst self.now room (file_seen file).uses left.old left.new result }
+    {
+        let firsts = self.firsts[at];
+        if firsts.highest <= room && spend(left, firsts.cost) {
+            firsts
+        } else {
+            NO_USES
+        }
+    }
+
+    /// What is known of all uses of the file at an index, as of `pass`.
+    fn pass_all(&self, at: usize, room: u8, left: Option<u64>) -> Passed<'a>
+        requires table { IsTable self.now }
+        requires at { at < length self.now.answers.items }
+        requires room { room < 16 }
+        requires left { IsLeft self.now.budget left }
+        ensures { (file : File) → slice_get self.now.files.items at ≡ Some file
+            → IsPassed self.now room left (file_seen file).uses result }
+    {
+        let mut after = left;
+        let firsts = self.first_uses(at, room, &mut after);
+        let uses = &self.files[at].uses;
+        match self.pass(&uses[firsts.count..], room, after) {
+            Passed::All(highest, after) => Passed::All(highest.max(firsts.highest), after),
+            Passed::Stuck(stuck) => {
+                let Stuck {
+                    before,
+                    name,
+                    found,
+                    left: after,
+                } = stuck;
+                let before = FirstUses {
+                    count: firsts.count + before.count,
+                    highest: before.highest.max(firsts.highest),
+                    cost: spent(left, after),
+                };
+                Passed::Stuck(Stuck {
+                    before,
+                    name,
+                    found,
+                    left: after,
+                })
             }
         }
-        Passed::All(highest, left)
     }
 
     /// What is known of the file at an index, under which, itself counted, at most `most` files may
@@ -113,7 +178,7 @@ impl<'a, 'b> Table<'a, 'b> {
         if !spend(&mut after, self.length_at(at)) {
             return Look::OverBudget;
         }
-        match self.pass(&self.files[at].uses, most - 1, after) {
+        match self.pass_all(at, most - 1, after) {
             Passed::All(highest, after) => Look::Whole(highest + 1, after),
             Passed::Stuck(stuck) => Look::Stuck(stuck),
         }
@@ -159,7 +224,8 @@ impl<'a, 'b> Table<'a, 'b> {
                     left = stuck.left;
                     let Some(i) = stuck.found else {
                         let name = Some(stuck.name);
-                        return Ok(Step::Wanted(Wanted { names, name, left }));
+                        let wanted = Wanted { names, name, left };
+                        return Ok(Step::Wanted(at, stuck.before, wanted));
                     };
                     at = i;
                     most -= 1;
@@ -188,7 +254,10 @@ impl<'a, 'b> Table<'a, 'b> {
                     self.heights[at] = height;
                     self.costs[at] = cost;
                 }
-                Step::Wanted(wanted) => return Ok(Next::Wanted(wanted)),
+                Step::Wanted(at, firsts, wanted) => {
+                    self.firsts[at] = firsts;
+                    return Ok(Next::Wanted(wanted));
+                }
                 Step::Refused(refusal) => return Ok(Next::Refused(refusal)),
             }
         }
@@ -226,7 +295,8 @@ impl<'a, 'b> Table<'a, 'b> {
         bytes: Option<&'a [u8]>,
         left: Option<u64>,
     ) -> Result<(), Fault<Cause>>
-        requires { IsTable self.old }
+        requires table { IsTable self.old }
+        requires new { IfSome name (λ name. first_answer (given self.old) name.now ≡ None) }
         ensures table { OnOk result (IsTable self.new) }
         ensures heights { OnOk result (self.new.heights.items ≡ self.old.heights.items ++ 17 ∷ []) }
         ensures given { OnOk result (given self.new ≡ given self.old
@@ -237,7 +307,7 @@ impl<'a, 'b> Table<'a, 'b> {
         ensures bundle { self.new.bundle ≡ self.old.bundle }
         ensures budget { self.new.budget ≡ self.old.budget }
     {
-        self.answers.push(Answer { name, bytes })?;
+        self.note(name, bytes)?;
         match open_file(alloc, bytes, self.bundle, left) {
             Ok(file) => {
                 self.add(file)?;
@@ -247,18 +317,41 @@ impl<'a, 'b> Table<'a, 'b> {
         }
     }
 
+    /// Notes the answer to a name.
+    fn note(&mut self, name: Option<&'a [u8]>, bytes: Option<&'a [u8]>) -> Result<(), AllocError>
+        requires indexed { AreIndexed self.old }
+        requires new { IfSome name (λ name. first_answer (given self.old) name.now ≡ None) }
+        ensures indexed { OnOk result (AreIndexed self.new) }
+        ensures answers { OnOk result (self.new.answers.items ≡ self.old.answers.items
+            ++ record { name = name.entry; bytes = bytes.entry } ∷ []) }
+        ensures files { self.new.files ≡ self.old.files }
+        ensures heights { self.new.heights ≡ self.old.heights }
+        ensures costs { self.new.costs ≡ self.old.costs }
+        ensures firsts { self.new.firsts ≡ self.old.firsts }
+        ensures bundle { self.new.bundle ≡ self.old.bundle }
+        ensures budget { self.new.budget ≡ self.old.budget }
+    {
+        self.indices.note(name, self.answers.len())?;
+        self.answers.push(Answer { name, bytes })?;
+        Ok(())
+    }
+
     /// Adds what the file says that was answered last.
     fn add(&mut self, file: File<'a>) -> Result<(), AllocError>
         ensures files { OnOk result (self.new.files.items ≡ self.old.files.items ++ file.entry ∷ []) }
         ensures heights { OnOk result (self.new.heights.items ≡ self.old.heights.items ++ 17 ∷ []) }
         ensures costs { OnOk result (self.new.costs.items ≡ self.old.costs.items ++ 0 ∷ []) }
+        ensures firsts { OnOk result (self.new.firsts.items ≡ self.old.firsts.items
+            ++ record { count = 0; highest = 0; cost = 0 } ∷ []) }
         ensures answers { self.new.answers ≡ self.old.answers }
+        ensures indices { self.new.indices ≡ self.old.indices }
         ensures bundle { self.new.bundle ≡ self.old.bundle }
         ensures budget { self.new.budget ≡ self.old.budget }
     {
         self.files.push(file)?;
         self.heights.push(UNKNOWN)?;
         self.costs.push(0)?;
+        self.firsts.push(NO_USES)?;
         Ok(())
     }
 
@@ -284,33 +377,11 @@ impl<'a, 'b> Table<'a, 'b> {
             let Some(last) = last_use(&uses) else {
                 return Ok(Layers::of(layers));
             };
-            let Some(i) = find(&self.answers, last) else {
+            let Some(i) = self.indices.find(last) else {
                 unreachable!();
             };
             at = i;
         }
-    }
-}
-
-/// The index of the first answer to this name.
-fn find(answers: &[Answer<'_>], name: &[u8]) -> Option<usize>
-    ensures { IsFound (answers_seen answers.now) name.now result }
-{
-    for (i, answer) in answers.iter().enumerate() {
-        if is_of(answer.name, name) {
-            return Some(i);
-        }
-    }
-    None
-}
-
-/// Whether an answer is that to a name.
-fn is_of(answered: Option<&[u8]>, name: &[u8]) -> bool
-    ensures { result ≡ is_of_name (option_copied answered.entry) name.now }
-{
-    match answered {
-        Some(answered) => answered == name,
-        None => false,
     }
 }
 

@@ -1,11 +1,12 @@
-use Rattle.std.proofs.Common.{refl, sym, subst}
+use Rattle.std.proofs.Common.{refl, sym, subst, Some, None}
 use Rattle.cmap_load.specs.Loading.{AreLoaded, given, tables_of}
-use Rattle.cmap_load.proofs.Chain.{Left, answered, finished, goes_down, layers_few, readable, shorter, started, taken_file}
+use Rattle.cmap_load.proofs.Chain.{Left, answered, found_at, finished, goes_down, layers_few, readable, shorter, started, taken_file}
 use Rattle.cmap_load.proofs.table.Table.into_layers.Goals as goal
 
 pub down-init : goal.down-init
 down-init c = record {
   answers = refl;
+  indices = refl;
   left = subst (λ layers. Left (tables_of c.args.self) (given c.args.self) c.args.self.files.items layers 0) (sym c.new-layers.ensures.items) (started c.args.self c.requires.table c.requires.has.0 c.requires.has.1 (c.requires.whole c.requires.has.0 c.requires.has.1));
 }
 
@@ -18,9 +19,10 @@ down-preserved c =
     let left = c.down.invariant.left in let file = c.take_file-file.result in
     let only = taken_file tables answers left file c.take_file-file.ensures.taken in
     let (others, uses) = rw c.deref.ensures.value at c.in-Some.ensures in
-    let found = rw c.down.invariant.answers at (rw c.deref-in-down.ensures.value at c.in-Some-find.ensures) in
+    let found = found_at c.args.self c.requires.table c.in-Some.last.now _ (Some c.in-Some-find.i) c.down.invariant.indices c.in-Some-find.ensures in
     record {
       answers = c.down.invariant.answers;
+      indices = c.down.invariant.indices;
       left = goes_down tables answers left file only c.push.new.self.items c.in_ok-layer.layer c.in_ok-push.ensures.items c.in_ok-layer.ensures others c.in-Some.last.now uses
           c.take_file-file.new.files.items c.take_file-file.ensures.left.0 c.take_file-file.ensures.left.1 c.in-Some-find.i found.1;
     }
@@ -38,7 +40,7 @@ unreachable-requires c =
     let left = c.down.invariant.left in let file = c.take_file-file.result in
     let only = taken_file tables answers left file c.take_file-file.ensures.taken in
     let (others, uses) = rw c.deref.ensures.value at c.in-Some.ensures in
-    let found = rw c.down.invariant.answers at (rw c.deref-in-down.ensures.value at c.in_default-find.ensures) in
+    let found = found_at c.args.self c.requires.table c.in-Some.last.now _ None c.down.invariant.indices c.in_default-find.ensures in
     answered tables answers left file only c.push.new.self.items c.in_ok-layer.layer c.in_ok-push.ensures.items c.in_ok-layer.ensures others c.in-Some.last.now uses found
 
 pub of-requires : goal.of-requires

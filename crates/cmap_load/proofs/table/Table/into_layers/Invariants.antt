@@ -6,6 +6,7 @@ use Rattle.cmap_load.proofs.table.Table.into_layers.Given as goal
 abbrev pub invariant-down : goal.invariant-down
 invariant-down l = record {
   answers : l.self.answers ≡ l.initial.self.answers;
+  indices : l.self.indices ≡ l.initial.self.indices;
   left : Left (tables_of l.initial.self) (given l.initial.self) l.self.files.items l.layers.items l.at;
 }
 

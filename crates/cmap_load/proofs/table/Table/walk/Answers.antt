@@ -53,10 +53,13 @@ returns-in_default c = λ first begin.
     let has = c.in-Stuck.ensures bytes there in let stuck = c.in-Stuck.stuck in
     let some = so_far.some in let other = c.if-most-eq1.false in
     let more : 1 < c.down.most = omega (arith, some, other) in
-    let left = IsLeft-less table.budget c.down.left stuck.left (sum (length bytes ∷ has.lengths)) so_far.left has.leaves in
-    awaiting table first c.down.most (names_seen c.down.names.items) c.down.left bytes (leads first begin) stuck has
-    (names_seen c.push.new.self.items) (names_pushed c.down.names.items c.push.new.self.items stuck.name c.in_ok-push-in-Stuck.ensures.items)
-    c.down.at so_far.at there more (rw c.in_default.is at has.found) left _ refl refl refl
+    let left = IsLeft-less table.budget c.down.left stuck.left (sum (length bytes ∷ has.lengths)) so_far.left has.leaves in (
+      so_far.at,
+      (bytes, there, (has.uses.file, has.uses.only, has.before)),
+      awaiting table first c.down.most (names_seen c.down.names.items) c.down.left bytes (leads first begin) stuck has
+          (names_seen c.push.new.self.items) (names_pushed c.down.names.items c.push.new.self.items stuck.name c.in_ok-push-in-Stuck.ensures.items)
+          c.down.at so_far.at there more (rw c.in_default.is at has.found) left _ refl refl refl,
+    )
 
 pub down-preserved : goal.down-preserved
 down-preserved c =

@@ -1,0 +1,47 @@
+use Rattle.std.proofs.Common.{◌≡◌, arith, subst, sym, ◌≤◌, length}
+use Rattle.std.proofs.Math.ListN.{length-map}
+use Rattle.std.proofs.lemmas.Option.{slice_get_read}
+use Rattle.cmap_values.specs.NamesSeen.{names_seen}
+use Rattle.cmap_load.specs.Loading.{ArePassed, IsStuckAt}
+use Rattle.cmap_load.proofs.Passing.{all_passed, count_within, first_left, rest_of, stuck_after}
+use Rattle.cmap_load.proofs.table.Table.pass_all.Goals as goal
+
+pub pass-requires-clause-left : goal.pass-requires-clause-left
+pass-requires-clause-left c =
+    let table = c.args.self.now in let file = c.index.result.now in
+    let there = slice_get_read table.files.items _ c.args.at file (sym c.requires.table.files) c.requires.at c.index.ensures in
+    first_left table c.args.room _ c.args.left c.first_uses-firsts.new.left c.first_uses-firsts.result (c.first_uses-firsts.ensures file there) c.requires.left
+
+pub overflow_add-before : goal.overflow_add-before
+overflow_add-before c =
+    let table = c.args.self.now in let file = c.index.result.now in let firsts = c.first_uses-firsts.result in
+    let there = slice_get_read table.files.items _ c.args.at file (sym c.requires.table.files) c.requires.at c.index.ensures in
+    let are = c.first_uses-firsts.ensures file there in
+    let rest = rest_of table.files.items c.args.at firsts.count file file c.deref.result.now there there c.deref.ensures.value in
+    let stuck = subst (λ l. IsStuckAt table c.args.room l c.first_uses-firsts.new.left c.in-Stuck.stuck) rest c.in-Stuck.ensures in
+    let within = count_within table c.args.room _ c.args.left c.first_uses-firsts.new.left firsts are c.in-Stuck.stuck stuck in
+    let long : length (names_seen file.uses.items) ≡ length file.uses.items = simp length-map in
+    omega (arith, within, long, file.uses.ok.0, file.uses.ok.1, file.uses.small)
+
+pub returns-in-All : goal.returns-in-All
+returns-in-All c = λ file there.
+    let table = c.args.self.now in let firsts = c.first_uses-firsts.result in
+    let here = slice_get_read table.files.items _ c.args.at c.index.result.now (sym c.requires.table.files) c.requires.at c.index.ensures in
+    let are = c.first_uses-firsts.ensures file there in
+    let rest = rest_of table.files.items c.args.at firsts.count c.index.result.now file c.deref.result.now here there c.deref.ensures.value in
+    let passed = c.in-All.ensures in let high = c.max.ensures in
+    let few : c.max.result ≤ c.args.room = omega (arith, high, passed.0, are.high) in (
+      few,
+      all_passed table c.args.room _ c.args.left c.first_uses-firsts.new.left firsts are c.in-All.highest c.max.result c.in-All.after (omega (arith, high)) (omega (arith, high))
+          (subst (λ l. ArePassed table c.in-All.highest l c.first_uses-firsts.new.left c.in-All.after) rest passed.1),
+    )
+
+pub returns-in-Stuck : goal.returns-in-Stuck
+returns-in-Stuck c = λ file there.
+    let table = c.args.self.now in let firsts = c.first_uses-firsts.result in
+    let here = slice_get_read table.files.items _ c.args.at c.index.result.now (sym c.requires.table.files) c.requires.at c.index.ensures in
+    let are = c.first_uses-firsts.ensures file there in
+    let rest = rest_of table.files.items c.args.at firsts.count c.index.result.now file c.deref.result.now here there c.deref.ensures.value in
+    let stuck = subst (λ l. IsStuckAt table c.args.room l c.first_uses-firsts.new.left c.in-Stuck.stuck) rest c.in-Stuck.ensures in
+    let high = c.max-in-Stuck.ensures in
+    stuck_after table c.args.room _ c.args.left c.first_uses-firsts.new.left firsts are c.in-Stuck.stuck stuck c.max-in-Stuck.result c.spent.result (omega (arith, high)) (omega (arith, high)) (omega (arith, high, stuck.high, are.high)) c.spent.ensures
