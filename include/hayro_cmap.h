@@ -20,9 +20,9 @@
  *   calls, if the old place is never used again, or is set to HAYRO_CMAP_EMPTY.
  * - One call at a time uses a handle: even a lookup in a map, reading a file over a bundle, or encoding a
  *   text counts as a write to the handle, though not to the map, the bundle or the encoder. Any number of
- *   threads may use one of these at once, each through a handle of its own, which hayro_cmap_share,
- *   hayro_cmap_bundle_share and hayro_cmap_encoder_share make. A handle may move to another thread if a
- *   lock, or the start or the join of a thread, orders the calls.
+ *   threads may use one map, bundle or encoder at once, each through a handle of its own, which
+ *   hayro_cmap_share, hayro_cmap_bundle_share and hayro_cmap_encoder_share make. A handle may move to
+ *   another thread if a lock, or the start or the join of a thread, orders the calls.
  * - No pointer is null, not even with the length 0; this includes pointers in a hayro_cmap_file, a
  *   hayro_cmap_declaration and a hayro_cmap_facts. If a pointer may be null, hayro_cmap_bytes,
  *   hayro_cmap_files, hayro_cmap_room, hayro_cmap_declarations, hayro_cmap_chosen and hayro_cmap_shown
@@ -37,9 +37,9 @@
  *   `offset`, `made`, `taken`, `found`, `names`, `extracted`, and `fault` of hayro_cmap_explain), may hold
  *   anything, such as an uninitialised variable or a fresh block of malloc: no answer depends on it. What
  *   a call doesn't write stays as it is.
- * - If a call writes to the target of one parameter, this doesn't overlap the target of another one. The
- *   bytes of a file, of a bundle and of names are read only during the call, and nobody writes to them
- *   meanwhile. They need not stay after it.
+ * - If a call writes to the target of one parameter, this target doesn't overlap the target of another
+ *   one. The bytes of a file, of a bundle and of names are read only during the call, and nobody writes to
+ *   them meanwhile. After the call they need not stay.
  * - Each handle that isn't empty is freed once, or memory is lost. Freeing an empty handle does nothing.
  * - malloc, realloc and free come from one allocator, which aligns blocks as C requires.
  * - No call is made from a signal handler, nor in the forked child of a process with threads. */
@@ -56,8 +56,11 @@ extern "C" {
 
 /* The version of this header; hayro_cmap_version gives the version of the library. */
 #define HAYRO_CMAP_VERSION "1.0.0"
+/* The first number of the version. */
 #define HAYRO_CMAP_VERSION_MAJOR 1
+/* The second number of the version. */
 #define HAYRO_CMAP_VERSION_MINOR 0
+/* The third number of the version. */
 #define HAYRO_CMAP_VERSION_PATCH 0
 
 /* A map, or none. */
@@ -73,7 +76,7 @@ typedef struct hayro_cmap_bundle {
     void *bundle;
 } hayro_cmap_bundle;
 
-/* An encoder of a font, or none: it finds the strings that are read as texts. */
+/* An encoder of a font, or none: it finds the string of codes for a text. */
 typedef struct hayro_cmap_encoder {
     bool full;
     void *encoder;
@@ -111,15 +114,15 @@ typedef struct hayro_cmap_character {
 /* How far a string is extracted. */
 typedef struct hayro_cmap_extracted {
     size_t made;  /* how many codes are written */
-    size_t taken; /* how many bytes of the string they have */
+    size_t taken; /* how many bytes of the string these codes have */
     size_t used;  /* how many bytes their texts have in UTF-8 */
 } hayro_cmap_extracted;
 
-/* A codespace range: codes of `byte_len` bytes, each byte between those of `low` and `high`. */
+/* A codespace range: codes of `byte_len` bytes, each byte between the bytes of `low` and `high` at its place. */
 typedef struct hayro_cmap_codespace {
     uint32_t low;
     uint32_t high;
-    uint32_t byte_len; /* 1 to 4 */
+    uint32_t byte_len; /* how many bytes the codes have, 1 to 4 */
 } hayro_cmap_codespace;
 
 /* A declaration of CIDs for the codes from `first` to `last`; for none if `first` is greater. */
@@ -147,17 +150,16 @@ typedef enum hayro_cmap_grade {
     HAYRO_CMAP_GRADE_STATED = 0,     /* the ToUnicode CMap has the piece as the text of the code */
     HAYRO_CMAP_GRADE_CANONICAL = 1,  /* the code has the CID that the map from Unicode gives to the character */
     HAYRO_CMAP_GRADE_COLLECTION = 2, /* the map of the collection has the piece as the text of the code's CID */
-    HAYRO_CMAP_GRADE_ALIKE = 3,      /* the code shows a text that looks or means the same; or nothing stands
-                                        for a variation selector */
-    HAYRO_CMAP_GRADE_NATIONAL = 4    /* the code is the byte of a character of ASCII that a national version
-                                        of ISO 646 shows otherwise */
+    HAYRO_CMAP_GRADE_ALIKE = 3,      /* the code shows a text that looks or means the same; or a variation
+                                        selector gets no code */
+    HAYRO_CMAP_GRADE_NATIONAL = 4    /* the code is the byte of an ASCII character that a national version
+                                        of ISO 646 shows as another character */
 } hayro_cmap_grade;
 
-/* A piece of a text, and what stands for it in the string. */
+/* A piece of a text, and its code in the string. */
 typedef struct hayro_cmap_piece {
-    size_t text_len;   /* how many bytes it has in UTF-8 */
-    uint32_t code_len; /* how many bytes its code has, 1 to 4; 0 where nothing stands for a variation
-                          selector */
+    size_t text_len;   /* how many bytes the piece has in UTF-8 */
+    uint32_t code_len; /* how many bytes its code has, 1 to 4; 0 for a variation selector without a code */
     uint32_t grade;    /* a hayro_cmap_grade */
 } hayro_cmap_piece;
 
@@ -165,14 +167,14 @@ typedef struct hayro_cmap_piece {
 typedef struct hayro_cmap_codes {
     uint32_t first;
     uint32_t last;
-    uint32_t byte_len; /* 1 to 4 */
+    uint32_t byte_len; /* how many bytes the codes have, 1 to 4 */
 } hayro_cmap_codes;
 
 /* What a declaration gives its codes. */
 typedef enum hayro_cmap_kind {
-    HAYRO_CMAP_CODESPACE_RANGE = 0, /* they are codes, each byte between those of `first` and `last` */
+    HAYRO_CMAP_CODESPACE_RANGE = 0, /* a codespace range: each byte between those of `first` and `last` */
     HAYRO_CMAP_CID_RANGE = 1,       /* CIDs, which count on from `cid` */
-    HAYRO_CMAP_NOTDEF_RANGE = 2,    /* the CID `cid` for each that has no other */
+    HAYRO_CMAP_NOTDEF_RANGE = 2,    /* the CID `cid` for each code that has no other */
     HAYRO_CMAP_TEXT_RANGE = 3       /* texts, whose last unit of UTF-16 counts on from that of `text` */
 } hayro_cmap_kind;
 
@@ -324,40 +326,45 @@ typedef struct hayro_cmap_finding {
     uint32_t first_shown; /* the lowest of the shown codes; 0 if `shown` is 0 */
 } hayro_cmap_finding;
 
-/* A pointer cast to this type, without a warning of compilers for C++ about a cast of C. */
+/* Casts a pointer to a type, without a warning of C++ compilers about C casts. */
 #ifdef __cplusplus
 #define HAYRO_CMAP_AS(type, pointer) static_cast<type>(pointer)
 #else
 #define HAYRO_CMAP_AS(type, pointer) ((type)(pointer))
 #endif
 
-/* The pointer itself, or if it is null another one, for use with the length 0. */
+/* The pointer to bytes itself; if it is null, a pointer for use with the length 0. */
 static inline const uint8_t *hayro_cmap_bytes(const void *bytes) {
     static const uint8_t none = 0;
     return bytes ? HAYRO_CMAP_AS(const uint8_t *, bytes) : &none;
 }
 
+/* The same for files. */
 static inline const hayro_cmap_file *hayro_cmap_files(const hayro_cmap_file *files) {
     static const hayro_cmap_file none = {NULL, 0, NULL, 0};
     return files ? files : &none;
 }
 
+/* The same for declarations. */
 static inline const hayro_cmap_declaration *
 hayro_cmap_declarations(const hayro_cmap_declaration *declarations) {
     static const hayro_cmap_declaration none = {0, 0, 0, 0, 0, NULL, 0};
     return declarations ? declarations : &none;
 }
 
+/* The same for the codes of hayro_cmap_write. */
 static inline const hayro_cmap_codes *hayro_cmap_chosen(const hayro_cmap_codes *codes) {
     static const hayro_cmap_codes none = {0, 0, 0};
     return codes ? codes : &none;
 }
 
+/* The same for the shown codes of hayro_cmap_lint. */
 static inline const uint32_t *hayro_cmap_shown(const uint32_t *codes) {
     static const uint32_t none = 0;
     return codes ? codes : &none;
 }
 
+/* The same for a buffer. */
 static inline uint8_t *hayro_cmap_room(void *room) {
     static uint8_t none;
     return room ? HAYRO_CMAP_AS(uint8_t *, room) : &none;
@@ -370,23 +377,24 @@ static inline uint8_t *hayro_cmap_room(void *room) {
 
 /* Reads the CMap file `data`, a text or, with a bundle, also a binary file.
  *
- * A file that it uses is the first of `files` with the name, otherwise that of the bundle; Identity-H and
- * Identity-V need none. The file is refused if it or a file that it uses is outside the grammar, if a use
- * has no file, and if the sixteenth file of a chain uses another one. A bundle of the length 0 is none.
+ * A used file is the first of `files` with the name, otherwise the file of the bundle; Identity-H and
+ * Identity-V need no file. The file is refused if it or a file that it uses is outside the grammar, if a
+ * use has no file, and if the sixteenth file of a chain uses another one. A bundle of the length 0 means no
+ * bundle.
  *
  * The opened files together may have at most `budget` bytes: `data`, and each file that is used, as often
  * as it is used. Files of the bundle count only if they are used. If no file has their names, Identity-H
  * and Identity-V count 177 bytes each.
  *
  * The map that the handle held is freed. With HAYRO_CMAP_OK the handle has the new map, else it is empty.
- * The status is one of the first five. */
+ * The status is one of the first five of hayro_cmap_status. */
 hayro_cmap_status hayro_cmap_parse(hayro_cmap *map, const uint8_t *data, size_t data_len,
                                    const uint8_t *bundle, size_t bundle_len,
                                    const hayro_cmap_file *files, size_t files_len,
                                    uint64_t budget);
 
 /* Reads the CMap file `data` as hayro_cmap_parse does, over an open bundle; an empty handle stands for no
- * bundle. The status is one of the first four. */
+ * bundle. The status is one of the first four of hayro_cmap_status. */
 hayro_cmap_status hayro_cmap_parse_over(hayro_cmap *map, const uint8_t *data, size_t data_len,
                                         hayro_cmap_bundle *bundle,
                                         const hayro_cmap_file *files, size_t files_len,
@@ -405,13 +413,14 @@ hayro_cmap_status hayro_cmap_explain(hayro_cmap *map, const uint8_t *data, size_
                                      uint64_t budget, hayro_cmap_fault *fault,
                                      uint8_t *room, size_t room_len, size_t *needed);
 
-/* Reads the CMap file `data`, and those that it uses, past their faults: the map of what they say, and each
- * fault, those of a file once. Of a file that hayro_cmap_explain accepts it gives the same map and no
- * fault; of another one the first fault is one for which that is refused, or in a text in rows one before
- * it. docs/FORMATS.md says how reading goes on.
+/* Reads the CMap file `data`, and the files that it uses, past their faults. It gives the map of everything
+ * else, and each fault; the faults of each file are listed once. For a file that hayro_cmap_explain accepts,
+ * the map is the same and there is no fault. For any other file, the first fault is one for which
+ * hayro_cmap_explain refuses the file, or in a text in rows an earlier one. docs/FORMATS.md defines how
+ * reading goes on.
  *
  * With HAYRO_CMAP_OK the handle has a map. `found` is the number of faults, and `faults` begins with as
- * many of them as fit. The names that lead to the files at fault are written to `room`, those of the
+ * many of them as fit. The names that lead to the files at fault are written to `room`, the names of the
  * first fault first, all or none of them; `needed` is their number of bytes. With HAYRO_CMAP_NO_MEMORY,
  * the only other status, the handle is empty and nothing is written. */
 hayro_cmap_status hayro_cmap_salvage(hayro_cmap *map, const uint8_t *data, size_t data_len,
@@ -576,15 +585,23 @@ hayro_cmap_mode hayro_cmap_writing_mode(hayro_cmap *map);
  * on, and so on. An empty handle has none. */
 size_t hayro_cmap_layers(hayro_cmap *map);
 
-/* The metadata of the file of a layer; the five calls above give those of layer 0. A missing layer has
- * none. */
+/* The name of the file of a layer. The five calls above give the metadata of layer 0, and these five calls of
+ * any layer; a missing layer has none. */
 hayro_cmap_status hayro_cmap_layer_name(hayro_cmap *map, size_t layer, uint8_t *room,
                                         size_t room_len, size_t *needed);
+
+/* The registry of a layer, as of hayro_cmap_registry. */
 hayro_cmap_status hayro_cmap_layer_registry(hayro_cmap *map, size_t layer, uint8_t *room,
                                             size_t room_len, size_t *needed);
+
+/* The ordering of a layer, as of hayro_cmap_ordering. */
 hayro_cmap_status hayro_cmap_layer_ordering(hayro_cmap *map, size_t layer, uint8_t *room,
                                             size_t room_len, size_t *needed);
+
+/* Whether a layer has a character collection, as hayro_cmap_supplement. */
 bool hayro_cmap_layer_supplement(hayro_cmap *map, size_t layer, int32_t *supplement);
+
+/* The writing mode of a layer. */
 hayro_cmap_mode hayro_cmap_layer_writing_mode(hayro_cmap *map, size_t layer);
 
 /* The writing mode of a font's strings: that of the first layer that gives one, otherwise
@@ -605,13 +622,14 @@ hayro_cmap_status hayro_cmap_codespaces(hayro_cmap *map, size_t layer,
                                         hayro_cmap_codespace *ranges, size_t ranges_len,
                                         size_t *needed);
 
-/* The declarations of CIDs of a layer, and of notdefs, for codes of `byte_len` bytes, in the order of its
- * file; written like codespace ranges. From code to code the CID of a declaration counts on, and all codes
- * of a notdef have the same one. If several declarations of a kind contain a code, the last one decides.
- * For a length outside 1 to 4 there are none. */
+/* The declarations of CIDs of a layer for codes of `byte_len` bytes, in the order of its file; written like
+ * codespace ranges. From code to code the CID of a declaration counts on. If several declarations contain a
+ * code, the last one decides. For a length outside 1 to 4 there are none. */
 hayro_cmap_status hayro_cmap_cid_ranges(hayro_cmap *map, size_t layer, uint8_t byte_len,
                                         hayro_cmap_cid_range *ranges, size_t ranges_len,
                                         size_t *needed);
+
+/* The same for declarations of notdefs, whose codes all have the same CID. */
 hayro_cmap_status hayro_cmap_notdef_ranges(hayro_cmap *map, size_t layer, uint8_t byte_len,
                                            hayro_cmap_cid_range *ranges, size_t ranges_len,
                                            size_t *needed);
@@ -652,9 +670,10 @@ hayro_cmap_status hayro_cmap_make(const hayro_cmap_facts *facts,
                                   size_t declarations_len, uint8_t *room, size_t room_len,
                                   size_t *needed);
 
-/* Writes the map as one CMap file, which uses no other: its text, with the answers of the map for each code.
- * With `codes`, it has answers only for these; no `codes` stand for all. The text has a line for each row of
- * 256 codes: CIDs for all codes of four bytes take half a gigabyte, whatever the budget of the map was.
+/* Writes the map as the text of one CMap file, which uses no other and has the answers of the map for each
+ * code. With `codes`, it has answers only for these codes; a length of 0 stands for all codes. The text has a
+ * line for each row of 256 codes: CIDs for all codes of four bytes take half a gigabyte, whatever the budget
+ * of the map was.
  *
  * The text is written like that of hayro_cmap_make. With HAYRO_CMAP_REFUSED no single file has these
  * answers, for example because a layer gives a code a text of one character above a layer that gives it a
@@ -665,7 +684,7 @@ hayro_cmap_status hayro_cmap_write(hayro_cmap *map, const hayro_cmap_codes *code
 
 /* Makes the encoder of a font. `encoding`, `to_unicode` and `collection` are the maps of the font, as for
  * hayro_cmap_extract; the encoder doesn't keep them. A simple font has codes of one byte: its `encoding` is the
- * map of a file with only the codespace range <00> <FF>.
+ * map of a file with only the codespace range from 00 to FF.
  *
  * The encoder that the handle held is freed. With HAYRO_CMAP_OK the handle has the new one, else it is empty. An
  * empty `encoding` gives HAYRO_CMAP_ABSENT; the other status is HAYRO_CMAP_NO_MEMORY. */
@@ -681,8 +700,8 @@ hayro_cmap_status hayro_cmap_encoder_build_with(hayro_cmap_encoder *encoder, hay
                                                 hayro_cmap *to_unicode, hayro_cmap *collection,
                                                 hayro_cmap *unicode, bool exact);
 
-/* The name of the map from Unicode, in UTF-16, to the CIDs of a character collection, whose registry and ordering
- * are joined, such as Adobe-Japan1. This one has UniJIS-UTF16-H, and UniJIS-UTF16-V if `mode` is
+/* The name of the map from Unicode, in UTF-16, to the CIDs of a character collection. `collection` is its registry
+ * and ordering, joined, such as Adobe-Japan1, whose map is UniJIS-UTF16-H, or UniJIS-UTF16-V if `mode` is
  * HAYRO_CMAP_VERTICAL. If the name of the font's CMap begins with Uni, use that CMap itself.
  *
  * The name is written like the text of hayro_cmap_text. HAYRO_CMAP_ABSENT except for Japan1, GB1, CNS1, Korea1,
@@ -698,11 +717,12 @@ void hayro_cmap_encoder_free(hayro_cmap_encoder *encoder);
 
 /* The string of the font for a text in UTF-8: the codes of its pieces. A piece is a letter (a character and the
  * marks after it), if the letter has a code and the rest can be encoded; otherwise a part of the letter, and as a
- * last resort more than it. The code of a piece lies in a codespace range, is no notdef, and has the best
- * hayro_cmap_grade; of several with a grade up to HAYRO_CMAP_GRADE_COLLECTION it is the shortest, and of these the
- * least, but of those with HAYRO_CMAP_GRADE_CANONICAL first the character itself in the form of the map from
- * Unicode, and of a glyph that the collection's map reads as another character the last. The time grows with the
- * characters of the text, times at most those of the longest text of a code.
+ * last resort more than the letter. The code of a piece lies in a codespace range, is no notdef, and has the best
+ * hayro_cmap_grade. Of several codes with one grade up to HAYRO_CMAP_GRADE_COLLECTION the shortest is taken, and of
+ * these the least. There are two exceptions for HAYRO_CMAP_GRADE_CANONICAL: the character itself, in the form of the
+ * map from Unicode, comes first; and if the collection's map reads the glyph as another character, the last code of
+ * the glyph is taken. The time grows with the characters of the text, times at most the number of characters of the
+ * longest text of a code.
  *
  * With HAYRO_CMAP_OK the string is at the head of the buffer `room`, and `needed` is its number of bytes. With
  * HAYRO_CMAP_NO_ROOM `needed` is this number, and the buffer is unchanged. With HAYRO_CMAP_REFUSED the text can't be
@@ -719,10 +739,10 @@ hayro_cmap_status hayro_cmap_encode_pieces(hayro_cmap_encoder *encoder, const ui
                                            size_t pieces_len, size_t *needed, size_t *offset);
 
 /* The string of a text as far as it can be encoded: the longest prefix that can be, then the bytes of `missing` for
- * the character after it, such as 3F for a question mark, and so on for the rest of the text; written like that of
- * hayro_cmap_encode. `missing` must be empty or whole codes of the font, since other bytes may change how those
- * after them are read. With HAYRO_CMAP_REFUSED it isn't, or the text isn't UTF-8, and nothing is written; an empty
- * text is refused only for `missing`. */
+ * the character after it, such as 3F for a question mark, and so on for the rest of the text. It is written like the
+ * string of hayro_cmap_encode. `missing` must be empty or whole codes of the font, since other bytes may change how
+ * later bytes are read. With HAYRO_CMAP_REFUSED `missing` isn't, or the text isn't UTF-8, and nothing is written; an
+ * empty text is refused only for `missing`. */
 hayro_cmap_status hayro_cmap_encode_lossy(hayro_cmap_encoder *encoder, const uint8_t *text,
                                           size_t text_len, const uint8_t *missing, size_t missing_len,
                                           uint8_t *room, size_t room_len, size_t *needed);

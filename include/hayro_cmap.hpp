@@ -5,8 +5,9 @@
 //     else if (auto cid = map->cid(0x3042, 2)) std::cout << *cid << '\n';
 //
 // The classes wrap hayro_cmap.h and free what they own. A refused file is a value. If memory runs out,
-// std::bad_alloc is thrown; predefined_file and encode_lossy say what else they throw. Without exceptions,
-// as with -fno-exceptions, the program is aborted in these cases. What is noexcept allocates nothing.
+// std::bad_alloc is thrown; predefined_file and encode_lossy also throw other exceptions. Without
+// exceptions, as with -fno-exceptions, the program is aborted in these cases. Calls that are noexcept
+// allocate nothing.
 //
 // - A Map, a Bundle or an Encoder can be moved but not copied. A moved-from one is empty, and has no
 //   answers.
@@ -62,9 +63,9 @@ inline constexpr int most_files = 16;
 
 // What a declaration gives its codes.
 enum class Kind : std::uint16_t {
-    codespace_range = HAYRO_CMAP_CODESPACE_RANGE, // they are codes, each byte between those of two
+    codespace_range = HAYRO_CMAP_CODESPACE_RANGE, // a codespace range, byte by byte
     cid_range = HAYRO_CMAP_CID_RANGE,             // CIDs that count on
-    notdef_range = HAYRO_CMAP_NOTDEF_RANGE,       // one CID for all that have no other
+    notdef_range = HAYRO_CMAP_NOTDEF_RANGE,       // one CID for all codes that have no other
     text_range = HAYRO_CMAP_TEXT_RANGE            // texts whose last unit of UTF-16 counts on
 };
 
@@ -75,8 +76,8 @@ enum class Grade : std::uint32_t {
     stated = HAYRO_CMAP_GRADE_STATED,         // the ToUnicode CMap has the piece as the text of the code
     canonical = HAYRO_CMAP_GRADE_CANONICAL,   // the code has the CID that the map from Unicode gives
     collection = HAYRO_CMAP_GRADE_COLLECTION, // the map of the collection has the piece for the code's CID
-    alike = HAYRO_CMAP_GRADE_ALIKE,           // it shows a text that looks or means the same, or is no code
-    national = HAYRO_CMAP_GRADE_NATIONAL      // a byte of ASCII that a national version shows otherwise
+    alike = HAYRO_CMAP_GRADE_ALIKE,           // the code shows a text that looks or means the same, or is none
+    national = HAYRO_CMAP_GRADE_NATIONAL      // the ASCII byte that a national version shows otherwise
 };
 
 // What is wrong with the file at fault.
@@ -198,6 +199,7 @@ public:
     // It is never null.
     const std::uint8_t *data() const noexcept { return bytes_.data(); }
     std::size_t size() const noexcept { return bytes_.size(); }
+    // The string without its first bytes.
     CodeString after(std::size_t count) const noexcept { return {data() + count, size() - count}; }
 
 private:
@@ -218,9 +220,11 @@ public:
         for (const auto &[name, bytes] : files) add(name, bytes);
     }
 
+    // Adds a file.
     void add(Bytes name, Bytes bytes) {
         files_.push_back({name.data(), name.size(), bytes.data(), bytes.size()});
     }
+    // The first file of this name.
     std::optional<Bytes> find(Bytes name) const noexcept {
         for (const auto &file : files_)
             if (Bytes(file.name, file.name_len).text() == name.text())
@@ -332,7 +336,7 @@ inline std::optional<WritingMode> mode_of(hayro_cmap_mode mode) noexcept {
 // Predefined CMap files, which other files use by name, and the tables of the binary form.
 class Bundle {
 public:
-    // None.
+    // No bundle.
     Bundle() noexcept = default;
 
     // The bundle of these bytes, which need not stay; nothing if they are invalid.
@@ -357,6 +361,7 @@ public:
         });
     }
 
+    // Whether there is no bundle.
     bool empty() const noexcept { return !handle_.get()->full; }
 
     // For the calls of hayro_cmap.h. The bundle still owns it.
@@ -372,6 +377,7 @@ public:
     Refusal(const hayro_cmap_fault &fault, std::string_view names)
         : fault_(fault), names_(detail::split(names, {fault.name_lens, fault.names})) {}
 
+    // What is wrong with the file at fault.
     Cause cause() const noexcept { return static_cast<Cause>(fault_.cause); }
 
     // For a malformed file; otherwise Reason::none.
@@ -463,7 +469,7 @@ struct Declaration {
     std::string text; // the text of `first`, in UTF-8
 };
 
-// What the codes of a font stand for.
+// The map of a CMap file: CIDs and texts for the codes of a font.
 class Map {
 public:
     // An empty map, which has no answers.
@@ -475,6 +481,7 @@ public:
     // count only if they are used. If no file has their names, Identity-H and Identity-V count 177 bytes
     // each.
     static Result parse(Bytes data, const Files &files = {}, std::uint64_t budget = no_budget);
+    // The same over an open bundle.
     static Result parse(Bytes data, Bundle &bundle, const Files &files = {},
                         std::uint64_t budget = no_budget);
 
@@ -482,6 +489,7 @@ public:
     // name.
     static std::optional<Result> open(Bytes name, const Files &files = {},
                                       std::uint64_t budget = no_budget);
+    // The same over an open bundle.
     static std::optional<Result> open(Bytes name, Bundle &bundle, const Files &files = {},
                                       std::uint64_t budget = no_budget);
 
@@ -493,9 +501,10 @@ public:
     // Reads the predefined CMap file of a name and the files that it uses, as predefined_file finds them.
     static std::optional<Result> open_predefined(const std::string &name);
 
-    // Reads a file and the files that it uses past their faults: the map of what they say, and each fault.
-    // For a file that parse accepts it is the same map, without a fault.
+    // Reads a file and the files that it uses past their faults: the map of everything else, and each fault.
+    // For a file that parse accepts, the map is the same, without a fault.
     static Salvaged salvage(Bytes data, const Files &files = {}, std::uint64_t budget = no_budget);
+    // The same over an open bundle.
     static Salvaged salvage(Bytes data, Bundle &bundle, const Files &files = {},
                             std::uint64_t budget = no_budget);
 
@@ -507,6 +516,7 @@ public:
                                                     bundle.data(), bundle.size(), files.data(),
                                                     files.size(), budget));
     }
+    // The same over an open bundle.
     Status read_over(Bytes data, Bundle &bundle, const Files &files = {},
                      std::uint64_t budget = no_budget) {
         return detail::with_memory(hayro_cmap_parse_over(handle(), data.data(), data.size(),
@@ -528,6 +538,7 @@ public:
         return other;
     }
 
+    // Whether there is no map.
     bool empty() const noexcept { return !handle_.get()->full; }
 
     // The CID of a code of `byte_len` bytes. Codespace ranges are ignored.
@@ -581,14 +592,18 @@ public:
         });
     }
 
-    // The metadata of the file.
+    // The name of the file.
     std::optional<std::string> name() { return text_of(hayro_cmap_name); }
+    // The registry of the file's character collection, such as Adobe.
     std::optional<std::string> registry() { return text_of(hayro_cmap_registry); }
+    // The ordering of the file's character collection, such as Japan1.
     std::optional<std::string> ordering() { return text_of(hayro_cmap_ordering); }
+    // The supplement of the file's character collection.
     std::optional<std::int32_t> supplement() noexcept {
         std::int32_t number;
         return hayro_cmap_supplement(handle(), &number) ? std::optional(number) : std::nullopt;
     }
+    // The writing mode of the file.
     std::optional<WritingMode> writing_mode() noexcept {
         return detail::mode_of(hayro_cmap_writing_mode(handle()));
     }
@@ -598,8 +613,8 @@ public:
         return mode.value_or(WritingMode::horizontal);
     }
 
-    // The layers: layer 0 is the file itself, layer 1 the file that it is based on, and so on. It is a view,
-    // and also a number: how many there are.
+    // The layers: layer 0 is the file itself, layer 1 the file that it is based on, and so on. The result is a
+    // view, and converts to the number of layers.
     Layers layers() & noexcept;
     Layers layers() && = delete;
 
@@ -691,14 +706,19 @@ class Layer {
 public:
     Layer(Map &map, std::size_t index) noexcept : map_(&map), index_(index) {}
 
+    // The metadata of the file.
     Metadata metadata() const { return map_->metadata(index_); }
+    // The codespace ranges, in order.
     std::vector<Codespace> codespaces() const { return map_->codespaces(index_); }
+    // The declarations of CIDs for codes of `byte_len` bytes.
     std::vector<CidRange> cid_ranges(std::uint8_t byte_len) const {
         return map_->cid_ranges(byte_len, index_);
     }
+    // The declarations of notdefs for codes of `byte_len` bytes.
     std::vector<CidRange> notdef_ranges(std::uint8_t byte_len) const {
         return map_->notdef_ranges(byte_len, index_);
     }
+    // The declarations of texts.
     std::vector<TextRange> text_ranges() const { return map_->text_ranges(index_); }
 
 private:
@@ -706,7 +726,7 @@ private:
     std::size_t index_;
 };
 
-// The layers of a map, which must stay.
+// The layers of a map. It is a view: the map must stay.
 class Layers {
 public:
     explicit Layers(Map &map) noexcept : map_(&map), size_(hayro_cmap_layers(map.handle())) {}
@@ -750,10 +770,10 @@ private:
 
 inline Layers Map::layers() & noexcept { return Layers(*this); }
 
-// The text of a CMap file with these declarations, in the fewest that give each code the same, and with this
-// metadata; a registry without an ordering is left out, and so is an ordering without a registry. Nothing if no
-// file can express it: a code length outside 1 to 4, a text that is empty or isn't UTF-8, a code that doesn't fit
-// in its length, or a name with a byte that no name has.
+// The text of a CMap file with this metadata, and with the fewest declarations that give each code the same as
+// these. A registry without an ordering is left out, and so is an ordering without a registry. Nothing if no file
+// can express it: a code length outside 1 to 4, a text that is empty or isn't UTF-8, a code that doesn't fit in
+// its length, or a name with a byte that no name has.
 inline std::optional<std::string> make(const Metadata &metadata,
                                        const std::vector<Declaration> &declarations) {
     const std::string none;
@@ -779,8 +799,8 @@ inline std::optional<std::string> make(const Metadata &metadata,
     });
 }
 
-// The text of one CMap file that answers each code as the map does, or if `codes` has some only these. Nothing if
-// no single file has these answers, or the map is empty.
+// The text of one CMap file that has the answers of the map for each code, or only for `codes`, if these aren't
+// empty. Nothing if no single file has these answers, or the map is empty.
 inline std::optional<std::string> write(Map &map, const std::vector<Codes> &codes = {}) {
     return detail::written([&](auto room, auto len, auto needed) {
         return hayro_cmap_write(map.handle(), hayro_cmap_chosen(codes.data()), codes.size(), room, len,
@@ -813,12 +833,13 @@ struct FoundCollection {
     std::optional<Refusal> refusal; // of the first file that is refused
 };
 
-// The maps of a font, by which the texts of its strings are found (ISO 32000-1, 9.10.2): its CMap, its ToUnicode
-// CMap, and a map from the CIDs of its character collection to Unicode. From the fourth map, one from Unicode to
-// CIDs, an Encoder takes the glyphs of characters. An empty map stands for a missing one. If one map serves twice,
-// share() gives another object of it.
+// The maps of a font, which give the texts of its strings (ISO 32000-1, 9.10.2): its CMap, its ToUnicode CMap, and a
+// map from the CIDs of its character collection to Unicode. The fourth map, from Unicode to CIDs, gives an Encoder
+// the glyphs of characters. An empty map stands for a missing one. If one map serves twice, share() gives another
+// object of it.
 class Extractor {
 public:
+    // Takes these maps.
     explicit Extractor(Map encoding, Map to_unicode = {}, Map collection = {},
                        Map unicode = {}) noexcept
         : encoding_(std::move(encoding)), to_unicode_(std::move(to_unicode)),
@@ -832,6 +853,7 @@ public:
     // the encoding itself if its name begins with Uni. Map::open reads each. If there is no such file, the
     // present map stays. The answer tells which maps were taken, and has the first refusal.
     FoundCollection find_collection(const Files &files, const std::string &collection = {});
+    // The same over an open bundle.
     FoundCollection find_collection(Bundle &bundle, const Files &files = {},
                                     const std::string &collection = {});
 
@@ -843,8 +865,8 @@ public:
         return Extractor(encoding_.share(), to_unicode_.share(), collection_.share(), unicode_.share());
     }
 
-    // All codes of a string. The text of a code is that of the ToUnicode CMap, if this has one for it;
-    // otherwise that of its CID in the map of the collection.
+    // All codes of a string. The text of a code comes from the ToUnicode CMap; if this has none for the code,
+    // the map of the collection gives the text of the CID.
     std::vector<Character> characters(CodeString string) {
         std::vector<Character> characters;
         hayro_cmap_character room[64];
@@ -899,11 +921,11 @@ private:
     Map unicode_;
 };
 
-// A piece of a text, and what stands for it in the string.
+// A piece of a text, and its code in the string.
 struct Piece {
-    std::size_t text_len;   // how many bytes it has in UTF-8
-    std::uint32_t code_len; // how many bytes its code has; 0 where nothing stands for a variation selector
-    Grade grade;
+    std::size_t text_len;   // how many bytes the piece has in UTF-8
+    std::uint32_t code_len; // how many bytes its code has; 0 for a variation selector without a code
+    Grade grade;            // how well the code stands for the piece
 };
 
 // The answer for a text, or the offset where the text is refused. As with std::optional, check before access.
@@ -936,7 +958,7 @@ public:
     // An empty encoder, which refuses all texts.
     Encoder() noexcept = default;
 
-    // An exact one chooses only codes whose texts are the pieces for which they stand.
+    // An encoder of a font. An exact one chooses only codes whose texts are the pieces for which they stand.
     explicit Encoder(Extractor &font, bool exact = false) {
         detail::with_memory(hayro_cmap_encoder_build_with(
             handle(), font.encoding_.handle(), font.to_unicode_.handle(), font.collection_.handle(),
@@ -991,6 +1013,7 @@ public:
         return string;
     }
 
+    // Whether there is no encoder.
     bool empty() const noexcept { return !handle_.get()->full; }
 
     // For the calls of hayro_cmap.h. The encoder still owns it.
@@ -1018,6 +1041,7 @@ public:
     Map &operator*() & noexcept { return *std::get_if<Map>(&either_); }
     Map &&operator*() && noexcept { return std::move(**this); }
     Map *operator->() noexcept { return std::get_if<Map>(&either_); }
+    // Why there is no map.
     const Refusal &refusal() const noexcept { return *std::get_if<Refusal>(&either_); }
 
 private:
@@ -1157,6 +1181,7 @@ inline std::optional<std::vector<std::string>> uses(Bytes data, Bundle &bundle) 
     }
 }
 
+// The same without a bundle.
 inline std::optional<std::vector<std::string>> uses(Bytes data) {
     Bundle none;
     return uses(data, none);
@@ -1202,6 +1227,7 @@ std::map<std::string, std::string> used_files(Bytes data, Bundle &bundle, Get ge
     return found;
 }
 
+// The same without a bundle.
 template <class Get> std::map<std::string, std::string> used_files(Bytes data, Get get) {
     Bundle none;
     return used_files(data, none, std::move(get));

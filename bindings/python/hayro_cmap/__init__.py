@@ -1,4 +1,4 @@
-"""CMap files: which CID a character code of a composite font stands for, and which Unicode text.
+"""CMap files, which map the character codes of a composite font to CIDs and to Unicode text.
 
     import hayro_cmap
 
@@ -8,9 +8,9 @@
 An `Extractor` finds the texts of the strings of a font, and the strings of texts. `to_unicode`, `CMapWriter` and
 `CMap.write` write CMap files.
 
-A file may come from anyone: each call returns on any bytes. What is refused is a `Refused`, and MemoryError says that
-memory ran out. The calls are those of the C library of this project, which has to be found: the path in the
-environment variable HAYRO_CMAP_LIBRARY, else the file in this package's folder, else the system's.
+Files may be untrusted: each call returns on any bytes. A file that isn't accepted raises `Refused`; MemoryError is
+raised if memory runs out. The package calls the C library of this project: the file that the environment variable
+HAYRO_CMAP_LIBRARY names, otherwise the one in this package's folder, otherwise the system's.
 """
 
 from ._bundle import Bundle

@@ -10,7 +10,7 @@ from ._values import Buffer, Name, bytes_of, name_of
 
 
 class Bundle(Owned):
-    """A bundle, opened once for any number of maps. `close`, the end of `with`, or of the last reference frees it.
+    """A bundle, opened once for any number of maps. `close`, or the end of `with` or of the last reference, frees it.
 
     Several threads may use one bundle, one at a time. With `share` each thread has a bundle of its own.
     """
@@ -22,7 +22,7 @@ class Bundle(Owned):
 
     @classmethod
     def open(cls, data: Buffer) -> "Bundle":
-        """Opens a bundle, and copies its files. Raises NotABundle if the bytes are no bundle."""
+        """Opens a bundle, and copies its files. Raises NotABundle if the bytes are invalid."""
         data, handle = bytes_of(data), Handle()
         if checked(library.hayro_cmap_bundle_open(handle, data, len(data))) == NOT_A_BUNDLE:
             raise NotABundle("the bytes are no bundle")

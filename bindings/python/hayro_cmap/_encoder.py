@@ -23,10 +23,10 @@ class Grade(enum.IntEnum):
     COLLECTION = 2
     """The collection's map to Unicode has the piece as the text of the code's CID."""
     ALIKE = 3
-    """The code shows a text that looks or means the same; or nothing stands for a variation selector."""
+    """The code shows a text that looks or means the same; or a variation selector gets no code."""
     NATIONAL = 4
-    """The code is the byte of a character of ASCII that a national version of ISO 646 shows otherwise, as a backslash
-    where it has U+00A5."""
+    """The code is the byte of an ASCII character that a national version of ISO 646 shows as another character, such as
+    a backslash as U+00A5."""
 
 
 class Piece(NamedTuple):
@@ -34,14 +34,14 @@ class Piece(NamedTuple):
 
     #: Its characters.
     text: str
-    #: The bytes of its code; none for a variation selector for which nothing stands.
+    #: The bytes of its code; none for a variation selector without a code.
     code: bytes
     #: How well the code stands for it.
     grade: Grade
 
 
 class Encoder(Owned):
-    """Finds the strings of texts in a font. It keeps none of the maps."""
+    """Finds the strings of texts in a font. It keeps no maps."""
 
     _what = "the extractor"
     _free = staticmethod(library.hayro_cmap_encoder_free)

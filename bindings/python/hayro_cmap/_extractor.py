@@ -36,18 +36,18 @@ class Character(NamedTuple):
 
 
 class Extractor:
-    """The maps of a font, by which the texts of its strings are found (ISO 32000-1, 9.10.2), and the strings of texts.
+    """The maps of a font. They give the texts of its strings (ISO 32000-1, 9.10.2), and the strings of texts.
 
     `encoding` is the font's CMap, or None for a simple font, whose codes have one byte. `to_unicode` is its ToUnicode
     CMap, `collection` a map from the CIDs of its character collection to Unicode, such as Adobe-Japan1-UCS2, and
-    `unicode` one from Unicode to CIDs, such as UniJIS-UTF16-H, by which `encode` finds the glyphs that the collection
-    means. If the last two aren't given, they are looked up in `files` and the `bundle`, as `CMap.collection` and
-    `CMap.unicode` of the encoding do, by default among the system's predefined CMaps, and nowhere with `files={}`.
-    Instead of a map, `collection` may be the name of the collection, such as "Adobe-Japan1": Identity-H names none, and
-    an embedded CMap may name another one than the font does.
+    `unicode` a map from Unicode to CIDs, such as UniJIS-UTF16-H, which gives `encode` the glyphs of characters. If the
+    last two aren't given, they are looked up in `files` and the `bundle`, as `CMap.collection` and `CMap.unicode` of
+    the encoding do, by default among the system's predefined CMaps, and nowhere with `files={}`. Instead of a map,
+    `collection` may be the name of the collection, such as "Adobe-Japan1", since Identity-H names none, and an embedded
+    CMap may name another collection than the font.
 
-    The maps are shared, so that they may be closed or used elsewhere; `close`, the end of `with`, or of the last
-    reference frees them. Several threads may use one extractor at the same time.
+    The maps are shared: the passed maps may be closed, or used elsewhere. `close`, or the end of `with` or of the last
+    reference, frees the extractor's. Several threads may use one extractor at the same time.
     """
 
     def __init__(
@@ -87,8 +87,8 @@ class Extractor:
     def characters(self, string: Buffer) -> List[Character]:
         """The codes of a string, one after another, each with its CID and its text.
 
-        The text is that of the ToUnicode CMap, if this has one for the code; otherwise that of the CID in the map of
-        the collection. Codes in no codespace range are looked up too.
+        The text comes from the ToUnicode CMap; if this has none for the code, the map of the collection gives the text
+        of the CID. Codes in no codespace range are looked up too.
         """
         return list(itertools.chain.from_iterable(self._parts(string, self._characters_in)))
 
@@ -136,17 +136,17 @@ class Extractor:
     def encode(self, text: str, missing: Optional[Buffer] = None, exact: bool = False) -> bytes:
         """The string of a text: the codes of its pieces. A piece is a letter (a character and the marks after it), if
         the letter has a code and the rest can be encoded; otherwise a part of the letter, and as a last resort more
-        than it. The code of a piece lies in a codespace range, has no notdef, and has the best `Grade`; of several it
-        is that of the character itself in the form of the map from Unicode, then the shortest, then the least; the code
-        of a glyph that the collection's map reads as another character comes last. With `exact`, only codes whose text
-        is the piece stand for it, so that the string is read back as the text, and every variation selector needs a
-        code.
+        than the letter. The code of a piece lies in a codespace range, is no notdef, and has the best `Grade`. Of
+        several codes, the character itself in the form of the map from Unicode comes first, then the shortest code,
+        then the least; but the last code of the glyph is taken if the collection's map reads it as another character.
+        With `exact`, only codes whose text is the piece count, so the string is read back as the text, and every
+        variation selector needs a code.
 
-        Raises Unencodable for a text without such pieces. But with `missing`, such as b"\\x00\\x3f" for a question
-        mark, these bytes replace the character after the longest prefix that has them, and so on for the rest. Raises
+        Raises Unencodable for a text without such pieces. With `missing`, such as b"\\x00\\x3f" for a question mark,
+        these bytes replace the character after the longest prefix that can be encoded, and so on for the rest. Raises
         ValueError if they aren't whole codes of the font: the bytes after them would be other codes.
 
-        The first call builds what is needed from all codes of the font, and the extractor keeps it.
+        The first call builds a table of all codes of the font, which the extractor keeps.
         """
         encoder = self._encoder(text, exact)
         return encoder.encode(text) if missing is None else encoder.encode_lossy(text, bytes_of(missing))

@@ -80,11 +80,11 @@ class WritingMode(enum.IntEnum):
 class Code(NamedTuple):
     """A code of a string."""
 
-    #: The number that its bytes write, the first one high.
+    #: The number of its bytes, big-endian.
     code: int
     #: How many bytes it has, 1 to 4.
     byte_len: int
-    #: Its CID, or None where it has none. Codespace ranges aren't looked at.
+    #: Its CID, or None. Codespace ranges are ignored.
     cid: Optional[int]
     #: Whether it lies in a codespace range.
     in_codespace: bool
@@ -96,7 +96,7 @@ class Code(NamedTuple):
 
 
 class Codespace(NamedTuple):
-    """A codespace range: codes of `byte_len` bytes, each byte between those of `low` and `high`."""
+    """A codespace range: codes of `byte_len` bytes, each byte between the bytes of `low` and `high` at its place."""
 
     low: int
     high: int
@@ -106,11 +106,11 @@ class Codespace(NamedTuple):
 class Metadata(NamedTuple):
     """The metadata of a file; None for what it doesn't give."""
 
-    #: The name that it gives itself.
+    #: The CMapName.
     name: Optional[bytes]
-    #: The registry of its character collection, as b"Adobe".
+    #: The registry of its character collection, such as b"Adobe".
     registry: Optional[bytes]
-    #: The ordering of its character collection, as b"Japan1".
+    #: The ordering of its character collection, such as b"Japan1".
     ordering: Optional[bytes]
     #: The supplement of its character collection.
     supplement: Optional[int]
@@ -149,7 +149,7 @@ class Layer:
 
     def __init__(self, cmap: "CMap", index: int):
         self._cmap, self._index = cmap, index
-        #: What it says of itself.
+        #: Its metadata.
         self.metadata: Metadata = cmap._metadata(index)
         #: Its codespace ranges, in order.
         self.codespaces: List[Codespace] = cmap._codespaces(index)
@@ -159,7 +159,7 @@ class Layer:
 
     @functools.cached_property
     def cids(self) -> Tuple[CidRange, ...]:
-        """Its declarations of CIDs: those for codes of one byte first, each list in the order of the file."""
+        """Its declarations of CIDs: first for codes of one byte, then of two, and so on, in the order of the file."""
         return self._cid_ranges(library.hayro_cmap_cid_ranges)
 
     @functools.cached_property
@@ -221,14 +221,14 @@ class CMap(Owned):
     ) -> "CMap":
         """Reads a CMap file: a text or, with a bundle, also a binary file.
 
-        A file that it uses is that of `files` with the name, otherwise that of the bundle. `files` is a mapping, or a
+        A used file is the one of `files` with its name, otherwise the one of the bundle. `files` is a mapping, or a
         callable that is called once for each name and returns the file, or None. All files that are read may have at
-        most `budget` bytes together, and a callable is called for at most one file past it. Files of the bundle count
-        if they are read; the bundle itself doesn't.
+        most `budget` bytes together; at most one file beyond the budget is requested from a callable. Files of the
+        bundle count if they are read; the bundle itself doesn't.
 
-        `base` is the base of the file, whatever name the file uses, and even if it uses none, such as the entry UseCMap
-        of a stream in a PDF file gives it: a map, or the bytes of a file, which itself may use files of `files`. In a
-        fault it has the name that the file uses, or UseCMap.
+        `base` is the base of the file, such as the entry UseCMap of a stream in a PDF file gives it. It replaces the
+        base that the file names, and is used even if the file names none. It is a map, or the bytes of a file, which
+        may use files of `files`. In a fault, the base has the name that the file uses, or UseCMap.
 
         Raises Refused if the file, or one that it uses, is malformed, missing or past a limit; NotWritable if no single
         file can express the base, as in `write`.
@@ -248,13 +248,14 @@ class CMap(Owned):
         base: Union["CMap", Buffer, None] = None,
         most_faults: Optional[int] = None,
     ) -> "Salvaged":
-        """Reads a CMap file and the files that it uses past their faults: the map of what they say, and each fault.
+        """Reads a CMap file and the files that it uses past their faults: the map of everything else, and each fault.
 
-        The faults of a file are listed once, however often it is used. For a file that `parse` accepts it gives the
-        same map and no fault; for any other the first fault is one for which it is refused, or in a text in rows one
-        before it. The parameters are those of `parse`; a callable isn't called for a name that only a file at fault
-        uses, if the bundle has it or it needs no file. The faults of a `base` come last. `most_faults` limits the list,
-        for the file with the files that it uses, and for a `base`: a file of a megabyte may have a million faults.
+        The faults of a file are listed once, however often it is used. For a file that `parse` accepts, the map is the
+        same and there is no fault. For any other file, the first fault is one for which `parse` refuses it, or in a
+        text in rows an earlier one. The parameters are those of `parse`; a callable isn't called for a name that only a
+        file at fault uses, if the bundle has the name or it needs no file. The faults of a `base` come last.
+        `most_faults` limits the list, for the file with the files that it uses, and for a `base`: a file of a megabyte
+        may have a million faults.
         """
         if most_faults is not None:
             most_faults = number(most_faults, 0, 2**32, "most_faults")
@@ -366,9 +367,9 @@ class CMap(Owned):
         return [finding_of(it) for it in found]
 
     def write(self, codes: Optional[Iterable[Union[Buffer, Code]]] = None) -> bytes:
-        """One CMap file, which uses no other and has the answers of the map for each code: its text.
+        """The text of one CMap file, which uses no other and has the answers of the map for each code.
 
-        With `codes` it has answers only for these. Each is a bytes object of one to four bytes, or a code of `decode`:
+        With `codes` it has answers only for these, each a bytes object of one to four bytes or a code of `decode`:
         `cmap.write(cmap.decode(string))` is for the codes of a string. Codespace ranges stay.
 
         Raises NotWritable if no single file has these answers, for example if a code has no CID but a text in one
@@ -571,8 +572,8 @@ def chosen(codes):
 
 
 class Salvaged(NamedTuple):
-    """What is read from a file past its faults."""
+    """The map and the faults of a file that is read past its faults."""
 
     cmap: CMap
-    #: Those of one file are in the order of their offsets, before those of the files that it uses.
+    #: The faults of a file are in the order of their offsets, before the faults of the files that it uses.
     faults: List[Refused]

@@ -17,10 +17,10 @@ SYSTEM_FOLDERS = ("/usr/share/poppler/cMap", "/var/lib/ghostscript/CMap", "/usr/
 def predefined(name: Name) -> Optional[bytes]:
     """The predefined CMap file of a name, such as 90ms-RKSJ-H; None if the system has none.
 
-    It is looked up in the folders of the environment variable HAYRO_CMAP_PATH, separated by colons; without it in those
-    of CMAP_PATH, which other programs may use otherwise; and without both where packages of Linux put these files. A
-    folder's own files precede those of its subfolders. No name leads out of these folders, to a hidden file, or into a
-    hidden subfolder. Raises OSError if the file exists and can't be read.
+    It is looked up in the folders that the environment variable HAYRO_CMAP_PATH lists, separated by colons; if this
+    isn't set, in the folders of CMAP_PATH, which other programs may use otherwise; if neither is set, where packages of
+    Linux put these files. A folder's own files precede the files of its subfolders. No name leads out of these folders,
+    to a hidden file, or into a hidden subfolder. Raises OSError if the file exists and can't be read.
     """
     path = path_of(name_of(name))
     if path is None:

@@ -6,13 +6,13 @@ from ._map import CMap, Salvaged
 from ._predefined import predefined
 from ._reading import Files
 
-#: The predefined CMaps that are no files, and whose files have nothing that isn't known.
+#: The predefined CMaps that need no files.
 IDENTITIES = {b"Identity-H": False, b"Identity-V": True}
 
 
 class CMapSource(NamedTuple):
-    """Where a CMap is read from: the name of a predefined one, or the bytes of a stream, over the source at its entry
-    UseCMap, as a PDF file has them. Unlike a map it can be pickled and compared."""
+    """Where a CMap of a PDF file is read from: the name of a predefined CMap, or the bytes of a stream, with the source
+    of its entry UseCMap as `base`. Unlike a map it can be pickled and compared."""
 
     name: Optional[bytes] = None
     data: Optional[bytes] = None
@@ -23,13 +23,13 @@ class CMapSource(NamedTuple):
     unreadable: Optional[str] = None
 
     def open(self) -> CMap:
-        """The map. Refused where it is malformed or missing; ValueError where the stream can't be decoded."""
+        """The map. Raises Refused if the CMap is malformed or missing, ValueError if the stream can't be decoded."""
         if self.name is not None:
             return opened(self.name)
         return CMap.parse(self._bytes(), self.files, base=None if self.base is None else self.base.open())
 
     def salvage(self, most_faults: Optional[int] = None) -> Salvaged:
-        """The map of what a stream says past its faults, and these; those of what it is based on aren't given."""
+        """The map of a stream that is read past its faults, and these faults, without the faults of its base."""
         if self.name is not None:
             return Salvaged(opened(self.name), [])
         base = None if self.base is None else self.base.salvage(0).cmap

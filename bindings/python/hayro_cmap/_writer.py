@@ -27,11 +27,11 @@ class CMapWriter:
         writer.cid(b"\\x20", b"\\x7e", 1)
         data = writer.write()
 
-    A declaration is for the codes from a first to a last one. A code is a bytes object of one to four bytes, or its
-    number, for codes of `code_len` bytes. If several declarations of a kind contain a code, the last one decides.
+    A declaration is for the codes from a first to a last one. A code is a bytes object of one to four bytes, or a
+    number, for a code of `code_len` bytes. If several declarations of a kind contain a code, the last one decides.
     Raises ValueError if the two codes have unequal lengths, or the last one precedes the first.
 
-    The name, the registry and the ordering are bytes, or a str, which stands for its UTF-8. What is None isn't written.
+    The name, the registry and the ordering are bytes, or a str, which is encoded as UTF-8. None isn't written.
     """
 
     def __init__(
@@ -50,21 +50,21 @@ class CMapWriter:
         return f"<CMapWriter {self._name!r}, declarations: {len(self._declarations)}>"
 
     def codespace(self, first: CodeOf, last: CodeOf) -> None:
-        """A codespace range: codes have this length, and each of their bytes lies between those of the two."""
+        """A codespace range: codes of this length, each byte between the bytes of the two codes at its place."""
         self._declare(CODESPACE_RANGE, first, last)
 
     def cid(self, first: CodeOf, last: CodeOf, cid: int) -> None:
-        """CIDs: the first code has this one, and they count on from code to code."""
+        """CIDs: the first code has `cid`, and the CIDs count on from code to code."""
         self._declare(CID_RANGE, first, last, cid=cid)
 
     def notdef(self, first: CodeOf, last: CodeOf, cid: int) -> None:
-        """The CID of each of the codes that has no other."""
+        """A notdef: the CID of each code that has no other."""
         self._declare(NOTDEF_RANGE, first, last, cid=cid)
 
     def text(self, first: CodeOf, last: CodeOf, text: str) -> None:
-        """Texts: the first code has this one, whose last unit of UTF-16 counts on from code to code.
+        """Texts: the first code has `text`, whose last unit of UTF-16 counts on from code to code.
 
-        Raises ValueError if it is empty, has a lone surrogate, or counts on to units that are no text.
+        Raises ValueError if the text is empty, has a lone surrogate, or counts on to units that are no text.
         """
         data = str.encode(text)
         if not data:
@@ -80,7 +80,7 @@ class CMapWriter:
     def write(self) -> bytes:
         """The text of the file, in the fewest declarations that give each code the same.
 
-        Raises NotWritable if its name has a byte that no name has, such as a blank.
+        Raises NotWritable if the name has a byte that no name can have, such as a blank.
         """
         table, count = (Declaration * (len(self._declarations) + 1))(*self._declarations), len(self._declarations)
         data = put(library.hayro_cmap_make, self._facts, table, count, room_len=ROOM + count * ROOM_EACH)

@@ -1,14 +1,14 @@
-"""CMaps of fonts for pdfminer.six, and for what is built on it, as pdfplumber.
+"""CMaps of fonts for pdfminer.six, and for programs over it, such as pdfplumber.
 
     import hayro_cmap.pdfminer
     hayro_cmap.pdfminer.install()
 
-From then on each font that pdfminer makes has its CMaps read by hayro_cmap: the ToUnicode CMap of any font, past its
-faults, and of a composite font its predefined or embedded CMap and the map of its character collection. A code without
-a text there has that of its glyph, by the glyph's name or the embedded program. `uninstall` ends this, and `installed`
-is both as a context manager. Fonts that were made stay as they are.
+After `install`, hayro_cmap reads the CMaps of each font that pdfminer makes: the ToUnicode CMap, past its faults, and
+for a composite font its predefined or embedded CMap and the map of its character collection. If these give a code no
+text, the glyph gives it, by its name or the embedded program. `uninstall` undoes this, and the context manager
+`installed` does both. Fonts that exist already don't change.
 
-Without a change of pdfminer for all of a process, give a `ResourceManager` in the place of a PDFResourceManager.
+To leave pdfminer as it is in the rest of a process, pass a `ResourceManager` in place of a PDFResourceManager.
 """
 
 import contextlib

@@ -3,16 +3,16 @@
     import hayro_cmap.pypdf
     hayro_cmap.pypdf.install()
 
-It is experimental: pypdf has no public hook, and its private ones may change.
+It is experimental: pypdf has no public hooks, and its private ones may change.
 
-From then on pypdf's `extract_text` has CMaps read by hayro_cmap: the ToUnicode CMap of any font, past its faults, and
-of a composite font its predefined or embedded CMap and the map of its character collection. A code without a text there
-has that of its glyph, by the glyph's name or the embedded program. `uninstall` ends this, and `installed` is both as a
-context manager.
+After `install`, hayro_cmap reads the CMaps of fonts for pypdf's `extract_text`: the ToUnicode CMap, past its faults,
+and for a composite font its predefined or embedded CMap and the map of its character collection. If these give a code
+no text, the glyph gives it, by its name or the embedded program. `uninstall` undoes this, and the context manager
+`installed` does both.
 
-pypdf decodes a string by the name of a codec of Python, and looks up each character of what that gives. So an encoding
-has a codec here, named by what is in it, which gives one character for each code: that of its CID, by which pypdf finds
-widths, or one of a private plane. A codec ends with the fonts that have it.
+pypdf decodes a string by the name of a codec of Python, and looks up each decoded character. So each encoding has a
+codec here, named after its content. The codec gives one character for each code: the character with the number of its
+CID, by which pypdf finds widths, or one of a private plane. A codec ends with the fonts that have it.
 """
 
 import codecs

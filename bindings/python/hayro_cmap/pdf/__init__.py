@@ -1,4 +1,4 @@
-"""The fonts of PDF files, the codes that their pages show, and the texts of these. It needs pikepdf, which reads them.
+"""The fonts of PDF files, the codes that their pages show, and the texts of these codes. pikepdf reads the files.
 
     import pikepdf
     from hayro_cmap import pdf
@@ -11,9 +11,9 @@
     python3 -m hayro_cmap.pdf check|fonts|text FILE.pdf ..
     python3 -m hayro_cmap.pdf repair IN.pdf OUT.pdf
 
-A text is that of the font's ToUnicode CMap; else of a composite font that of the CID in the map of its character
-collection, and of a simple font that of the name of the glyph, if fontTools is there (ISO 32000-1, 9.10.2); else that
-of the glyph in the embedded font program. `Source` has all sources.
+The text of a code comes from the font's ToUnicode CMap; otherwise, in a composite font, from its CID and the map of the
+character collection, and in a simple font from the name of its glyph, if fontTools is there (ISO 32000-1, 9.10.2);
+otherwise from the glyph in the embedded font program. `Source` has all sources.
 """
 
 from .._run import begin_to_import, end_on_interrupt, missing

@@ -23,8 +23,8 @@ MOST_PRINTED = 8
 
 
 class CMapWarning(NamedTuple):
-    """Something that looks wrong in a CMap that is accepted. The names are those of the command `cmap check --lint`, and
-    `few-texts`, which concerns a font."""
+    """Something that looks wrong in an accepted CMap. The names are the ones of `cmap check --lint`, and `few-texts`,
+    which concerns a font."""
 
     #: The key of the CMap, "ToUnicode" or "Encoding", and the number of the object of its stream; or "font" and the
     #: number of its object.
@@ -232,11 +232,11 @@ def check(
     deadline: Optional[Deadline] = None,
     guesses: bool = True,
 ) -> Report:
-    """Which fonts of a file have CMaps with faults, and which of the codes that it shows have no text.
+    """The fonts of a file whose CMaps have faults, and the shown codes without a text.
 
-    `progress` is handed the pages, and gives them again. The texts are those that ToUnicode CMaps have apart from their
-    faults; with `lenient=False` one with faults has none, and with `guesses=False` no text is a guess. TooLong where
-    the deadline is over.
+    `progress` takes the pages and returns an iterable of them, such as a progress bar. ToUnicode CMaps are read past
+    their faults; with `lenient=False` a malformed one gives no texts, and with `guesses=False` no text is a guess.
+    Raises TooLong if the deadline is over.
     """
     document, without_font = Document(pdf, lenient=lenient, deadline=deadline), 0
     strings: Dict[Font, Strings] = {}

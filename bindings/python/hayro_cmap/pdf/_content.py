@@ -44,11 +44,11 @@ class Shown(NamedTuple):
 
 
 class Content:
-    """What pages show, with the fonts that they name, each read once.
+    """The content of pages, with the fonts that they name, each read once.
 
-    A ToUnicode CMap with faults gives the texts that it has apart from them, and none with `lenient=False`. With
-    `guesses=False` no text is a guess. TooLong where a deadline is over while a page is read. `places` changes nothing:
-    the places of strings are looked for where they are needed.
+    ToUnicode CMaps are read past their faults; with `lenient=False` a malformed one gives none. With `guesses=False`
+    no text is a guess. Raises TooLong if a deadline is over while a page is read. `places` has no effect: the
+    places of strings are computed when they are needed.
     """
 
     def __init__(
@@ -72,8 +72,8 @@ class Content:
     def characters(self, page: pikepdf.Page, annotations: bool = True) -> Iterator[Character]:
         """The codes that a page shows, in the order of its content, and then those of its annotations.
 
-        Each byte of a string without a font is a code of its own. Of codes in marked content with a text of its own the
-        first one has this text, and the others have an empty one.
+        Each byte of a string without a font is a code. In marked content with a replacement text, the first code has
+        this text, and the others have an empty text.
         """
         before: Optional[Span] = None
         for piece in self.pieces(page, annotations):
@@ -93,8 +93,8 @@ class Content:
     def lines(self, page: pikepdf.Page) -> Iterator[str]:
         """The lines of text that a page shows, in the order of its content; U+FFFD for a code without a text.
 
-        A line goes on as long as strings are shown on it, one after another, and a wide gap between two is a space.
-        Text from right to left is in the order in which it is read.
+        A line continues as long as strings follow each other on it, and a wide gap between two strings is a space. Text
+        from right to left comes in reading order.
         """
         left, lines = MOST_CHARACTERS, Lines()
         # of most strings there is no line, which then goes on

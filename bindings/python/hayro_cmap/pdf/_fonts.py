@@ -76,6 +76,7 @@ class Font(FontMaps, FontGlyphs):
 
     @functools.cached_property
     def base_font(self) -> Optional[str]:
+        """The BaseFont, or else the Name, of the font."""
         return name_at(self.dictionary, "/BaseFont") or name_at(self.dictionary, "/Name")
 
     @property
@@ -152,7 +153,7 @@ class Font(FontMaps, FontGlyphs):
 
     @property
     def is_symbolic(self) -> bool:
-        """Whether its descriptor says that it has other glyphs than those of Latin text."""
+        """Whether its descriptor has the flag for glyphs outside the standard Latin character set."""
         return is_symbolic(self.dictionary)
 
     @functools.cached_property
@@ -175,8 +176,7 @@ class Font(FontMaps, FontGlyphs):
     def characters(self, string: bytes, lenient: bool = True, guesses: bool = True) -> List[Character]:
         """The codes of a string that is shown with the font, with their texts.
 
-        The faults of a ToUnicode CMap are read past where `lenient` is so. Without `guesses` a text whose source is one
-        is None.
+        With `lenient`, ToUnicode CMaps are read past their faults. Without `guesses`, a guessed text is None.
         """
         return self._found(self._kept_extractor(lenient).characters(string), lenient, guesses)
 
@@ -191,7 +191,7 @@ class Font(FontMaps, FontGlyphs):
     def characters_of(
         self, strings: Iterable[bytes], lenient: bool = True, guesses: bool = True
     ) -> List[List[Character]]:
-        """What `characters` gives for each of many strings, which takes less time than to ask for each."""
+        """The `characters` of each of many strings, in less time than by a call for each."""
         rows = self._kept_extractor(lenient).characters_of(strings)
         return [self._found(row, lenient, guesses) for row in rows]
 

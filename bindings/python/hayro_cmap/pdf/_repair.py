@@ -1,4 +1,4 @@
-"""Writes the ToUnicode CMaps of a PDF file anew that have faults, with what they say apart from them."""
+"""Rewrites the malformed ToUnicode CMaps of a PDF file, without their faults."""
 
 import os
 from typing import Any, Dict, Iterable, List, NamedTuple, Optional, Tuple, Union
@@ -33,13 +33,13 @@ class Repaired(NamedTuple):
     number: int
     #: The fonts that have it.
     fonts: List[Font]
-    #: What was wrong, and is lost.
+    #: The faults, and with them what is lost.
     faults: List[Fault]
-    #: How many codes have a text in what is written. Where it is 0, nothing is left, and the stream stays as it is.
+    #: How many codes have a text in the new CMap. If it is 0, nothing is left, and the stream stays as it is.
     kept: int
 
     def lines(self) -> List[str]:
-        """A line for what is written, and one for each fault."""
+        """A line about the new CMap, and one for each fault."""
         what = f"written anew, with texts for {self.kept:,} codes" if self.kept else "nothing is left of it"
         lines = [f"ToUnicode {self.number}: {what}"]
         if self.fonts[0].to_unicode.has_five_digits:
@@ -59,11 +59,11 @@ class Repaired(NamedTuple):
 
 
 def repair(pdf: pikepdf.Pdf, signed: bool = False) -> List[Repaired]:
-    """Writes each ToUnicode CMap that is refused anew, with what it says apart from its faults.
+    """Rewrites each malformed ToUnicode CMap with the texts that are read past its faults.
 
-    It stands in the object that it stood in, and no other object is touched; `save` then writes the file. Signed where
-    there is one and the file is signed, unless `signed` allows that; TooLarge where a CMap has texts for more than
-    2,097,152 codes.
+    The new CMap replaces the old one in its object, and no other object changes; `save` then writes the file. Raises
+    Signed if there is such a CMap and the file is signed, unless `signed` is true, and TooLarge if a CMap has texts for
+    more than 2,097,152 codes.
     """
     streams: Dict[Tuple[int, int], List[Font]] = {}
     for font in fonts(pdf):
@@ -152,12 +152,12 @@ def is_signed(pdf: pikepdf.Pdf) -> bool:
 
 
 def save(pdf: pikepdf.Pdf, path: Union[str, "os.PathLike[str]"]) -> None:
-    """Writes a file with all objects as they are, and their streams byte for byte; an encrypted one stays encrypted,
-    and then its streams are what they were once they are decoded.
+    """Writes a file with all its objects, and their streams byte for byte. An encrypted file stays encrypted, and its
+    decoded streams stay the same.
 
-    It is written beside its place and then put there: where that fails, a file that was there stays as it is, else its
-    permissions stay. A link there stays, and the file that it leads to is replaced. OSError where something else than a
-    file is there.
+    A temporary file is written and renamed into place, with the permissions of an existing file. If that fails, an
+    existing file stays as it is. If `path` is a link, the file to which it leads is replaced. Raises OSError if `path`
+    is something else than a regular file.
     """
     with written_beside(path) as file:
         pdf.save(

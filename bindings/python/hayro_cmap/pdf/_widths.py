@@ -1,4 +1,4 @@
-"""How far the glyphs of a font move on what is shown next (ISO 32000-1, 9.2.4, 9.6.2, 9.7.4.3).
+"""How far each glyph of a font moves the next one (ISO 32000-1, 9.2.4, 9.6.2, 9.7.4.3).
 
 Widths are in thousandths of a unit of text space, before the size of the font. A malformed array gives defaults.
 """
@@ -93,8 +93,8 @@ DEFAULT_VERTICAL = (880.0, -1000.0)
 
 
 class Widths:
-    """The widths of the glyphs of a font. `missing` gives that of the codes for which the table has None, once it is
-    asked for while the file is open."""
+    """The widths of the glyphs of a font. `missing` gives the width of the codes for which the table has None; it is
+    called at most once, while the file is open."""
 
     def __init__(
         self,
@@ -141,8 +141,8 @@ class Widths:
         return [self._missing if it is None else it for it in self._table]
 
     def advance(self, code: int, cid: Optional[int] = None) -> float:
-        """By how much the glyph of a code, or of a CID of a composite font, moves on what is shown next in horizontal
-        writing. A code without a CID has CID 0."""
+        """How far the glyph of a code, or of a CID of a composite font, moves the next glyph in horizontal writing. A
+        code without a CID has CID 0."""
         if self._table:
             width = self._table[code] if code < len(self._table) else self.default
             return self._missing if width is None else width
