@@ -1,1 +1,2 @@
+pub mod PartsRead
 pub mod Warnings

@@ -1,4 +1,5 @@
-//! What looks wrong in a CMap file that is accepted: warnings, each with a count and the first place.
+//! What looks wrong in a CMap file that is accepted: warnings, each with a count and the first place. And what a part at
+//! fault is read as.
 #![tactic(auto)]
 
 mod boxes;
@@ -10,6 +11,7 @@ mod identity;
 pub mod lint;
 mod overlaps;
 mod ranges;
+pub mod read_as;
 mod sections;
 mod shapes;
 mod shown;

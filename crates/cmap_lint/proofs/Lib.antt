@@ -1,0 +1,2 @@
+mod LastBytes
+mod PartsFound
