@@ -6,6 +6,7 @@ use cmap_escape::count::Count;
 use cmap_escape::escape::{push_name, push_text};
 use cmap_files::failure::Failure;
 use cmap_sources::fault_line::LineCounter;
+use cmap_sources::reading::{Faults, Input};
 use cmap_sources::refused::stop_line;
 use cmap_text::read_text;
 use cmap_values::fault::{Fault, Stop};
@@ -131,9 +132,12 @@ impl<'c> Choice<'c> {
         stop: Stop,
     ) -> Result<(), Failure> {
         let none: NamedFiles<'_, (&[u8], &[u8]), Bundle<'_>> = NamedFiles::alone(&[]);
-        let path = candidate.path.as_str();
+        let input = Input {
+            path: candidate.path.as_str(),
+            bytes: candidate.bytes.as_slice(),
+        };
         let mut lines = LineCounter::new();
-        let line = stop_line(rt.alloc(), path, &candidate.bytes, &none, stop, &mut lines)?;
+        let line = stop_line(rt.alloc(), input, &none, stop, Faults::First, &mut lines)?;
         eprintln!(rt; "cmap: {line}")?;
         self.left_out.add_one();
         Ok(())

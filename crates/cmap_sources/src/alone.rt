@@ -39,7 +39,7 @@ fn read_strictly<'d>(
     match read {
         Ok(file) => Ok(file),
         Err(Fault::Refused(stop)) => {
-            report_stops(rt, input, &[stop], bases)?;
+            report_stops(rt, input, &[stop], Faults::First, bases)?;
             Err(Failure::Refused)
         }
         Err(Fault::Memory) => Err(Failure::Memory),
@@ -57,7 +57,7 @@ fn read_past<'d>(
         }
         _ => salvage_text(rt.alloc(), input.bytes)?,
     };
-    report_stops(rt, input, &faults, bases)?;
+    report_stops(rt, input, &faults, Faults::All, bases)?;
     Ok(file)
 }
 
@@ -66,17 +66,17 @@ fn report_stops(
     rt: &HostRuntime,
     input: Input<'_>,
     stops: &[Stop],
+    faults: Faults,
     bases: &Bases<'_>,
 ) -> Result<(), Failure> {
-    let Input { path, bytes } = input;
     let files = bases.files();
     let mut lines = LineCounter::new();
     let (printed, others) = first_of(stops, MOST_FAULTS);
     for stop in printed {
-        let line = stop_line(rt.alloc(), path, bytes, &files, *stop, &mut lines)?;
+        let line = stop_line(rt.alloc(), input, &files, *stop, faults, &mut lines)?;
         eprintln!(rt; "cmap: {line}")?;
     }
-    report_others(rt, path, others.len())
+    report_others(rt, input.path, others.len())
 }
 
 /// Reports how many more faults there are.

@@ -234,15 +234,14 @@ fn lines_of(
     bases: &Bases<'_>,
     faults: &[Refusal<'_>],
 ) -> Result<Vec<String>, AllocError> {
-    let Manner { form, .. } = manner;
     let mut lines = Vec::new(alloc);
     let mut counter = LineCounter::new();
     let (printed, others) = first_of(faults, manner.most_faults);
     for fault in printed {
-        lines.push(line_of(alloc, input, form, bases, fault, &mut counter)?)?;
+        lines.push(line_of(alloc, input, manner, bases, fault, &mut counter)?)?;
     }
     if !others.is_empty() {
-        lines.push(more_of(alloc, input.path, form, others.len())?)?;
+        lines.push(more_of(alloc, input.path, manner.form, others.len())?)?;
     }
     Ok(lines)
 }
@@ -265,17 +264,17 @@ fn more_of(alloc: Global, path: &str, form: Form, count: usize) -> Result<String
 fn line_of<'n>(
     alloc: Global,
     input: Input<'_>,
-    form: Form,
+    manner: Manner,
     bases: &Bases<'_>,
     fault: &Refusal<'n>,
     counter: &mut LineCounter<'n>,
 ) -> Result<String, AllocError> {
+    let Manner { form, faults, .. } = manner;
     let mut line = String::new(alloc);
-    let Input { path, bytes } = input;
     let files = bases.files();
     match form {
-        Form::Json => push_refusal_json(alloc, &mut line, path, bytes, &files, fault, counter)?,
-        Form::Text => push_refusal_line(&mut line, path, bytes, &files, fault, counter)?,
+        Form::Json => push_refusal_json(alloc, &mut line, input, &files, fault, faults, counter)?,
+        Form::Text => push_refusal_line(&mut line, input, &files, fault, faults, counter)?,
     }
     Ok(line)
 }

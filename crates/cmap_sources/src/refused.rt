@@ -1,11 +1,13 @@
 //! Why a file is refused: as a line for people, and as an object of JSON.
 
 use crate::fault_line::LineCounter;
+use crate::reading::{Faults, Input};
 use cmap_binary::is_marked_binary;
 use cmap_escape::escape::{escaped_names, push_name, push_text};
 use cmap_escape::json::push_value;
 use cmap_escape::object::Object;
 use cmap_escape::value::Value;
+use cmap_lint::read_as::ReadAs;
 use hayro_cmap::token::Scanner;
 use hayro_cmap::{Bundle, Cause, NamedFile, NamedFiles, Reason, Refusal, Stop};
 use std::alloc::{AllocError, Global};
@@ -17,6 +19,8 @@ struct LocatedStop {
     stop: Stop,
     /// The line. A binary file has no lines.
     line: Option<usize>,
+    /// What the part at fault is read as.
+    read_as: Option<ReadAs>,
 }
 
 /// Where reading stopped in the file at fault: the file of these bytes or one that it uses. `None` if no file is
@@ -25,6 +29,7 @@ fn stop_of<'n, N: NamedFile>(
     bytes: &[u8],
     files: &NamedFiles<'_, N, Bundle<'_>>,
     refusal: &Refusal<'n>,
+    faults: Faults,
     lines: &mut LineCounter<'n>,
 ) -> Option<LocatedStop> {
     let Cause::Malformed(stop) = refusal.cause else {
@@ -33,14 +38,29 @@ fn stop_of<'n, N: NamedFile>(
     let name = refusal.names.last().copied();
     let file = file_at_fault(bytes, files, name);
     if files.bundle.is_some() && is_marked_binary(file) {
-        return Some(LocatedStop { stop, line: None });
+        return Some(LocatedStop {
+            stop,
+            line: None,
+            read_as: None,
+        });
     }
     let stop = Stop {
         offset: reported_offset(file, stop),
         reason: stop.reason,
     };
-    let line = lines.line_of(name, file, stop.offset);
-    Some(LocatedStop { stop, line })
+    Some(LocatedStop {
+        stop,
+        line: lines.line_of(name, file, stop.offset),
+        read_as: read_as(file, stop, faults),
+    })
+}
+
+/// What the part of a text at a fault is read as, if the text is read past its faults.
+fn read_as(text: &[u8], fault: Stop, faults: Faults) -> Option<ReadAs> {
+    match faults {
+        Faults::First => None,
+        Faults::All => ReadAs::of(text, fault),
+    }
 }
 
 /// Where the fault of a text is reported. A string that isn't closed refuses a text at its end, and is
@@ -77,47 +97,50 @@ fn file_at_fault<'f, N: NamedFile>(
 }
 
 /// Adds why a file of these bytes is refused over `files`: the byte and the line at which reading stopped, what
-/// is wrong there, and the file at fault if it is another one. `lines` is the same for all faults of one file,
-/// and new for another file.
+/// is wrong there, the file at fault if it is another one, and what the part at fault is read as. `lines` is the same
+/// for all faults of one file, and new for another file.
 pub fn push_refusal<'n, N: NamedFile>(
     out: &mut String,
     bytes: &[u8],
     files: &NamedFiles<'_, N, Bundle<'_>>,
     refusal: &Refusal<'n>,
+    faults: Faults,
     lines: &mut LineCounter<'n>,
 ) -> Result<(), AllocError> {
     let last = refusal.names.last().copied();
     if let Cause::NoFile = refusal.cause {
         return push_named(out, "no file has the name /", last);
     }
-    match stop_of(bytes, files, refusal, lines) {
-        Some(located) => push_stop(out, located)?,
-        None => write!(out, "{}", refusal.cause)?,
-    }
-    push_named(out, ", in /", last)
+    let Some(located) = stop_of(bytes, files, refusal, faults, lines) else {
+        write!(out, "{}", refusal.cause)?;
+        return push_named(out, ", in /", last);
+    };
+    push_stop(out, located)?;
+    push_named(out, ", in /", last)?;
+    push_read_as(out, located.read_as)
 }
 
 /// Adds the line of a refusal without its line end: the path, and why the file is refused.
 pub fn push_refusal_line<'n, N: NamedFile>(
     out: &mut String,
-    path: &str,
-    bytes: &[u8],
+    input: Input<'_>,
     files: &NamedFiles<'_, N, Bundle<'_>>,
     refusal: &Refusal<'n>,
+    faults: Faults,
     lines: &mut LineCounter<'n>,
 ) -> Result<(), AllocError> {
-    push_text(out, path)?;
+    push_text(out, input.path)?;
     out.push_str(": ")?;
-    push_refusal(out, bytes, files, refusal, lines)
+    push_refusal(out, input.bytes, files, refusal, faults, lines)
 }
 
 /// The line of a fault of the file itself.
 pub fn stop_line<N: NamedFile>(
     alloc: Global,
-    path: &str,
-    bytes: &[u8],
+    input: Input<'_>,
     files: &NamedFiles<'_, N, Bundle<'_>>,
     stop: Stop,
+    faults: Faults,
     lines: &mut LineCounter<'_>,
 ) -> Result<String, AllocError> {
     let refusal = Refusal {
@@ -125,7 +148,7 @@ pub fn stop_line<N: NamedFile>(
         cause: Cause::Malformed(stop),
     };
     let mut line = String::new(alloc);
-    push_refusal_line(&mut line, path, bytes, files, &refusal, lines)?;
+    push_refusal_line(&mut line, input, files, &refusal, faults, lines)?;
     Ok(line)
 }
 
@@ -167,18 +190,26 @@ fn push_stop(out: &mut String, located: LocatedStop) -> Result<(), AllocError> {
     }
 }
 
+/// Adds what the part at fault is read as, if it is read.
+fn push_read_as(out: &mut String, read_as: Option<ReadAs>) -> Result<(), AllocError> {
+    match read_as {
+        Some(read_as) => write!(out, "; read as {read_as}"),
+        None => Ok(()),
+    }
+}
+
 /// Adds the object of a refused file, without a line end. `lines` is as in `push_refusal`.
 pub fn push_refusal_json<'n, N: NamedFile>(
     alloc: Global,
     out: &mut String,
-    path: &str,
-    bytes: &[u8],
+    input: Input<'_>,
     files: &NamedFiles<'_, N, Bundle<'_>>,
     refusal: &Refusal<'n>,
+    faults: Faults,
     lines: &mut LineCounter<'n>,
 ) -> Result<(), AllocError> {
-    let located = stop_of(bytes, files, refusal, lines);
-    let object = refusal_object(alloc, path, located, refusal)?;
+    let located = stop_of(input.bytes, files, refusal, faults, lines);
+    let object = refusal_object(alloc, input.path, located, refusal)?;
     push_value(alloc, out, &object)
 }
 
@@ -188,9 +219,9 @@ fn refusal_object(
     located: Option<LocatedStop>,
     refusal: &Refusal<'_>,
 ) -> Result<Value, AllocError> {
-    let (byte, line) = match located {
-        Some(located) => (Some(located.stop.offset), located.line),
-        None => (None, None),
+    let (byte, line, read_as) = match located {
+        Some(located) => (Some(located.stop.offset), located.line, located.read_as),
+        None => (None, None, None),
     };
     let mut object = Object::new(alloc);
     object.set_text("file", path);
@@ -199,7 +230,16 @@ fn refusal_object(
     object.set("byte", Value::from(byte));
     object.set("line", Value::from(line));
     object.set_string("reason", reason_of(alloc, refusal));
+    set_read_as(alloc, &mut object, read_as);
     object.finish()
+}
+
+/// Sets what the part at fault is read as, or null.
+fn set_read_as(alloc: Global, object: &mut Object, read_as: Option<ReadAs>) {
+    match read_as {
+        Some(read_as) => object.set_string("read_as", read_as.to_string(alloc)),
+        None => object.set("read_as", Value::Null),
+    }
 }
 
 /// What is wrong: where reading stopped, or with the file as a whole.
