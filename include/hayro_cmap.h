@@ -278,6 +278,14 @@ typedef struct hayro_cmap_fault {
     size_t name_lens[HAYRO_CMAP_MOST_NAMES]; /* how many bytes each of them has; the others are 0 */
 } hayro_cmap_fault;
 
+/* What a part at fault is read as, if a text is read past its faults. */
+typedef enum hayro_cmap_reading {
+    HAYRO_CMAP_READ_AS_NOTHING = 0,      /* it is lost, or the bytes before the fault don't show what it is read as */
+    HAYRO_CMAP_READ_AS_EMPTY_TEXT = 1,   /* an empty string as the empty text: its code has no text */
+    HAYRO_CMAP_READ_AS_EXTENDED_CODE = 2 /* a longer second code as the end of a codespace range whose first code has
+                                            leading bytes 0 */
+} hayro_cmap_reading;
+
 /* What can look wrong in a file that has a map. hayro_cmap_warning_name gives the name of a warning, as in
  * `cmap check --lint`. */
 typedef enum hayro_cmap_warning {
@@ -435,6 +443,10 @@ hayro_cmap_status hayro_cmap_salvage(hayro_cmap *map, const uint8_t *data, size_
  * have must be 0. The names are ignored. */
 hayro_cmap_status hayro_cmap_message(const hayro_cmap_fault *fault, uint8_t *room, size_t room_len,
                                      size_t *needed);
+
+/* What the part at a fault of hayro_cmap_salvage is read as. `text` is the file at fault. A string that begins a line
+ * gives HAYRO_CMAP_READ_AS_NOTHING, since its fault may be that the entry before it is short. */
+hayro_cmap_reading hayro_cmap_read_as(const hayro_cmap_fault *fault, const uint8_t *text, size_t text_len);
 
 /* What looks wrong in a file that has a map: the warnings of `cmap check --lint`, each at most once, in
  * the order of hayro_cmap_warning. docs/COMMAND.md describes them. `text` is the file, if it is a text;

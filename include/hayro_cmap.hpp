@@ -111,6 +111,14 @@ enum class Reason : std::uint16_t {
     stray_delimiter = HAYRO_CMAP_STRAY_DELIMITER        // a ) or > stands alone
 };
 
+// What a part at fault is read as, if a text is read past its faults.
+enum class ReadAs : std::uint32_t {
+    nothing = HAYRO_CMAP_READ_AS_NOTHING,             // it is lost, or the bytes before the fault don't show it
+    empty_text = HAYRO_CMAP_READ_AS_EMPTY_TEXT,       // an empty string as the empty text
+    extended_code = HAYRO_CMAP_READ_AS_EXTENDED_CODE, // a longer second code of a codespace range, whose first
+                                                      // code gets leading bytes 0
+};
+
 // A segment of a binary file, by what it holds.
 enum class Segment : std::uint16_t {
     none = HAYRO_CMAP_NO_SEGMENT,
@@ -415,6 +423,11 @@ public:
             return hayro_cmap_message(&fault_, room, len, needed);
         });
         return std::move(text).value_or("");
+    }
+
+    // What the part at fault is read as, if `file`, the text at fault, is read past this fault.
+    ReadAs read_as(Bytes file) const noexcept {
+        return static_cast<ReadAs>(hayro_cmap_read_as(&fault_, file.data(), file.size()));
     }
 
 private:

@@ -590,6 +590,28 @@ static void faults_have_messages(void) {
     CHECK(needed == 7);
 }
 
+// Faults past which these parts are read: a longer second code and an empty string; a shorter code and a name are lost.
+static void parts_at_fault_are_read(void) {
+    static const char file[] = "begincodespacerange <00> <FFFF> <0000> <FF> endcodespacerange "
+                               "beginbfchar <41> <> <42> /x endbfchar";
+    hayro_cmap map = HAYRO_CMAP_EMPTY;
+    hayro_cmap_bundle none = HAYRO_CMAP_EMPTY;
+    hayro_cmap_fault faults[4];
+    uint8_t room[1];
+    size_t found = 0, needed = 0;
+    CHECK(hayro_cmap_salvage(&map, TEXT(file), &none, hayro_cmap_files(NULL), 0, HAYRO_CMAP_NO_BUDGET, faults, 4,
+                             &found, room, 1, &needed) == HAYRO_CMAP_OK && found == 4);
+    CHECK(hayro_cmap_read_as(&faults[0], TEXT(file)) == HAYRO_CMAP_READ_AS_EXTENDED_CODE);
+    CHECK(hayro_cmap_read_as(&faults[1], TEXT(file)) == HAYRO_CMAP_READ_AS_NOTHING);
+    CHECK(hayro_cmap_read_as(&faults[2], TEXT(file)) == HAYRO_CMAP_READ_AS_EMPTY_TEXT);
+    CHECK(hayro_cmap_read_as(&faults[3], TEXT(file)) == HAYRO_CMAP_READ_AS_NOTHING);
+    // past the end of the text, and a fault that has no meaning
+    CHECK(hayro_cmap_read_as(&faults[0], TEXT("<00> <FFFF>")) == HAYRO_CMAP_READ_AS_NOTHING);
+    faults[0].segment = 1;
+    CHECK(hayro_cmap_read_as(&faults[0], TEXT(file)) == HAYRO_CMAP_READ_AS_NOTHING);
+    hayro_cmap_free(&map);
+}
+
 // A map of one-byte codes, whose texts are for private use, of an odd number of digits, and right.
 static const char DOUBTFUL_TEXT[] = "1 begincodespacerange <00> <FF> endcodespacerange "
                                     "3 beginbfchar <01> <E000> <02> <20BB7> <03> <0041> endbfchar";
@@ -1091,6 +1113,7 @@ int main(void) {
     files_are_read_past_their_faults();
     faults_without_room_are_counted();
     faults_have_messages();
+    parts_at_fault_are_read();
     warnings_are_found();
     warnings_without_room_are_not_written();
     warnings_are_about_declarations_and_names();

@@ -165,6 +165,17 @@ static void files_are_read_past_their_faults() {
     CHECK(over.faults.size() == 1 && over.faults[0].cause() == hayro::Cause::past_budget);
 }
 
+static void parts_at_fault_are_read() {
+    auto file = "begincodespacerange <00> <FFFF> <0000> <FF> endcodespacerange "
+                "beginbfchar <41> <> <42> /x endbfchar"s;
+    auto faults = hayro::Map::salvage(file).faults;
+    std::vector<hayro::ReadAs> read;
+    for (auto &fault : faults) read.push_back(fault.read_as(file));
+    using hayro::ReadAs;
+    CHECK(read == (std::vector{ReadAs::extended_code, ReadAs::nothing, ReadAs::empty_text, ReadAs::nothing}));
+    CHECK(faults[0].read_as(""s) == ReadAs::nothing);
+}
+
 static void strings_are_cut() {
     auto map = hayro::Map::parse("begincodespacerange <00> <7F> <8140> <9FFC> endcodespacerange "
                                  "begincidrange <00> <7F> 1 <8140> <9FFC> 200 endcidrange");
@@ -748,6 +759,7 @@ int main() {
     refusals_say_why();
     an_identity_passes_a_budget();
     files_are_read_past_their_faults();
+    parts_at_fault_are_read();
     strings_are_cut();
     strings_have_texts();
     collections_are_found();

@@ -75,7 +75,7 @@ PYTHON_STRUCTS = {
     "Declaration": "hayro_cmap_declaration",
     "Facts": "hayro_cmap_facts",
 }
-ENUMS = {"hayro_cmap_status", "hayro_cmap_mode"}
+ENUMS = {"hayro_cmap_status", "hayro_cmap_mode", "hayro_cmap_reading"}
 
 
 def rust_in_c(name, kind):

@@ -60,7 +60,7 @@ NAMED = {
     "EncodedPiece": "hayro_cmap_piece",
 }
 RESULTS = {
-    "u32": {"hayro_cmap_status", "hayro_cmap_mode"},
+    "u32": {"hayro_cmap_status", "hayro_cmap_mode", "hayro_cmap_reading"},
     "usize": {"size_t"},
     "bool": {"bool"},
     "": {"void"},
@@ -94,7 +94,7 @@ NUMBERED = r"(?P<number>\d+)(?:, [\w()]+\))? => Some\({}::(?P<name>\w+)"
 # the header calls otherwise, since another enum has the name
 STATUSES, MODES, FAULTS = "cmap_handles/src/status.rt", "cmap_c_maps/src/metadata.rt", "cmap_c/src/fault.rt"
 KINDS, LINT, LINTED = "cmap_c_writer/src/declaration.rt", "cmap_lint/src/warning.rt", "cmap_c/src/lint.rt"
-GRADES = "cmap_c_encoder/src/pieces.rt"
+GRADES, READINGS = "cmap_c_encoder/src/pieces.rt", "cmap_lint/src/read_as.rt"
 ENUMS = [
     ("hayro_cmap_status", {}, r"Status::(?P<name>\w+) => (?P<number>\d+),", STATUSES, {"DONE": "OK"}),
     ("hayro_cmap_mode", {"NO_MODE": "2"}, r"WritingMode::(?P<name>\w+)\) => (?P<number>\d+),", MODES, {}),
@@ -102,6 +102,7 @@ ENUMS = [
     ("hayro_cmap_cause", {}, NUMBERED.format("Cause"), FAULTS, {"OVER_BUDGET": "PAST_BUDGET"}),
     ("hayro_cmap_reason", {"NO_REASON": "0"}, NUMBERED.format("Reason"), FAULTS, {}),
     ("hayro_cmap_segment", {"NO_SEGMENT": "0"}, NUMBERED.format("Segment"), FAULTS, {"WRITING_MODE": "MODE"}),
+    ("hayro_cmap_reading", {"READ_AS_NOTHING": "0"}, r"ReadAs::(?P<name>\w+) => (?P<number>\d+),", READINGS, Prefixed("READ_AS_")),
     ("hayro_cmap_warning", {}, r"Warning::(?P<name>\w+) => (?P<number>\d+),", LINT, Prefixed("WARNING_")),
     ("hayro_cmap_grade", {}, r"Grade::(?P<name>\w+) => (?P<number>\d+),", GRADES, Prefixed("GRADE_")),
     ("hayro_cmap_place", {}, r"Place::(?P<name>\w+).* => (?P<number>\d+),", LINTED, {"FILE": "IN_FILE", **PLACES}),

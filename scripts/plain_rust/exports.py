@@ -7,9 +7,9 @@ from common.programs import CRATES
 from .erasing import EXPORTED, LAYOUT
 from .source import Source, Unknown
 
-# what a call gives where a pointer is null that must not be; a mode is a number, too
+# what a call gives where a pointer is null that must not be; some numbers aren't that of a status
 NOTHING = {"u32": "ABSENT", "usize": "0", "bool": "false", "": ""}
-NO_MODE = {"hayro_cmap_writing_mode", "hayro_cmap_layer_writing_mode"}
+NOTHING_OF = {"hayro_cmap_writing_mode": "NO_MODE", "hayro_cmap_layer_writing_mode": "NO_MODE", "hayro_cmap_read_as": "0"}
 # lookups of one code, which are made in place only where they are usual
 LOOKUPS = {"hayro_cmap_cid", "hayro_cmap_cid_strict"}
 LOOKED_UP = """\
@@ -90,7 +90,7 @@ def export_of(source, at, path, structs):
     parameters = [Parameter(*one, structs) for one in parameters_of(source, first)]
     checked = [one for one in parameters if one.made]
     given = ",\n    ".join(part for one in parameters for part in one.given)
-    nothing = "NO_MODE" if name in NO_MODE else NOTHING[result]
+    nothing = NOTHING_OF.get(name, NOTHING[result])
     arrow = f" -> {result}" if result else ""
     lines = [
         "",

@@ -56,6 +56,8 @@ int main(void) {
     IS_ABSENT(hayro_cmap_explain(&other, data, len, &bundle, NULL, 0, HAYRO_CMAP_NO_BUDGET, &fault, room, 64, NULL));
     IS_ABSENT(hayro_cmap_salvage(&other, data, len, &bundle, NULL, 0, HAYRO_CMAP_NO_BUDGET, &fault, 1, NULL, room, 64, &needed));
     IS_ABSENT(hayro_cmap_message(NULL, room, 64, &needed));
+    CHECK(hayro_cmap_read_as(NULL, data, len) == HAYRO_CMAP_READ_AS_NOTHING);
+    CHECK(hayro_cmap_read_as(&fault, NULL, len) == HAYRO_CMAP_READ_AS_NOTHING);
     IS_ABSENT(hayro_cmap_lint(NULL, data, len, false, NULL, 0, &finding, 1, &needed));
     IS_ABSENT(hayro_cmap_lint(&map, NULL, len, false, NULL, 0, &finding, 1, &needed));
     IS_ABSENT(hayro_cmap_lint(&map, data, len, false, NULL, 1, &finding, 1, &needed));

@@ -11,6 +11,7 @@ mod lint;
 mod message;
 mod open;
 mod parse;
+mod read_as;
 mod salvage;
 mod uses;
 mod version;
