@@ -54,7 +54,7 @@ pub use piece::{Grade, Piece};
 #[cfg(feature = "std")]
 pub use predefined::{OpenError, predefined_file};
 pub use reader::{CMapName, Cid};
-pub use reason::{Cause, Reason, Segment};
+pub use reason::{Cause, ReadAs, Reason, Segment};
 pub use refusal::Refusal;
 pub use text::BfString;
 

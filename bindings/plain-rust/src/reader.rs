@@ -31,6 +31,6 @@ pub(crate) mod hayro_cmap;
 
 pub use cmap_chains::named_files::BundleFiles;
 pub use cmap_encode::{Encoder, Grade, Piece, Unencodable};
-pub use cmap_lint::{finding, lint, warning};
+pub use cmap_lint::{finding, lint, read_as, warning};
 pub use cmap_unicode::{Character, Extractor, declared_cid, ucs2_name, unicode_name};
 pub use hayro_cmap::*;

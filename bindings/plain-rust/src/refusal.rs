@@ -98,6 +98,11 @@ impl Refusal {
         &self.names
     }
 
+    pub(crate) fn read_as_number(&self, text: &[u8]) -> u32 {
+        let read_as = self.stop().and_then(|stop| reader::cmap_lint::read_as::ReadAs::of(text, stop));
+        read_as.map_or(0, |read_as| read_as.number())
+    }
+
     fn stop(&self) -> Option<reader::Stop> {
         match self.cause {
             reader::Cause::Malformed(stop) => Some(stop),

@@ -17,7 +17,7 @@ from ._bundle import Bundle
 from ._effective import TextRun
 from ._encoder import Grade, Piece
 from ._extractor import Character, Extractor
-from ._faults import Cause, NotABundle, NotWritable, Reason, Refused, Segment, Unencodable
+from ._faults import Cause, NotABundle, NotWritable, ReadAs, Reason, Refused, Segment, Unencodable
 from ._folder import folder
 from ._lint import Finding
 from ._map import CidRange, CMap, Code, CodeRange, Codespace, Layer, Metadata, Salvaged, TextRange, WritingMode
@@ -46,6 +46,7 @@ __all__ = [
     "NotABundle",
     "NotWritable",
     "Piece",
+    "ReadAs",
     "Reason",
     "Refused",
     "Salvaged",

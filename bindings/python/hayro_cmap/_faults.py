@@ -6,6 +6,8 @@ import functools
 import re
 from typing import List, Optional, Tuple
 
+from ._library import Fault
+from ._owned import library
 from ._values import Buffer, bytes_of, shown
 
 
@@ -54,6 +56,20 @@ class Segment(enum.IntEnum):
     MODE = 4
     CODESPACES = 5
     COLLECTION = 6
+
+
+class ReadAs(enum.IntEnum):
+    """What a part at fault is read as, where it shows what was meant."""
+
+    EMPTY_TEXT = 1
+    """An empty string in place of a text, as the text without units."""
+    EXTENDED_CODE = 2
+    """The second code of a codespace range, longer than the first, which gets leading bytes 0."""
+
+    @property
+    def words(self) -> str:
+        """The same in English, after "read as"."""
+        return "the empty text" if self is ReadAs.EMPTY_TEXT else "a range whose first code has leading bytes 0"
 
 
 #: The end of a line of a text.
@@ -117,6 +133,18 @@ class Refused(ValueError):
         A line ends with LF, CR or CRLF. None for a binary file, and for one that isn't malformed.
         """
         return Lines(bytes_of(data)).line(self.offset)
+
+    def read_as(self, data: Buffer) -> Optional[ReadAs]:
+        """What the part at fault is read as, if `data`, the bytes of the file at fault, is read past this fault.
+
+        None where it is lost, and where the bytes before the fault don't show it, as for a string that begins a line.
+        """
+        if self.reason is None:
+            return None
+        file = bytes_of(data)
+        fault = Fault(cause=self.cause, reason=self.reason, segment=self.segment or 0, offset=self.offset)
+        number = library.hayro_cmap_read_as(fault, file, len(file))
+        return ReadAs(number) if number else None
 
     def __str__(self) -> str:
         at_fault = self.names[-1] if self.names else self.opened

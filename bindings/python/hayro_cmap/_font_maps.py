@@ -11,7 +11,7 @@ import re
 from typing import Any, Dict, Iterator, List, NamedTuple, Optional, Tuple
 
 from ._extractor import Extractor
-from ._faults import Lines, NotWritable, Refused
+from ._faults import Lines, NotWritable, ReadAs, Refused
 from ._map import CMap, Code, Layer, WritingMode
 from ._reading import NO_FILES
 from ._room import Row
@@ -79,13 +79,16 @@ class Fault(NamedTuple):
     #: The names of the CMaps by `UseCMap` that lead to the one at fault.
     names: Tuple[bytes, ...]
     reason: str
+    #: What the part at fault is read as, past the fault; None where it is lost, or the stream doesn't show it.
+    read_as: Optional[ReadAs] = None
 
     def __str__(self) -> str:
         where = "" if self.offset is None else f"byte {self.offset}"
         where += "" if self.line is None else f" (line {self.line})"
         below = f", in /{self.names[-1].decode('latin-1')}" if self.names else ""
         what = f"{self.of} {self.number}" if self.number else self.of
-        return f"{what}: {where}{': ' if where else ''}{self.reason}{below}"
+        read_as = "" if self.read_as is None else f"; read as {self.read_as.words}"
+        return f"{what}: {where}{': ' if where else ''}{self.reason}{below}{read_as}"
 
 
 class Read(NamedTuple):
@@ -345,7 +348,7 @@ def read_name(name: bytes, of: str) -> Read:
     try:
         cmap = opened(name)
     except Refused as fault:
-        return Read(None, None, [fault_of(fault, of, 0, Lines(b""))])
+        return Read(None, None, [fault_of(fault, of, 0, b"", Lines(b""))])
     return Read(cmap, cmap, [])
 
 
@@ -368,7 +371,7 @@ def read_stream(source: CMapSource, of: str) -> Read:
     except NotWritable as fault:
         return Read(None, None, [Fault(of, number, None, None, (), f"what it is based on can't be used: {fault}")])
     lines = Lines(data)
-    faults = [fault_of(it, of, number, lines) for it in itertools.islice(refusals, MOST_FAULTS)]
+    faults = [fault_of(it, of, number, data, lines) for it in itertools.islice(refusals, MOST_FAULTS)]
     if len(refusals) > MOST_FAULTS:
         faults.append(Fault(of, number, None, None, (), f"more than {MOST_FAULTS:,} faults"))
     faults += below.faults
@@ -411,10 +414,11 @@ def in_utf_16(digits: bytes) -> Optional[bytes]:
     return b"<%b>" % chr(int(digits, 16)).encode("utf-16-be").hex().encode() if len(digits) == 5 else None
 
 
-def fault_of(refused: Refused, of: str, number: int, lines: Lines) -> Fault:
-    """Why a CMap is refused, whose lines are these."""
+def fault_of(refused: Refused, of: str, number: int, data: bytes, lines: Lines) -> Fault:
+    """Why a CMap of these bytes and lines is refused, or what it is read past."""
     line = None if refused.names else lines.line(refused.offset)
-    return Fault(of, number, refused.offset, line, refused.names, refused.words)
+    read_as = None if refused.names else refused.read_as(data)
+    return Fault(of, number, refused.offset, line, refused.names, refused.words, read_as)
 
 
 def unicode_or_none(encoding: CMap, collection: Optional[bytes]) -> Optional[CMap]:

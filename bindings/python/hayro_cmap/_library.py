@@ -219,6 +219,7 @@ CALLS = {
     "hayro_cmap_message": (c_int, [POINTER(Fault), *ROOM]),
     "hayro_cmap_notdef_ranges": (c_int, [HANDLE, c_size_t, c_uint8, POINTER(DeclaredCids), c_size_t, SIZE]),
     "hayro_cmap_open": (c_int, [HANDLE, *DATA, *OVER_FILES]),
+    "hayro_cmap_read_as": (c_int, [POINTER(Fault), *DATA]),
     "hayro_cmap_salvage": (c_int, [HANDLE, *DATA, *OVER_FILES, POINTER(Fault), c_size_t, SIZE, *ROOM]),
     "hayro_cmap_share": (c_int, [HANDLE, HANDLE]),
     "hayro_cmap_text": (c_int, [HANDLE, c_uint32, *ROOM]),

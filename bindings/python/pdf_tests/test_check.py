@@ -80,6 +80,18 @@ class Counts(unittest.TestCase):
         self.assertIn("the text of a code was expected", list(font.lines())[1])
         self.assertTrue(report.summary().endswith("; 1 of 1 fonts refused"))
 
+    def test_a_part_that_is_read_all_the_same(self):
+        """It is told, unless the CMap isn't read past its faults."""
+        data = BAD.replace(b"/x", b"<>")
+        file = showing(b"ABC", data)
+        [font] = pdf.check(file.pdf).fonts
+        said = f"byte {data.index(b'<>') + 2} (line 1): the text of a code was expected"
+        self.assertTrue(list(font.lines())[1].endswith(f": {said}; read as the empty text"), list(font.lines()))
+        self.assertEqual([it["read_as"] for it in font.as_json()["faults"]], ["the empty text"])
+        [strict] = pdf.check(file.pdf, lenient=False).fonts
+        self.assertTrue(list(strict.lines())[1].endswith(f": {said}"), list(strict.lines()))
+        self.assertEqual([it["read_as"] for it in strict.as_json()["faults"]], [None])
+
     def test_without_a_font(self):
         self.assertEqual(pdf.check(File().show(b"(abc) Tj").pdf).without_font, 3)
 

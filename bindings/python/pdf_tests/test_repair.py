@@ -110,6 +110,8 @@ class Repairs(unittest.TestCase):
         file.show(b"", F=file.composite(Name("/Identity-H"), to_unicode=data))
         [done] = pdf.repair(file.pdf)
         self.assertEqual(done.kept, 3 + 2 + 256)
+        said = f"byte {data.index(b'<>') + 2} (line 1): the text of a code was expected; read as the empty text"
+        self.assertIn(f"mended at ToUnicode {done.number}: {said}", done.lines())
         with CMap.parse(stream_of(file).read_bytes()) as cmap:
             texts = [cmap.text(code) for code in (0x41, 0x100, 0x101, 0x102, 0x200, 0x2FF)]
         self.assertEqual(texts, ["A", "\U0001F600", "ffi", None, "\u4e00", "\u4eff"])

@@ -5,7 +5,7 @@ import pickle
 import re
 import unittest
 
-from hayro_cmap import Bundle, Cause, CMap, NotABundle, Reason, Refused, Segment
+from hayro_cmap import Bundle, Cause, CMap, NotABundle, ReadAs, Reason, Refused, Segment
 from hayro_cmap._faults import Lines
 
 from .files import BINARY, BROKEN, BUNDLE, FIRST, SMALL, needs_resources, predefined, uses
@@ -67,6 +67,19 @@ class Refusals(unittest.TestCase):
             self.assertEqual([fault.offset for fault in faults], [data.index(b"/X") + 2, 15, None])
             self.assertEqual(str(faults[1]), "/AB: byte 15: a code has one to four bytes")
         self.assertEqual(CMap.salvage(SMALL).faults, [])
+
+    def test_read_as(self):
+        data = (
+            b"begincodespacerange <00> <FFFF> <0000> <FF> endcodespacerange "
+            b"beginbfchar <41> <> <42> /x endbfchar " + uses(b"A")
+        )
+        faults = CMap.salvage(data).faults
+        self.assertEqual(
+            [fault.read_as(data) for fault in faults], [ReadAs.EXTENDED_CODE, None, ReadAs.EMPTY_TEXT, None, None]
+        )
+        self.assertEqual(faults[2].read_as(bytearray(data)).words, "the empty text")
+        self.assertEqual(faults[0].read_as(data).words, "a range whose first code has leading bytes 0")
+        self.assertIsNone(faults[0].read_as(b"<00> <FFFF>"))
 
     def test_salvage_asks_once(self):
         asked = []

@@ -304,6 +304,7 @@ unsafe extern "C" {
         room_len: usize,
         needed: *mut usize,
     ) -> u32;
+    fn hayro_cmap_read_as(fault: *const RawFault, text: *const u8, text_len: usize) -> u32;
     fn hayro_cmap_open(
         map: *mut RawMap,
         name: *const u8,
@@ -637,6 +638,13 @@ impl Fault {
             // SAFETY: see the head of the module.
             unsafe { hayro_cmap_message(&raw, room.as_mut_ptr(), room.len(), needed) }
         })
+    }
+
+    /// The number of what the part at fault of a text is read as, or 0.
+    pub(crate) fn read_as(&self, text: &[u8]) -> u32 {
+        let raw = self.raw();
+        // SAFETY: see the head of the module.
+        unsafe { hayro_cmap_read_as(&raw, text.as_ptr(), text.len()) }
     }
 }
 

@@ -44,7 +44,7 @@ pub use names::CMapName;
 pub use options::{ParseOptions, Salvaged};
 pub use piece::{Grade, Piece};
 pub use predefined::{OpenError, predefined_file};
-pub use reason::{Cause, Reason, Segment};
+pub use reason::{Cause, ReadAs, Reason, Segment};
 pub use refusal::Refusal;
 pub use text::BfString;
 

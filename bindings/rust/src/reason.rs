@@ -1,6 +1,7 @@
 //! What may be wrong with a file.
 
 use crate::refusal::Refusal;
+use core::fmt::{self, Display, Formatter};
 
 /// What is wrong with the file at fault.
 #[derive(Clone, Copy, Debug, PartialEq, Eq, Hash)]
@@ -58,6 +59,16 @@ pub enum Reason {
     StrayDelimiter,
 }
 
+/// What a part at fault is read as, where it shows what was meant. It prints as `the empty text`.
+#[derive(Clone, Copy, Debug, PartialEq, Eq, Hash)]
+#[non_exhaustive]
+pub enum ReadAs {
+    /// An empty string in place of a text, as the text without units.
+    EmptyText,
+    /// The second code of a codespace range, longer than the first, which gets leading bytes 0.
+    ExtendedCode,
+}
+
 /// A segment of a binary file, by what it holds.
 #[derive(Clone, Copy, Debug, PartialEq, Eq, Hash)]
 #[non_exhaustive]
@@ -90,5 +101,34 @@ impl Refusal {
         let feeds = before.iter().filter(|byte| **byte == b'\n').count();
         let returns = before.split(|byte| *byte == b'\r').skip(1);
         Some(1 + feeds + returns.filter(|after| !after.starts_with(b"\n")).count())
+    }
+    /// What the part at fault is read as, if `file`, the text at fault, is read past this fault
+    /// ([`CMap::salvage`](crate::CMap::salvage)). `None` where it is lost, and where the bytes before the fault don't
+    /// show it, as for a string that begins a line.
+    ///
+    /// ```
+    /// let file = b"beginbfchar <41> <> endbfchar";
+    /// let faults = hayro_cmap::CMap::salvage(file, |_| None).faults;
+    /// let read_as = faults[0].read_as(file).unwrap();
+    /// assert_eq!(
+    ///     format!("{}; read as {read_as}", faults[0]),
+    ///     "byte 19: the text of a code was expected; read as the empty text"
+    /// );
+    /// ```
+    pub fn read_as(&self, file: &[u8]) -> Option<ReadAs> {
+        match self.read_as_number(file) {
+            1 => Some(ReadAs::EmptyText),
+            2 => Some(ReadAs::ExtendedCode),
+            _ => None,
+        }
+    }
+}
+
+impl Display for ReadAs {
+    fn fmt(&self, f: &mut Formatter<'_>) -> fmt::Result {
+        f.write_str(match self {
+            ReadAs::EmptyText => "the empty text",
+            ReadAs::ExtendedCode => "a range whose first code has leading bytes 0",
+        })
     }
 }

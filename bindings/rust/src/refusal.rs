@@ -1,7 +1,7 @@
 //! Why a file gives no map.
 
 use crate::ffi::Fault;
-use crate::reason::{Cause, Reason, Segment};
+use crate::reason::{Cause, ReadAs, Reason, Segment};
 use std::fmt::{self, Debug, Display, Formatter};
 
 /// Why a file gives no map: which file is at fault, and what is wrong with it.
@@ -96,6 +96,10 @@ impl Refusal {
     /// the fault is in the file itself.
     pub fn names(&self) -> &[Vec<u8>] {
         &self.0.names
+    }
+
+    pub(crate) fn read_as_number(&self, text: &[u8]) -> u32 {
+        self.0.read_as(text)
     }
 }
 

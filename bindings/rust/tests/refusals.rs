@@ -1,6 +1,6 @@
 //! Why a file gives no map, and over what it is read.
 
-use hayro_cmap::{Bundle, CMap, CMapName, Cause, ParseOptions, Reason, Refusal, Segment};
+use hayro_cmap::{Bundle, CMap, CMapName, Cause, ParseOptions, ReadAs, Reason, Refusal, Segment};
 use std::cell::RefCell;
 
 fn refusal(data: &[u8], get_cmap: impl Fn(CMapName<'_>) -> Option<&'static [u8]>) -> Refusal {
@@ -277,6 +277,20 @@ fn files_are_read_past_their_faults() {
     assert_eq!(found.faults[1].line(b"begincidchar\n<> 8\r<44> 9\nendcidchar /C usecmap"), Some(2));
     assert_eq!((found.faults[0].line(data), found.faults[2].line(data)), (Some(1), None));
     assert_eq!(found.faults[2].names(), [b"AB".to_vec(), b"C".to_vec()]);
+}
+
+#[test]
+fn parts_at_fault_are_read() {
+    let file = b"begincodespacerange <00> <FFFF> <0000> <FF> endcodespacerange \
+                 beginbfchar <41> <> <42> /x endbfchar";
+    let faults = CMap::salvage(file, |_| None).faults;
+    let read: Vec<Option<ReadAs>> = faults.iter().map(|fault| fault.read_as(file)).collect();
+    assert_eq!(read, [Some(ReadAs::ExtendedCode), None, Some(ReadAs::EmptyText), None]);
+    let shown = ReadAs::ExtendedCode.to_string();
+    assert_eq!(shown, "a range whose first code has leading bytes 0");
+    assert_eq!(faults[0].read_as(b"<00> <FFFF>"), None);
+    let missing = refusal(b"/A usecmap", |_| None);
+    assert_eq!(missing.read_as(b"/A usecmap"), None);
 }
 
 #[test]

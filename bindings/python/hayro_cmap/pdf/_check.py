@@ -49,8 +49,10 @@ class ShownCode(NamedTuple):
 class FontReport:
     """What is known of a font, and of the codes that are shown with it."""
 
-    def __init__(self, font: Font, codes: List[ShownCode], lenient: List[ShownCode]):
+    def __init__(self, font: Font, codes: List[ShownCode], lenient: List[ShownCode], is_lenient: bool = True):
         self.font = font
+        #: The faults of its CMaps. Without `is_lenient` these aren't read past them.
+        self.faults = font.faults if is_lenient else [it._replace(read_as=None) for it in font.faults]
         #: The codes, those first that are shown most often.
         self.codes = codes
         #: How many codes are shown.
@@ -88,7 +90,7 @@ class FontReport:
         """A line of the font, one for each fault and warning, and one for each kind of codes that lack something."""
         number = f"font {self.font.number}"
         yield f"{self.font}: {'refused' if self.font.faults else 'ok'}; {share(self.with_text, self.shown)}"
-        for fault in self.font.faults:
+        for fault in self.faults:
             yield f"{number}: {fault}"
         if self.with_text_past_faults != self.with_text:
             yield f"{number}: past the faults, {share(self.with_text_past_faults, self.shown)}"
@@ -109,7 +111,7 @@ class FontReport:
         """The same as values of JSON."""
         return {
             **self.font.as_json(),
-            "faults": [fault_json(it) for it in self.font.faults],
+            "faults": [fault_json(it) for it in self.faults],
             "no_cid": counted(self.no_cid),
             "no_text": counted(self.no_text),
             "ok": not self.font.faults,
@@ -256,7 +258,7 @@ def report_of(strings: Strings, lenient: bool, guesses: bool) -> FontReport:
     """What is known of the font with which these strings are shown."""
     codes = strings.codes(lenient, guesses)
     is_other = bool(strings.font.to_unicode.faults) and not lenient
-    return FontReport(strings.font, codes, strings.codes(True, guesses) if is_other else codes)
+    return FontReport(strings.font, codes, strings.codes(True, guesses) if is_other else codes, lenient)
 
 
 def warnings_of(font: Font, codes: List[ShownCode]) -> List[CMapWarning]:
@@ -287,6 +289,7 @@ def fault_json(fault) -> Dict[str, Any]:
         "line": fault.line,
         "object": fault.number,
         "of": fault.of,
+        "read_as": None if fault.read_as is None else fault.read_as.words,
         "reason": fault.reason,
     }
 

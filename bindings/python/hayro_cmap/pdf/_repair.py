@@ -33,7 +33,7 @@ class Repaired(NamedTuple):
     number: int
     #: The fonts that have it.
     fonts: List[Font]
-    #: The faults, and with them what is lost.
+    #: The faults, and with them what is lost, or read as something else.
     faults: List[Fault]
     #: How many codes have a text in the new CMap. If it is 0, nothing is left, and the stream stays as it is.
     kept: int
@@ -44,7 +44,7 @@ class Repaired(NamedTuple):
         lines = [f"ToUnicode {self.number}: {what}"]
         if self.fonts[0].to_unicode.has_five_digits:
             lines.append(f"ToUnicode {self.number}: texts of five digits are read as the characters of these numbers")
-        return [*lines, *(f"lost at {fault}" for fault in self.faults)]
+        return [*lines, *(f"{'lost' if it.read_as is None else 'mended'} at {it}" for it in self.faults)]
 
     def as_json(self) -> Dict[str, Any]:
         """The same as values of JSON."""
