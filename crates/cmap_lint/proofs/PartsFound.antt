@@ -1,5 +1,5 @@
 -- The strings at the end of bytes are found: there is one way alone to cut them off.
-use Rattle.std.proofs.Common.{◌≡◌, ◌∙◌, ◌↔◌, ◌⊎◌, ◌<◌, ◌+◌, inl, inr, true, false, ℕ, List, [], ◌∷◌, ◌++◌, codes, Option, Some, None, MatchOption, IsTrue, refl, sym, ap, subst, append_assoc, arith, ◌≤◌, ◌-◌, length, get_or}
+use Rattle.std.proofs.Common.{◌≡◌, ◌∙◌, ◌<◌, inl, inr, true, false, ℕ, List, [], ◌∷◌, ◌++◌, codes, Option, Some, None, MatchOption, refl, sym, ap, subst, append_assoc, arith, ◌≤◌, ◌-◌, length, get_or}
 use Rattle.std.specs.Char.{is_ascii_hexdigit}
 use Rattle.std.specs.List.{count_by, list_all}
 use Rattle.std.proofs.lemmas.List.{get_or_push, length_push, same_from_push}
@@ -154,7 +154,7 @@ longer_from bytes front rest before m n high trimmed low some less single =
     (before, string-2.0, trimmed.0, string.0, bytes_of m, bytes_of n, string.1 ∙ ap (λ xs. xs ++ string.0) (trimmed.1 ∙ ap (λ xs. xs ++ trimmed.0) string-2.1), string-2.2, string.2, trimmed.2, some, less, single)
 
 -- where the second one is cut off, and then the blanks, the first one is left
-pub record Longer (bytes front rest : List ℕ) (n : ℕ) : Type 0 where
+pub record Longer (rest : List ℕ) (n : ℕ) : Type 0 where
   pub before : List ℕ
   pub digits : ℕ
   pub low : AreBeforeDigits rest before digits
@@ -165,7 +165,7 @@ pub record Longer (bytes front rest : List ℕ) (n : ℕ) : Type 0 where
 pub high_of : (bytes : List ℕ) → EndInLongerCode bytes → (front : List ℕ) × (digits : ℕ) × AreBeforeDigits bytes front digits
 high_of bytes end = (_, _, hex_before bytes ((end.0 ++ end.1) ++ end.2) end.3 end.5 end.6 end.8)
 
-pub longer_of : (bytes front rest : List ℕ) (n : ℕ) → AreBeforeDigits bytes front n → IsTrimmed front rest → EndInLongerCode bytes → Longer bytes front rest n
+pub longer_of : (bytes front rest : List ℕ) (n : ℕ) → AreBeforeDigits bytes front n → IsTrimmed front rest → EndInLongerCode bytes → Longer rest n
 longer_of bytes front rest n high trimmed end =
     let low = end.7 in
     let found = hex_before bytes ((end.0 ++ end.1) ++ end.2) end.3 end.5 end.6 end.8 in

@@ -1,6 +1,5 @@
 use Rattle.std.proofs.Common.{◌≡◌, ◌∙◌, ℕ, List, ap, arith, refl, subst, sym, take, true≢false}
 use Rattle.std.specs.List.{slice_range}
-use Rattle.cmap_values.specs.Only.{IsOnly}
 use Rattle.cmap_values.specs.declared.fault.Reason.TheVariants.{TextExpected, UnequalLengths}
 use Rattle.cmap_values.specs.declared.fault.Stop.{Stop}
 use Rattle.cmap_lint.specs.PartsRead.{EndInLongerCode, IsReadAs}
