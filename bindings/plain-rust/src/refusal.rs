@@ -99,7 +99,8 @@ impl Refusal {
     }
 
     pub(crate) fn read_as_number(&self, text: &[u8]) -> u32 {
-        let read_as = self.stop().and_then(|stop| reader::cmap_lint::read_as::ReadAs::of(text, stop));
+        let read_as =
+            self.stop().and_then(|stop| reader::cmap_lint::read_as::ReadAs::of(text, stop));
         read_as.map_or(0, |read_as| read_as.number())
     }
 
