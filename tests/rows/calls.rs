@@ -1,9 +1,12 @@
 //! The calls of the crate `hayro_cmap`, which its plain build and its bindings over the C library share.
 
+mod declared;
+
 use crate::library::{
     CidRange, Code, Codespace, Collection, File, Layer, Library, Map, Metadata, Outcome, Reading,
     Refusal, Run, Salvaged, Text, TextRange,
 };
+use crate::row::{Row, RowKind};
 use crate::row_error::{Answer, RowError};
 use hayro_cmap::{
     BfString, Bundle, CMap, CMapName, Cause, CharacterCollection, CidFamily, ParseOptions,
@@ -63,6 +66,14 @@ impl Library for Crate {
 
     fn file_of_bundle(&self, bytes: &[u8], name: &[u8]) -> Answer<Option<Vec<u8>>> {
         Ok(Bundle::open(bytes).and_then(|bundle| bundle.file(CMapName::from_bytes(name))))
+    }
+
+    fn answer_of_part(&self, row: &Row<'_>, word: &str, rest: &str) -> Answer<String> {
+        match row.kind {
+            RowKind::Destination => declared::of_destination(row.input(), word, rest),
+            RowKind::Ranges => declared::of_ranges(row.words, word, rest),
+            _ => Err(RowError::NoCall),
+        }
     }
 
     fn run(&self, arguments: &[String], input: &[u8]) -> Answer<Run> {
@@ -154,10 +165,7 @@ impl Map for CMap {
     }
 
     fn text(&self, code: u32) -> Answer<Option<Text>> {
-        Ok(self.lookup_bf_string(code).map(|text| match text {
-            BfString::Char(character) => Text { characters: character.into(), is_one: true },
-            BfString::String(characters) => Text { characters, is_one: false },
-        }))
+        Ok(self.lookup_bf_string(code).map(text_of))
     }
 
     fn metadata(&self) -> Answer<Metadata> {
@@ -174,6 +182,13 @@ impl Map for CMap {
 
     fn copy(&self) -> Answer<CMap> {
         Ok(self.clone())
+    }
+}
+
+fn text_of(text: BfString) -> Text {
+    match text {
+        BfString::Char(character) => Text { characters: character.into(), is_one: true },
+        BfString::String(characters) => Text { characters, is_one: false },
     }
 }
 
