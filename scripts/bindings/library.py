@@ -8,6 +8,8 @@ from .checks import Failed, run
 TOP = Path(__file__).resolve().parent.parent.parent
 EXAMPLES = TOP / "examples"
 C_TESTS = TOP / "bindings" / "c" / "tests.c"
+# the calls that take memory and that no example makes
+C_MEMORY = TOP / "bindings" / "c" / "memory.c"
 # those of null, which the library of plain Rust alone looks for
 NULL_TESTS = TOP / "bindings" / "plain-c" / "tests" / "nulls.c"
 CPP_TESTS = TOP / "bindings" / "cpp" / "tests.cc"

@@ -1,12 +1,12 @@
-"""Requests for memory that are refused in turn: each example then ends with a message and a status."""
+"""Requests for memory that are refused in turn: each program then ends with a message and a status."""
 
 from .checks import Failed, needs, run
 from .known import DECLARED, MADE_OF, WRITTEN_FOR, declaring_file, to_unicode_file
-from .library import EXAMPLES, TOP
+from .library import C_MEMORY, EXAMPLES, TOP
 
 # all that a program asks for afterwards
 ALL = 10**9
-# more requests than an example has
+# more requests than a program has
 MOST = 5000
 
 
@@ -70,6 +70,13 @@ def test_c_threads_without_memory(checks, setting):
     """Four threads over a small file."""
     command = [setting.programs.path(EXAMPLES / "threads.c"), setting.files[0].folder / "UniJIS-UTF16-H"]
     refuse_each(checks, setting, "threads.c", command, f"{setting.files[0].count}\n" * 4)
+
+
+@needs("gcc")
+def test_c_reads_past_faults_without_memory(checks, setting):
+    """A file over another one, both at fault; and the warnings of a third one."""
+    command = [setting.programs.path(C_MEMORY)]
+    refuse_each(checks, setting, "memory.c", command, "3 faults, CID 5\n3 warnings\n")
 
 
 @needs("gcc")

@@ -10,6 +10,9 @@ from .known import has_debian_files
 from .library import C_TESTS, CPP_TESTS, MEMCHECK, NULL_TESTS, TOP
 
 CRATE = TOP / "bindings" / "rust"
+# the package that runs the rows of data over the crate, and the program whose runs some of them are
+ROWS = TOP / "tests"
+QUERY = TOP / "crates" / "cmap_query" / "out" / "cmap_query"
 PACKAGE = TOP / "bindings" / "python"
 
 
@@ -19,10 +22,10 @@ class Crate:
     def __init__(self, library, work):
         self.library, self.work = library, work
 
-    def cargo(self, *words, **environment):
-        """Runs cargo with these words."""
+    def cargo(self, command, *words, folder=CRATE, **environment):
+        """Runs a command of cargo with these words."""
         environment = {"CARGO_TARGET_DIR": str(self.work / "target"), "CARGO_TERM_COLOR": "never", **environment}
-        return run("cargo", *words, "--offline", folder=CRATE, **environment)
+        return run("cargo", command, "--offline", *words, folder=folder, **environment)
 
     def over_library(self):
         """The variable that names the folder of the library."""
@@ -132,6 +135,17 @@ def test_rust_suite(checks, setting):
     check_crate(checks, setting, "no bundle", HAYRO_CMAP_BUNDLE="")
     for files in setting.files:
         check_crate(checks, setting, f"the bundle {files.bundle.name}", HAYRO_CMAP_BUNDLE=str(files.bundle))
+
+
+@needs("cargo")
+def test_rust_suite_of_rows(checks, setting):
+    """The rows of data by the calls of the crate; those of runs by the proved program, where it is built."""
+    environment = {**setting.crate.over_library(), "HAYRO_CMAP_BUNDLE": ""}
+    if QUERY.exists() and not setting.library.is_plain:
+        environment["CMAP_QUERY"] = str(QUERY)
+    ran = setting.crate.cargo("test", "--", "--nocapture", folder=ROWS, **environment)
+    checks.holds("the rows", ran.status == 0, ran)
+    print("\n".join(re.findall(r"^(?:left aside|skipped|runs): .*", ran.out, re.M)), flush=True)
 
 
 @needs("cargo")

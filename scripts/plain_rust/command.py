@@ -4,14 +4,12 @@ import shutil
 
 from common.programs import CRATES, TOP, and_below
 
-from .crate import BY_HAND as LIBRARY
 from .crate import after_docs, copy_fallible, copy_licenses, erase_crate
 
 BY_HAND = TOP / "bindings" / "plain-command"
 COMMAND = "cmap"
-# the crates of the kit whose interface is by hand: over the crate of the same name, and the one of the rows
+# the crates of the kit whose interface is by hand
 KIT = ["clap", "hex"]
-HEX = LIBRARY / "tests" / "rows" / "hex.rs"
 # the licence of the table of hidden characters
 UNICODE = CRATES / "cmap_escape" / "LICENSE-UNICODE"
 # what `fallible` has here beside that of the reader
@@ -22,6 +20,11 @@ MODULES = ["fallible", "host", "kit", "sources"]
 ALLOWED = "#![allow(clippy::all, dead_code, unused_imports, unused_labels, unused_variables)]\n"
 
 
+def cases_of_command():
+    """The files of its cases."""
+    return sorted(path for path in (TOP / "examples" / "command").glob("*.cases") if path.stem != "bench")
+
+
 def write_command(out):
     """Makes the package in a new folder: the crates below the command are modules of one, the command is its root."""
     shutil.copytree(BY_HAND, out, ignore=shutil.ignore_patterns("target", "Cargo.lock"))
@@ -29,7 +32,6 @@ def write_command(out):
     shutil.copy(UNICODE, out / UNICODE.name)
     source = out / "src"
     copy_fallible(out, ADDED)
-    shutil.copy(HEX, source / "kit" / "hex.rs")
     crates = sorted(and_below(COMMAND))
     paths = {name: f"crate::sources::{name}" for name in crates if name != COMMAND}
     known = {"std": "crate::fallible", "host": "crate::host", "itoa": "crate::fallible::itoa",

@@ -19,9 +19,11 @@ LICENSES = ["LICENSE-APACHE", "LICENSE-MIT"]
 README = "README.md"
 # the crates on which all others of the reader and of the writer stand
 READER = ["hayro_cmap", "cmap_encode", "cmap_unicode", "cmap_flatten", "cmap_lint", "cmap_text_writer", "cmap_tidy"]
-# the program that runs rows of data, and the crate that it is a call of
-ROWS = "cmap_vectors"
+# tests: the rows of data, and those of inner modules; the rows of one kind need the library of a program
+TESTS = TOP / "tests"
 QUERIES = "cmap_queries"
+# crates of programs alone that tests of modules need
+TESTED = ["cmap_diff", "cmap_maker", "cmap_writer"]
 # functions of lookups that Rust inlines only where they say so; other attributes of the kind are replaced
 INLINED = {
     "cmap_c_maps/src/cids.rt": ["hayro_cmap_cid", "hayro_cmap_cid_strict"],
@@ -32,7 +34,6 @@ INLINED = {
 }
 # files about the pointers of C
 POINTERS = ["cmap_c_encoder/src/slot.rt", "cmap_handles/src/slot.rt"]
-BESIDE = {name: f"crate::{name}" for name in (QUERIES, "hex")}
 
 
 def crates_of_reader():
@@ -83,13 +84,22 @@ def write_reader(out, crates):
 
 
 def write_rows(out):
-    """The rows of data, and the program that runs them as a test."""
+    """The rows of data, and what runs them as tests."""
     folder = out / "tests" / "rows"
-    paths = {"hayro_cmap": "hayro_cmap::reader", "std": "hayro_cmap::fallible", **BESIDE}
-    erase_crate(ROWS, folder, folder / "main.rs", {"crate": "crate", **paths})
-    erase_crate(QUERIES, folder / QUERIES, folder / f"{QUERIES}.rs", {"crate": BESIDE[QUERIES], **paths})
-    shutil.copytree(CRATES / ROWS / "data", folder / "data")
-    shutil.copy(CRATES / ROWS / "stdout", folder / "stdout")
+    shutil.copytree(TESTS / "rows", folder, ignore=shutil.ignore_patterns("over_c.rs", "process.rs"), dirs_exist_ok=True)
+    paths = {"crate": f"crate::{QUERIES}", "hayro_cmap": "hayro_cmap::reader", "std": "hayro_cmap::fallible"}
+    erase_crate(QUERIES, folder / QUERIES, folder / f"{QUERIES}.rs", paths)
+
+
+def write_units(out):
+    """The tests of modules, and the crates that they need beside the reader."""
+    folder = out / "src" / "units"
+    shutil.copytree(TESTS / "units", folder)
+    paths = {**{crate: f"crate::reader::{crate}" for crate in crates_of_reader()},
+             **{crate: f"crate::units::{crate}" for crate in TESTED}}
+    for crate in TESTED:
+        own = {"crate": paths[crate], "std": "crate::fallible", **paths}
+        erase_crate(crate, folder / crate, folder / f"{crate}.rs", own)
 
 
 def write_library(out):
@@ -103,6 +113,7 @@ def write_library(out):
         shutil.copytree(SHARED / folder, out / folder, dirs_exist_ok=True)
     write_reader(out, crates_of_reader())
     write_rows(out)
+    write_units(out)
 
 
 def copy_fallible(out, added):

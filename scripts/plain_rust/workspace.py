@@ -1,6 +1,9 @@
 """The workspace of plain Rust: the crate of the reader, and below it those of the C library and of the command."""
 
+import filecmp
 import shutil
+import tempfile
+from pathlib import Path
 
 from .c_library import write_c_library
 from .command import BY_HAND as COMMAND_BY_HAND
@@ -40,6 +43,21 @@ def write_workspace(out, members=tuple(MEMBERS)):
     write_all(out, writers, f"members = [{listed}]\n")
     if COMMAND in members:
         shutil.copy(LOCK, out / LOCK.name)
+
+
+def renew_workspace(out, members):
+    """Makes the workspace in a folder that may have it: a file that is as before stays, so that cargo builds the rest."""
+    with tempfile.TemporaryDirectory() as work:
+        made = Path(work) / "made"
+        write_workspace(made, members)
+        files = {path.relative_to(made) for path in made.rglob("*") if path.is_file()}
+        for old in [path for path in out.rglob("*") if path.is_file() and path.relative_to(out) not in files]:
+            if old.name != LOCK.name:
+                old.unlink()
+        for name in files:
+            if not (out / name).exists() or not filecmp.cmp(made / name, out / name, shallow=False):
+                (out / name).parent.mkdir(parents=True, exist_ok=True)
+                shutil.copyfile(made / name, out / name)
 
 
 def write_alone(out, name):

@@ -37,6 +37,8 @@ mod reason;
 mod refusal;
 mod said;
 mod text;
+#[cfg(test)]
+mod units;
 mod writing;
 
 pub use based::BaseError;

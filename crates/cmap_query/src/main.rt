@@ -2,6 +2,11 @@
 //! CMap file on the standard input.
 #![tactic(auto)]
 
+#[cfg(test)]
+mod callers;
+#[cfg(test)]
+mod examples;
+
 use cmap_queries::answers::run;
 use cmap_queries::arguments::arguments;
 use cmap_queries::output::report;

@@ -1,0 +1,44 @@
+/* Reads a file past its faults, and finds what looks wrong in another one: calls that take memory and that no example
+ * makes. Without memory it says so, with status 1. */
+#include <hayro_cmap.h>
+#include <stdio.h>
+
+#define TEXT(literal) hayro_cmap_bytes(literal), sizeof(literal) - 1
+
+/* A file at fault, over one at fault, which uses a file that is missing. */
+static hayro_cmap_status read_past_faults(hayro_cmap *map) {
+    hayro_cmap_bundle none = HAYRO_CMAP_EMPTY;
+    hayro_cmap_file file = {TEXT("AB"), TEXT("begincidchar <> 8 <44> 9 endcidchar /C usecmap")};
+    hayro_cmap_fault faults[4];
+    uint8_t room[8];
+    size_t found, needed;
+    hayro_cmap_status status =
+        hayro_cmap_salvage(map, TEXT("/AB usecmap begincidchar <41> 5 <42> /X endcidchar"), &none, &file, 1,
+                           HAYRO_CMAP_NO_BUDGET, faults, 4, &found, room, sizeof room, &needed);
+    uint32_t cid;
+    if (status == HAYRO_CMAP_OK && hayro_cmap_cid(map, 0x41, 1, &cid)) printf("%zu faults, CID %u\n", found, cid);
+    return status;
+}
+
+/* A file without a codespace range, whose range crosses a row, and whose name is that of vertical texts. */
+static hayro_cmap_status find_warnings(hayro_cmap *map) {
+    hayro_cmap_status status =
+        hayro_cmap_parse(map, TEXT("/CMapName /A-V def begincidrange <01F0> <0210> 5 endcidrange"), TEXT(""),
+                         hayro_cmap_files(NULL), 0, HAYRO_CMAP_NO_BUDGET);
+    if (status != HAYRO_CMAP_OK) return status;
+    hayro_cmap_finding found[3];
+    size_t needed;
+    status = hayro_cmap_lint(map, TEXT(""), false, hayro_cmap_shown(NULL), 0, found, 3, &needed);
+    if (status == HAYRO_CMAP_OK) printf("%zu warnings\n", needed);
+    return status;
+}
+
+int main(void) {
+    hayro_cmap map = HAYRO_CMAP_EMPTY;
+    hayro_cmap_status status = read_past_faults(&map);
+    if (status == HAYRO_CMAP_OK) status = find_warnings(&map);
+    hayro_cmap_free(&map);
+    if (status == HAYRO_CMAP_OK) return 0;
+    fputs(status == HAYRO_CMAP_NO_MEMORY ? "no memory\n" : "another status\n", stderr);
+    return status == HAYRO_CMAP_NO_MEMORY ? 1 : 2;
+}
