@@ -1,7 +1,7 @@
 //! Why a file gives no map.
 
 use crate::ffi::Fault;
-use crate::reason::{Cause, ReadAs, Reason, Segment};
+use crate::reason::{Cause, Reason, Segment};
 use std::fmt::{self, Debug, Display, Formatter};
 
 /// Why a file gives no map: which file is at fault, and what is wrong with it.
