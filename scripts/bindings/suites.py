@@ -117,9 +117,13 @@ def test_c_nulls(checks, setting):
 
 @needs("g++")
 def test_cpp_suite(checks, setting):
-    """The tests of hayro_cmap.hpp, plain and with the sanitizers."""
+    """The tests of hayro_cmap.hpp, as they are and with the sanitizers.
+
+    The sanitizers see the header and the tests, which are the same over both libraries: one run is enough.
+    """
     checks.ended("the tests in C++", run(setting.programs.path(CPP_TESTS)), "ok\n")
-    checks.ended("the tests in C++ with the sanitizers", run(setting.programs.sanitized(CPP_TESTS)), "ok\n")
+    if not setting.library.is_plain:
+        checks.ended("the tests in C++ with the sanitizers", run(setting.programs.sanitized(CPP_TESTS)), "ok\n")
 
 
 @needs("g++", "valgrind")
