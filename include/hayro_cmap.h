@@ -759,6 +759,20 @@ hayro_cmap_status hayro_cmap_encode_lossy(hayro_cmap_encoder *encoder, const uin
                                           size_t text_len, const uint8_t *missing, size_t missing_len,
                                           uint8_t *room, size_t room_len, size_t *needed);
 
+/* A text in UTF-8 in the characters that are usually written for what it shows, so that it can be searched and split.
+ * Texts that fonts give, as those of hayro_cmap_extract, may have others:
+ * - variation selectors, which are dropped;
+ * - presentation forms of Latin, Armenian, Hebrew and Arabic letters (U+FB00 to U+FDFF, U+FE70 to U+FEFF), and Kangxi
+ *   radicals (U+2F00 to U+2FDF), which become the letters or the ideograph to which the Unicode Standard decomposes
+ *   them;
+ * - spaces of other widths (U+00A0, U+2000 to U+200A, U+202F, U+205F), which become U+0020; punctuation for vertical
+ *   writing (U+FE10 to U+FE19, U+FE30 to U+FE48), which becomes the punctuation for horizontal writing; and the
+ *   half-width bar U+FFE8, which becomes U+007C.
+ *
+ * It is written like the string of hayro_cmap_encode; with HAYRO_CMAP_REFUSED the text isn't UTF-8. */
+hayro_cmap_status hayro_cmap_fold(const uint8_t *text, size_t text_len, uint8_t *room, size_t room_len,
+                                  size_t *needed, size_t *offset);
+
 /* The version of the library, such as 1.0.0, or 1.0.0+plain of the library in plain Rust, written like the text of
    hayro_cmap_text. */
 hayro_cmap_status hayro_cmap_version(uint8_t *room, size_t room_len, size_t *needed);

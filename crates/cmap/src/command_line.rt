@@ -4,7 +4,7 @@ pub(crate) mod flags;
 
 use self::flags::{
     BASE, BINARY, BUDGET, BUNDLE, CMAP_NAME, CODES, COLLECTION, DENY, EFFECTIVE, EXACT, FILES_FROM,
-    FIRST, FLATTEN, Flag, JSON, LENIENT, LINT, LINT_TO_UNICODE, MAX_FAULTS, MISSING, NAME,
+    FIRST, FLATTEN, FOLD, Flag, JSON, LENIENT, LINT, LINT_TO_UNICODE, MAX_FAULTS, MISSING, NAME,
     NO_PREDEFINED, NULL, OF_COLLECTION, OUTPUT, PIECES, QUIET, SIMPLE, TEXT_OUTPUT, TIDY,
     TO_UNICODE, USE, VERIFY, VERTICAL, values_of,
 };
@@ -76,8 +76,8 @@ struct Arguments {
     help: &'static str,
 }
 
-/// The options of a subcommand that takes strings.
-const STRING_FLAGS: &[Flag] = &[
+/// The options of `decode` and `text`.
+const SHOWN_FLAGS: &[Flag] = &[
     BASE,
     BUNDLE,
     NO_PREDEFINED,
@@ -85,6 +85,7 @@ const STRING_FLAGS: &[Flag] = &[
     TO_UNICODE,
     OF_COLLECTION,
     SIMPLE,
+    FOLD,
     BUDGET,
     LENIENT,
 ];
@@ -153,7 +154,17 @@ const OF_FILES: &[Form] = &[
     Form {
         name: "find",
         about: "Prints the codes that have a CID or a text",
-        flags: STRING_FLAGS,
+        flags: &[
+            BASE,
+            BUNDLE,
+            NO_PREDEFINED,
+            JSON,
+            TO_UNICODE,
+            OF_COLLECTION,
+            SIMPLE,
+            BUDGET,
+            LENIENT,
+        ],
         files: &[CMAP_FILE],
         arguments: Some(Arguments {
             id: ARGUMENT,
@@ -202,14 +213,14 @@ const OF_STRINGS: &[Form] = &[
     Form {
         name: "decode",
         about: "Prints the codes of strings, with their CIDs and their texts",
-        flags: STRING_FLAGS,
+        flags: SHOWN_FLAGS,
         files: &[CMAP_FILE],
         arguments: Some(STRINGS),
     },
     Form {
         name: "text",
         about: "Prints the texts of strings",
-        flags: STRING_FLAGS,
+        flags: SHOWN_FLAGS,
         files: &[CMAP_FILE],
         arguments: Some(STRINGS),
     },

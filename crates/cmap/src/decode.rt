@@ -31,9 +31,9 @@ fn print_codes(
         }
         let mut lines = String::new(rt.alloc());
         if options.json {
-            push_json(rt.alloc(), &mut lines, extractor, string)?;
+            push_json(rt.alloc(), &mut lines, extractor, string, options.texts)?;
         } else {
-            push_codes(rt.alloc(), &mut lines, extractor, string)?;
+            push_codes(rt.alloc(), &mut lines, extractor, string, options.texts)?;
         }
         rt.print(lines.as_str())?;
     }

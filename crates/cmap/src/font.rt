@@ -3,12 +3,13 @@
 use crate::collection::{
     declared_collection, from_unicode_of, is_from_unicode, to_unicode_of, ucs2_of,
 };
-use crate::command_line::flags::{JSON, OF_COLLECTION, SIMPLE, TO_UNICODE};
+use crate::command_line::flags::{FOLD, JSON, OF_COLLECTION, SIMPLE, TO_UNICODE};
 use crate::command_line::{arguments_of, file_of};
 use crate::options::{Sources, manner_of};
 use crate::strings::{strings_of, texts_of};
 use clap::ArgMatches;
 use cmap_files::failure::{Failure, fault, report_message};
+use cmap_report::decode::Texts;
 use cmap_sources::bases::Bases;
 use cmap_sources::maps::{map_needed, unknown_name};
 use cmap_sources::reading::Manner;
@@ -29,6 +30,8 @@ pub(crate) struct StringOptions<'m, 'w> {
     pub(crate) sources: Sources<'m, 'w>,
     manner: Manner,
     pub(crate) json: bool,
+    /// How texts are shown.
+    pub(crate) texts: Texts,
 }
 
 impl<'m, 'w> StringOptions<'m, 'w> {
@@ -42,7 +45,17 @@ impl<'m, 'w> StringOptions<'m, 'w> {
             sources: Sources::of(arguments),
             manner: manner_of(arguments),
             json: JSON.is_given(arguments),
+            texts: Texts::Exact,
         }
+    }
+
+    /// The same of `decode` and `text`, which may show texts in the characters that are usually written.
+    pub(crate) fn of_shown(arguments: &'m ArgMatches<'w>) -> StringOptions<'m, 'w> {
+        let mut options = StringOptions::of(arguments);
+        if FOLD.is_given(arguments) {
+            options.texts = Texts::Folded;
+        }
+        options
     }
 }
 

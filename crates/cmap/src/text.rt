@@ -31,9 +31,9 @@ fn print_texts(
     for string in strings {
         let mut line = String::new(rt.alloc());
         let is_whole = if options.json {
-            push_text_json(rt.alloc(), &mut line, extractor, string)?
+            push_text_json(rt.alloc(), &mut line, extractor, string, options.texts)?
         } else {
-            push_text_line(rt.alloc(), &mut line, extractor, string)?
+            push_text_line(rt.alloc(), &mut line, extractor, string, options.texts)?
         };
         rt.print(line.as_str())?;
         if !is_whole {

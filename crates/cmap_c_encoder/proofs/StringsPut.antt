@@ -1,9 +1,10 @@
 -- What goes to C of an encoder that was built, and of a string or of pieces that were made.
-use Rattle.std.proofs.Common.{◌≡◌, ℕ, Bool, List, Option, None, Some, Result, Ok, Err, inl, inr, subst}
-use Rattle.std.specs.Prelude.{IfOk}
+use Rattle.std.proofs.Common.{◌≡◌, ℕ, Bool, List, Option, None, Some, Result, Ok, Err, inl, inr, subst, ap, ◌∙◌}
+use Rattle.std.specs.Prelude.{IfOk, encode_utf8_all}
+use Rattle.std.specs.String.{String, string_bytes, string_vec}
 use Rattle.std.specs.Result.{MatchResult}
 use Rattle.std.specs.Global.{Vec}
-use Rattle.std.specs.Str.{IsUtf8, chars}
+use Rattle.std.specs.Str.{IsUtf8, IsValidUpTo, chars}
 use Rattle.std.specs.declared.alloc.AllocError.{AllocError}
 use Rattle.cmap_values.specs.Outcomes.{Outcome}
 use Rattle.cmap_values.specs.declared.fault.Fault.{Fault}
@@ -13,12 +14,14 @@ use Rattle.cmap_handles.specs.Statuses.{number}
 use Rattle.cmap_handles.specs.declared.status.Status.TheVariants.{Done, NoMemory}
 use Rattle.cmap_unicode.specs.TextsOfCodes.{Font}
 use Rattle.cmap_encode.specs.EncoderSeen.{IsEncoderFor}
+use Rattle.cmap_encode.specs.Folding.{folded}
 use Rattle.cmap_encode.specs.Encodings.{ArePiecesOf, IsEncodingOf, IsStuckAt}
 use Rattle.cmap_encode.specs.Maps.{Maps}
 use Rattle.cmap_encode.specs.declared.encoder.Encoder.{Encoder}
 use Rattle.cmap_encode.specs.declared.encoder.Unencodable.{Unencodable}
 use Rattle.cmap_encode.specs.declared.pieces.Piece.{Piece}
 use Rattle.cmap_c_encoder.specs.Encoded.{ArePiecesOfText, EndsAs, IsBuilt, IsLossyStringOf, IsRefusedAt, IsStringOf, PutsLossyString, PutsString, TakesLossy}
+use Rattle.cmap_c_encoder.specs.Folded.{IsFolded, PutsFolded}
 use Rattle.cmap_c_encoder.specs.PiecesSeen.{EndsAsPieces, PutsPieces}
 use Rattle.cmap_c_encoder.specs.declared.pieces.EncodedPiece.{EncodedPiece}
 
@@ -59,6 +62,19 @@ pub lossy_put : (maps : Maps) (missing text : List ℕ) (made : Result (Vec ℕ)
 lossy_put maps missing text (Ok string) old new old_needed needed old_offset offset status is ends = inl (string.items, is.0, ends.0)
 lossy_put maps missing text (Err (fault.Refused refused)) old new old_needed needed old_offset offset status is ends = inr (inl (ends.0.0, is.1), ends.1, ends.2)
 lossy_put maps missing text (Err fault.Memory) old new old_needed needed old_offset offset status is ends = inr (inr ends.0.0, ends.1, ends.2)
+
+-- the same of a text in the characters that are usually written
+pub folded_known : (text given : List ℕ) (made : Result String AllocError) → given ≡ text → IsUtf8 text → IfOk made (λ shown. string_bytes shown ≡ encode_utf8_all (folded (chars given)))
+    → IfOk made (λ shown. IsFolded text (string_vec shown).items)
+folded_known text given (Ok shown) same utf8 is = (utf8, is ∙ ap (λ t. encode_utf8_all (folded (chars t))) same)
+folded_known text given (Err e) same utf8 is = tt
+
+pub folded_put : (text : List ℕ) (made : Result (Vec ℕ) (Fault Unencodable)) (old new : List ℕ) (old_needed needed old_offset offset status : ℕ)
+    → Outcome (λ shown. IsFolded text shown.items) (λ refused. IsValidUpTo text refused.offset) made → EndsAs made old new old_needed needed old_offset offset status
+    → PutsFolded text old new old_needed needed old_offset offset status
+folded_put text (Ok shown) old new old_needed needed old_offset offset status is ends = inl (shown.items, is.0, ends.0, ends.1)
+folded_put text (Err (fault.Refused refused)) old new old_needed needed old_offset offset status is ends = inr (inl (ends.0.0, rw ends.0.1 is.1), ends.1, ends.2)
+folded_put text (Err fault.Memory) old new old_needed needed old_offset offset status is ends = inr (inr ends.0, ends.1, ends.2)
 
 -- the same of pieces
 pub pieces_known : (maps : Maps) (text given : List ℕ) (made : Result (Vec Piece) (Fault Unencodable)) → given ≡ text → IsUtf8 text

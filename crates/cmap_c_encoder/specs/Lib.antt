@@ -1,4 +1,5 @@
 pub mod Encoded
+pub mod Folded
 pub mod PiecesSeen
 pub mod HeldEncoder
 pub mod LentEncoder

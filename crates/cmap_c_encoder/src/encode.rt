@@ -109,7 +109,7 @@ pub(crate) fn utf8(text: &[u8]) -> Result<&str, Fault<Unencodable>>
 
 /// Writes the string at the head of the room, where it has room, and how many bytes it has; or where the text
 /// is refused.
-fn put_string(
+pub(crate) fn put_string(
     string: Result<Vec<u8>, Fault<Unencodable>>,
     room: &mut [u8],
     needed: &mut usize,

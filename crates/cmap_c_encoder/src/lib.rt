@@ -3,6 +3,7 @@
 
 mod build;
 mod encode;
+mod fold;
 mod handle;
 mod pieces;
 mod share;

@@ -3,6 +3,7 @@ pub mod Order
 pub mod Numbers
 pub mod CodesRead
 pub mod FirstGiven
+pub mod Folded
 pub mod PiecesParted
 pub mod WaysFound
 pub mod WaysFollowed

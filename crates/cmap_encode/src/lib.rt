@@ -8,6 +8,7 @@ mod choices;
 mod code;
 mod codespaces;
 mod encoder;
+mod folding;
 mod forms;
 mod gathered;
 mod glyph_codes;
@@ -28,4 +29,5 @@ mod whole;
 
 pub use choices::Grade;
 pub use encoder::{Encoder, Unencodable};
+pub use folding::fold;
 pub use pieces::Piece;

@@ -3,6 +3,7 @@
 ghost use Rattle.std.specs.Prelude.{OnOk, string_bytes};
 ghost use Rattle.cmap_escape.specs.Escapes.{AddsLine, AddsOfLine};
 
+use cmap_encode::fold;
 use cmap_escape::digits::{byte_digits, code_digits, push_code};
 use cmap_escape::object::Object;
 use cmap_escape::value::Value;
@@ -13,6 +14,61 @@ use std::alloc::{AllocError, Global};
 
 /// What is printed for a code without a text.
 const NO_TEXT: char = '\u{FFFD}';
+
+/// How texts are shown.
+#[derive(Clone, Copy)]
+pub enum Texts {
+    /// As the CMaps give them.
+    Exact,
+    /// In the characters that are usually written.
+    Folded,
+}
+
+impl Texts {
+    /// A text as it is shown.
+    fn shown(self, alloc: Global, text: String) -> Result<String, AllocError> {
+        match self {
+            Texts::Exact => Ok(text),
+            Texts::Folded => fold(alloc, text.as_str()),
+        }
+    }
+
+    /// The codes of a string, with their texts as they are shown.
+    fn characters(
+        self,
+        alloc: Global,
+        font: &Extractor<'_>,
+        string: &[u8],
+    ) -> Result<Vec<Character>, AllocError> {
+        let given = font.characters(alloc, string)?;
+        let mut characters = Vec::with_capacity(alloc, given.len())?;
+        for character in given {
+            let Character { code, cid, text } = character;
+            let text = match text {
+                Some(text) => Some(self.shown_of_code(alloc, text)?),
+                None => None,
+            };
+            characters.push(Character { code, cid, text })?;
+        }
+        Ok(characters)
+    }
+
+    /// The text of a code as it is shown: a folded one as a string, whichever length it has.
+    fn shown_of_code(self, alloc: Global, text: BfString) -> Result<BfString, AllocError> {
+        if let Texts::Exact = self {
+            return Ok(text);
+        }
+        let text = match text {
+            BfString::Char(only) => {
+                let mut text = String::new(alloc);
+                text.push(only)?;
+                text
+            }
+            BfString::String(text) => text,
+        };
+        Ok(BfString::String(fold(alloc, text.as_str())?))
+    }
+}
 
 /// The texts of codes in a row.
 #[derive(Drop)]
@@ -60,8 +116,9 @@ pub fn push_codes(
     out: &mut String,
     font: &Extractor<'_>,
     string: &[u8],
+    texts: Texts,
 ) -> Result<(), AllocError> {
-    let characters = font.characters(alloc, string)?;
+    let characters = texts.characters(alloc, font, string)?;
     for character in &characters {
         push_code_line(out, character)?;
     }
@@ -81,13 +138,14 @@ pub fn push_json(
     out: &mut String,
     font: &Extractor<'_>,
     string: &[u8],
+    texts: Texts,
 ) -> Result<(), AllocError>
     ensures line { OnOk result (AddsLine (string_bytes out.old) (string_bytes out.new)) }
 
     // Also where memory runs out.
     ensures printable { AddsOfLine (string_bytes out.old) (string_bytes out.new) }
 {
-    let object = string_object(alloc, font, string)?;
+    let object = string_object(alloc, font, string, texts)?;
     json::push_line(alloc, out, &object)
 }
 
@@ -98,11 +156,13 @@ pub fn push_text_line(
     out: &mut String,
     font: &Extractor<'_>,
     string: &[u8],
+    texts: Texts,
 ) -> Result<bool, AllocError> {
-    let joined = text_of(alloc, font, string)?;
-    escape::push_text(out, joined.text.as_str())?;
+    let Joined { text, is_whole } = text_of(alloc, font, string)?;
+    let text = texts.shown(alloc, text)?;
+    escape::push_text(out, text.as_str())?;
     out.push('\n')?;
-    Ok(joined.is_whole)
+    Ok(is_whole)
 }
 
 /// Adds the object of the text of a string, ends the line, and gives whether each code has a text.
@@ -111,6 +171,7 @@ pub fn push_text_json(
     out: &mut String,
     font: &Extractor<'_>,
     string: &[u8],
+    texts: Texts,
 ) -> Result<bool, AllocError>
     ensures line { OnOk result (AddsLine (string_bytes out.old) (string_bytes out.new)) }
 
@@ -118,7 +179,7 @@ pub fn push_text_json(
     ensures printable { AddsOfLine (string_bytes out.old) (string_bytes out.new) }
 {
     let Joined { text, is_whole } = text_of(alloc, font, string)?;
-    let object = text_object(alloc, text, string)?;
+    let object = text_object(alloc, texts.shown(alloc, text)?, string)?;
     json::push_line(alloc, out, &object)?;
     Ok(is_whole)
 }
@@ -141,8 +202,13 @@ fn text_object(alloc: Global, text: String, string: &[u8]) -> Result<Value, Allo
     object.finish()
 }
 
-fn string_object(alloc: Global, font: &Extractor<'_>, string: &[u8]) -> Result<Value, AllocError> {
-    let characters = font.characters(alloc, string)?;
+fn string_object(
+    alloc: Global,
+    font: &Extractor<'_>,
+    string: &[u8],
+    texts: Texts,
+) -> Result<Value, AllocError> {
+    let characters = texts.characters(alloc, font, string)?;
     let Joined { text, .. } = Joined::of(alloc, &characters)?;
     let mut object = Object::new(alloc);
     object.set_string("string", byte_digits(alloc, string));

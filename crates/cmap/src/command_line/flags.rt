@@ -184,6 +184,14 @@ pub(crate) const EXACT: Flag = Flag {
     help: "Only codes that are read as the very piece for which they stand",
 };
 
+pub(crate) const FOLD: Flag = Flag {
+    id: "fold",
+    short: None,
+    long: "fold",
+    value: Value::Nothing,
+    help: "Texts without variation selectors and presentation forms, with usual spaces and punctuation",
+};
+
 pub(crate) const PIECES: Flag = Flag {
     id: "pieces",
     short: None,
