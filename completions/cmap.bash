@@ -47,7 +47,8 @@ _cmap() {
         make) mapfile -t COMPREPLY < <(compgen -W "--name --collection --vertical --use --output --help" -- "$current") && return ;;
         bundle) mapfile -t COMPREPLY < <(compgen -W "--output --name --verify --help" -- "$current") && return ;;
         encode) mapfile -t COMPREPLY < <(compgen -W "--to-unicode --collection --simple --exact --missing --pieces --budget --lenient" -- "$current") ;;
-        find | decode | text) mapfile -t COMPREPLY < <(compgen -W "--to-unicode --collection --simple --budget --lenient" -- "$current") ;;
+        find) mapfile -t COMPREPLY < <(compgen -W "--to-unicode --collection --simple --budget --lenient" -- "$current") ;;
+        decode | text) mapfile -t COMPREPLY < <(compgen -W "--to-unicode --collection --simple --fold --budget --lenient" -- "$current") ;;
         check) mapfile -t COMPREPLY < <(compgen -W "--budget --files-from --null --first --max-faults --lint --to-unicode --deny --quiet" -- "$current") ;;
         *) mapfile -t COMPREPLY < <(compgen -W "--budget --lenient" -- "$current") ;;
         esac

@@ -36,6 +36,7 @@ complete -c cmap -n '__fish_seen_subcommand_from list' -l effective -d 'What cod
 complete -c cmap -n '__fish_seen_subcommand_from find decode text encode' -l to-unicode -r -d 'The ToUnicode CMap of the font'
 complete -c cmap -n '__fish_seen_subcommand_from find decode text encode' -l collection -x -d 'The character collection of the font'
 complete -c cmap -n '__fish_seen_subcommand_from find decode text encode' -l simple -d 'FILE is the ToUnicode CMap of a simple font'
+complete -c cmap -n '__fish_seen_subcommand_from decode text' -l fold -d 'Texts in usual characters'
 complete -c cmap -n '__fish_seen_subcommand_from encode' -l exact -d 'Only codes that are read as the very text'
 complete -c cmap -n '__fish_seen_subcommand_from encode' -l pieces -d 'Also the pieces of each text'
 complete -c cmap -n '__fish_seen_subcommand_from encode' -l missing -x -d 'The code for what no string shows'

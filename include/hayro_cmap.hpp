@@ -839,6 +839,16 @@ inline std::optional<std::string> unicode_name(Bytes collection,
     });
 }
 
+// A text in the characters that are usually written for what it shows, as hayro_cmap_fold has it, so that it can be
+// searched and split: without variation selectors and presentation forms, with usual spaces and punctuation. Nothing if
+// the text isn't UTF-8.
+inline std::optional<std::string> fold(Bytes text) {
+    std::size_t offset = 0;
+    return detail::written_to(std::string(text.size(), '\0'), [&](auto room, auto len, auto needed) {
+        return hayro_cmap_fold(text.data(), text.size(), room, len, needed, &offset);
+    });
+}
+
 // Which maps of a character collection were found.
 struct FoundCollection {
     bool to_unicode = false;        // the map to Unicode
@@ -903,6 +913,12 @@ public:
         std::string text;
         for (const auto &it : characters(string)) text += it.text ? std::string_view(*it.text) : missing;
         return text;
+    }
+
+    // The same as fold gives it; `missing` is UTF-8.
+    std::string folded_text(CodeString string, std::string_view missing = "\xEF\xBF\xBD") {
+        std::string exact = text(string, missing);
+        return fold(exact).value_or(exact);
     }
 
 private:

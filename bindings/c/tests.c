@@ -360,6 +360,18 @@ static void bytes_stand_for_characters_without_a_string(void) {
     CHECK(needed == 2 && same(room, "?!AB?!\7\7", 8));
 }
 
+static void a_text_is_folded(void) {
+    uint8_t room[8] = {7, 7, 7, 7, 7, 7, 7, 7};
+    size_t needed = 9, offset = 9;
+    CHECK(hayro_cmap_fold(TEXT("\xEF\xAC\x83\xE2\x80\x82\xEF\xB8\x80|"), room, 8, &needed, &offset) == HAYRO_CMAP_OK);
+    CHECK(needed == 5 && offset == 9 && same(room, "ffi |\7\7\7", 8));
+    CHECK(hayro_cmap_fold(TEXT("\xEF\xBF\xA8"), room, 0, &needed, &offset) == HAYRO_CMAP_NO_ROOM);
+    CHECK(needed == 1 && offset == 9 && same(room, "ffi |\7\7\7", 8));
+    CHECK(hayro_cmap_fold(TEXT("ab\xEF\xAC"), room, 8, &needed, &offset) == HAYRO_CMAP_REFUSED);
+    CHECK(needed == 1 && offset == 2 && same(room, "ffi |\7\7\7", 8));
+    CHECK(hayro_cmap_fold(TEXT(""), room, 0, &needed, &offset) == HAYRO_CMAP_OK && needed == 0);
+}
+
 // A code is half of what stands for a character, or comes after the half of one.
 static void half_codes_stand_for_no_character(void) {
     hayro_cmap encoding = map_of(TEXT("begincodespacerange <0000> <00FF> endcodespacerange"));
@@ -1100,6 +1112,7 @@ int main(void) {
     texts_have_strings();
     texts_without_a_string_are_refused();
     bytes_stand_for_characters_without_a_string();
+    a_text_is_folded();
     half_codes_stand_for_no_character();
     pieces_have_grades();
     texts_without_pieces_are_refused();

@@ -346,6 +346,14 @@ static void glyphs_are_chosen_by_maps_from_unicode() {
     CHECK(!string(from) && is_found(from.find_collection(files), false, true) && *string(from) == "\x30\x42");
 }
 
+static void texts_are_folded() {
+    CHECK(hayro::fold("o\uFB03ce\u2002\u8FBB\U000E0100 \uFE35\uFFE8") == "office \u8FBB \uFF08|");
+    CHECK(hayro::fold("") == "" && !hayro::fold("a\xFF"s));
+    auto font = hayro::Extractor::simple(map_of("beginbfchar <41> <FB01> <42> <2002> endbfchar"));
+    CHECK(font.text("ABC") == "\uFB01\u2002\uFFFD" && font.folded_text("ABC") == "fi \uFFFD");
+    CHECK(font.folded_text("AC", "\uFB02") == "fifl" && font.folded_text("C", "\xFF") == "\xFF");
+}
+
 static void pieces_have_grades() {
     auto encoding = "begincodespacerange <00> <7F> endcodespacerange begincidrange <41> <5C> 1 endcidrange"s;
     auto to_unicode = "beginbfchar <41> <00660069> endbfchar"s;
@@ -765,6 +773,7 @@ int main() {
     collections_are_found();
     glyphs_are_chosen_by_maps_from_unicode();
     pieces_have_grades();
+    texts_are_folded();
     texts_have_strings();
     strings_have_zeros();
     bytes_have_their_lengths();

@@ -27,7 +27,7 @@ from pathlib import Path
 HERE = Path(__file__).resolve().parent
 TOP = HERE if (HERE / "VERSION").exists() else HERE.parent.parent
 VERSION = (TOP / "VERSION").read_text().strip()
-LICENCES = ["LICENSE-APACHE", "LICENSE-MIT"]
+LICENCES = ["LICENSE-APACHE", "LICENSE-MIT", "LICENSE-UNICODE"]
 BILL = "hayro_cmap.spdx.json"
 PACKAGE = "hayro_cmap"
 # the name of the library, as cargo gives it and as the package looks for it

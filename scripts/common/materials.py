@@ -7,6 +7,8 @@ from pathlib import Path
 TOP = Path(__file__).resolve().parents[2]
 VERSION = (TOP / "VERSION").read_text().strip()
 OWN_LICENCE = "MIT OR Apache-2.0"
+# of plain Rust, which has a table of the Unicode Character Database
+PLAIN_LICENCE = f"({OWN_LICENCE}) AND Unicode-3.0"
 UNSTATED = "NOASSERTION"
 # the licences of crates, by the names of their files
 LICENCES = {
@@ -47,9 +49,9 @@ def names_of(bill):
     return [it["name"] for it in json.loads(bill)["packages"][1:]]
 
 
-def bill(others, created):
+def bill(others, created, licence=OWN_LICENCE):
     """The text of the bill: `others` are the entries of what is compiled in."""
-    own = package("hayro_cmap", VERSION, OWN_LICENCE)
+    own = package("hayro_cmap", VERSION, licence)
     contained = [
         {"spdxElementId": own["SPDXID"], "relationshipType": "CONTAINS", "relatedSpdxElement": it["SPDXID"]}
         for it in others

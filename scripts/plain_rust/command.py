@@ -2,16 +2,14 @@
 
 import shutil
 
-from common.programs import CRATES, TOP, and_below
+from common.programs import TOP, and_below
 
-from .crate import after_docs, copy_fallible, copy_licenses, erase_crate
+from .crate import OF_KIT, after_docs, copy_fallible, copy_licenses, erase_crate
 
 BY_HAND = TOP / "bindings" / "plain-command"
 COMMAND = "cmap"
 # the crates of the kit whose interface is by hand
 KIT = ["clap", "hex"]
-# the licence of the table of hidden characters
-UNICODE = CRATES / "cmap_escape" / "LICENSE-UNICODE"
 # what `fallible` has here beside that of the reader
 ADDED = "\npub mod rc;\n"
 # the modules by hand
@@ -29,13 +27,11 @@ def write_command(out):
     """Makes the package in a new folder: the crates below the command are modules of one, the command is its root."""
     shutil.copytree(BY_HAND, out, ignore=shutil.ignore_patterns("target", "Cargo.lock"))
     copy_licenses(out)
-    shutil.copy(UNICODE, out / UNICODE.name)
     source = out / "src"
     copy_fallible(out, ADDED)
     crates = sorted(and_below(COMMAND))
     paths = {name: f"crate::sources::{name}" for name in crates if name != COMMAND}
-    known = {"std": "crate::fallible", "host": "crate::host", "itoa": "crate::fallible::itoa",
-             **{name: f"crate::kit::{name}" for name in KIT}, **paths}
+    known = {"std": "crate::fallible", "host": "crate::host", **OF_KIT, **{name: f"crate::kit::{name}" for name in KIT}, **paths}
     for crate in paths:
         own = {"crate": paths[crate], **known}
         erase_crate(crate, source / "sources" / crate, source / "sources" / f"{crate}.rs", own)

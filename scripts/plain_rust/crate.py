@@ -15,7 +15,10 @@ SHARED_SOURCES = [
     *("based", "builder", "collection", "encode_error", "extractor", "finding", "metadata"),
     *("opening", "options", "piece", "predefined", "reason"),
 ]
-LICENSES = ["LICENSE-APACHE", "LICENSE-MIT"]
+# that of Unicode is for tables
+LICENSES = ["LICENSE-APACHE", "LICENSE-MIT", "LICENSE-UNICODE"]
+# the crates of the kit whose interface is by hand
+OF_KIT = {name: f"crate::fallible::{name}" for name in ("itoa", "ucd_normal")}
 README = "README.md"
 # the crates on which all others of the reader and of the writer stand
 READER = ["hayro_cmap", "cmap_encode", "cmap_unicode", "cmap_flatten", "cmap_lint", "cmap_text_writer", "cmap_tidy"]
@@ -79,7 +82,7 @@ def write_reader(out, crates):
     folder = out / "src" / "reader"
     paths = {crate: f"crate::reader::{crate}" for crate in crates}
     for crate in paths:
-        own = {"crate": paths[crate], "std": "crate::fallible", "itoa": "crate::fallible::itoa", **paths}
+        own = {"crate": paths[crate], "std": "crate::fallible", **OF_KIT, **paths}
         erase_crate(crate, folder / crate, folder / f"{crate}.rs", own)
 
 

@@ -108,6 +108,8 @@ int main(void) {
     IS_ABSENT(hayro_cmap_encode_lossy(&encoder, data, 1, NULL, 1, room, 64, &needed));
     IS_ABSENT(hayro_cmap_encode_pieces(NULL, data, 1, &piece, 1, &needed, &made));
     IS_ABSENT(hayro_cmap_encode_pieces(&encoder, data, 1, NULL, 1, &needed, &made));
+    IS_ABSENT(hayro_cmap_fold(NULL, 1, room, 64, &needed, &made));
+    IS_ABSENT(hayro_cmap_fold(data, 1, room, 64, NULL, &made));
     IS_ABSENT(hayro_cmap_unicode_name(NULL, 1, 0, room, 64, &needed));
     IS_ABSENT(hayro_cmap_version(NULL, 64, &needed));
     CHECK(needed == 7 && made == 7 && supplement == 7);

@@ -10,6 +10,7 @@ pub(crate) mod itoa;
 mod slices;
 mod sorting;
 mod string;
+pub(crate) mod ucd_normal;
 mod vec;
 
 pub use boxed::Box;

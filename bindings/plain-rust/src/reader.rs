@@ -30,7 +30,7 @@ pub(crate) mod cmap_values;
 pub(crate) mod hayro_cmap;
 
 pub use cmap_chains::named_files::BundleFiles;
-pub use cmap_encode::{Encoder, Grade, Piece, Unencodable};
+pub use cmap_encode::{Encoder, Grade, Piece, Unencodable, fold};
 pub use cmap_lint::{finding, lint, read_as, warning};
 pub use cmap_unicode::{Character, Extractor, declared_cid, ucs2_name, unicode_name};
 pub use hayro_cmap::*;

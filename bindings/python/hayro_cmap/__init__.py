@@ -19,6 +19,7 @@ from ._encoder import Grade, Piece
 from ._extractor import Character, Extractor
 from ._faults import Cause, NotABundle, NotWritable, ReadAs, Reason, Refused, Segment, Unencodable
 from ._folder import folder
+from ._folding import fold
 from ._lint import Finding
 from ._map import CidRange, CMap, Code, CodeRange, Codespace, Layer, Metadata, Salvaged, TextRange, WritingMode
 from ._owned import library, put
@@ -55,6 +56,7 @@ __all__ = [
     "TextRun",
     "Unencodable",
     "WritingMode",
+    "fold",
     "folder",
     "predefined",
     "to_unicode",

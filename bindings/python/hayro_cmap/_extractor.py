@@ -7,6 +7,7 @@ from typing import Any, Callable, Dict, Iterable, Iterator, List, NamedTuple, Op
 from ._bundle import Bundle
 from ._candidates import candidates
 from ._encoder import Encoder, Piece
+from ._folding import fold
 from ._library import NO_ROOM, Handle
 from ._map import CODE, CMap, Code, code_of_fields
 from ._reading import NO_FILES, Files
@@ -33,6 +34,11 @@ class Character(NamedTuple):
     code: Code
     #: Its text, or None.
     text: Optional[str]
+
+
+def with_folded_text(character: Character) -> Character:
+    """The same code, with its text as `fold` gives it."""
+    return character if character.text is None else character._replace(text=fold(character.text))
 
 
 class Extractor:
@@ -84,19 +90,21 @@ class Extractor:
     def __repr__(self) -> str:
         return f"<Extractor of {self._maps[0]!r}>"
 
-    def characters(self, string: Buffer) -> List[Character]:
+    def characters(self, string: Buffer, folded: bool = False) -> List[Character]:
         """The codes of a string, one after another, each with its CID and its text.
 
         The text comes from the ToUnicode CMap; if this has none for the code, the map of the collection gives the text
-        of the CID. Codes in no codespace range are looked up too.
+        of the CID. Codes in no codespace range are looked up too. With `folded`, texts are as `fold` gives them.
         """
-        return list(itertools.chain.from_iterable(self._parts(string, self._characters_in)))
+        found = itertools.chain.from_iterable(self._parts(string, self._characters_in))
+        return [with_folded_text(it) for it in found] if folded else list(found)
 
-    def text(self, string: Buffer, missing: str = "\N{REPLACEMENT CHARACTER}") -> str:
-        """The text of a string, with `missing` for each code that has none."""
+    def text(self, string: Buffer, missing: str = "\N{REPLACEMENT CHARACTER}", folded: bool = False) -> str:
+        """The text of a string, with `missing` for each code that has none. With `folded`, as `fold` gives it."""
         if not isinstance(missing, str):
             raise TypeError(f"missing is a text, and not {type(missing).__name__}")
-        return "".join(self._parts(string, Room.text, missing))
+        text = "".join(self._parts(string, Room.text, missing))
+        return fold(text) if folded else text
 
     def _rows(self, string: Buffer) -> List[Row]:
         """What `characters` gives, with less of each code. Nothing is kept: it is for codes that are looked up once."""

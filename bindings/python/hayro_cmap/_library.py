@@ -203,6 +203,7 @@ CALLS = {
     "hayro_cmap_encoder_share": (c_int, [HANDLE, HANDLE]),
     "hayro_cmap_explain": (c_int, [HANDLE, *DATA, *OVER_FILES, POINTER(Fault), *ROOM]),
     "hayro_cmap_extract": (c_int, [HANDLE, HANDLE, HANDLE, *DATA, *CHARACTERS, c_char_p, c_size_t, POINTER(Extracted)]),
+    "hayro_cmap_fold": (c_int, [*DATA, *ROOM, SIZE]),
     "hayro_cmap_free": (None, [HANDLE]),
     "hayro_cmap_identity": (c_int, [HANDLE, c_bool]),
     "hayro_cmap_layer_name": (c_int, [HANDLE, c_size_t, *ROOM]),

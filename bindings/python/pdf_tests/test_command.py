@@ -107,6 +107,9 @@ class Command(Folder):
         shown = [self.command("text", *words, "faults.pdf")[1] for words in [[], ["--lenient"], ["--strict"]]]
         self.assertEqual(shown, ["AC\n", "AC\n", "\ufffd\ufffd\n"])
         self.assertEqual(self.command("text", "--strict", "--lenient", "faults.pdf")[0], 2)
+        showing(b"\1", b"beginbfchar <01> <FB03> endbfchar").saved(self.path("forms.pdf"))
+        shown = [self.command("text", *words, "forms.pdf")[1] for words in [[], ["--exact"]]]
+        self.assertEqual(shown, ["ffi\n", "\ufb03\n"])
 
     def test_fonts_by_the_numbers_of_their_objects(self):
         file, made = File(), {}

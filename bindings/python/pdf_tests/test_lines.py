@@ -47,6 +47,13 @@ class Words(unittest.TestCase):
     def test_blanks_are_not_doubled(self):
         self.assertEqual(self.lines(b"(ab ) Tj 20 0 Td (cd) Tj 20 0 Td ( ef) Tj"), ["ab cd ef"])
 
+    def test_lines_are_folded(self):
+        """Unless they are exact."""
+        page = Page(b"beginbfchar <61> <FB01> <62> <2002> endbfchar")
+        self.assertEqual(page.lines(b"(aba) Tj"), ["fi fi"])
+        document = pdf.Document(page.file.pdf)
+        self.assertEqual(list(document.lines(document.pages[0], exact=True)), ["\ufb01\u2002\ufb01"])
+
     def test_lines_of_blanks_are_left_out(self):
         self.assertEqual(self.lines(b"( ) Tj 0 -20 Td (ab) Tj 0 -20 Td (  ) Tj"), ["ab"])
 

@@ -1,5 +1,6 @@
 //! The maps of a font, and the codes of its strings.
 
+use crate::folding::fold;
 use crate::map::{CMap, StringCode};
 use crate::refusal::Refusal;
 use crate::text::BfString;
@@ -141,6 +142,18 @@ impl Extractor {
             }
         }
         text
+    }
+
+    /// The same, as [`fold`] gives it: in the characters that are usually written.
+    ///
+    /// ```
+    /// use hayro_cmap::{CMap, Extractor};
+    ///
+    /// let to_unicode = CMap::parse(b"beginbfchar <41> <FB01> <42> <2002> endbfchar", |_| None);
+    /// assert_eq!(Extractor::simple(to_unicode).folded_text(b"ABA"), "fi fi");
+    /// ```
+    pub fn folded_text(&self, string: &[u8]) -> String {
+        fold(&self.text(string))
     }
 }
 

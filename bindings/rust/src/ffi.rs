@@ -518,6 +518,14 @@ unsafe extern "C" {
         room_len: usize,
         needed: *mut usize,
     ) -> u32;
+    fn hayro_cmap_fold(
+        text: *const u8,
+        text_len: usize,
+        room: *mut u8,
+        room_len: usize,
+        needed: *mut usize,
+        offset: *mut usize,
+    ) -> u32;
     fn hayro_cmap_unicode_name(
         collection: *const u8,
         collection_len: usize,
@@ -1274,6 +1282,19 @@ pub(crate) fn warning_name(warning: u32) -> Option<Vec<u8>> {
         // SAFETY: see the head of the module.
         unsafe { hayro_cmap_warning_name(warning, room.as_mut_ptr(), room.len(), needed) }
     })
+}
+
+/// A text in the characters that are usually written.
+pub(crate) fn fold(text: &str) -> String {
+    let mut offset = 0;
+    let folded = written(BYTES_EACH * text.len(), |room, needed| {
+        // SAFETY: see the head of the module.
+        unsafe {
+            hayro_cmap_fold(text.as_ptr(), text.len(), room.as_mut_ptr(), room.len(), needed, &mut offset)
+        }
+    });
+    let folded = folded.and_then(|bytes| String::from_utf8(bytes).ok());
+    folded.expect("a text is UTF-8")
 }
 
 /// The name of the CMap from Unicode to the CIDs of a character collection.

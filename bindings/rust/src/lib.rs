@@ -15,6 +15,7 @@ mod extractor;
 #[allow(unsafe_code)]
 mod ffi;
 mod finding;
+mod folding;
 mod linting;
 mod map;
 mod metadata;
@@ -38,6 +39,7 @@ pub use encode_error::EncodeError;
 pub use encoding::Encoder;
 pub use extractor::{Character, Extractor};
 pub use finding::{Finding, Place, Warning};
+pub use folding::fold;
 pub use map::{CMap, Cid, CidRange, Codespace, Layer, StringCode, TextRange};
 pub use metadata::{Metadata, WritingMode};
 pub use names::CMapName;

@@ -1,7 +1,7 @@
 -- What goes to C of an encoder that was built, and of a string or of pieces that were made.
 use Rattle.std.proofs.Common.{◌≡◌, ℕ, Bool, List, Option, None, Some, Result, Ok, Err, inl, inr, subst, ap, ◌∙◌}
-use Rattle.std.specs.Prelude.{IfOk, encode_utf8_all}
-use Rattle.std.specs.String.{String, string_bytes, string_vec}
+use Rattle.std.specs.Prelude.{IfOk, String, encode_utf8_all}
+use Rattle.std.specs.String.{string_bytes, string_vec}
 use Rattle.std.specs.Result.{MatchResult}
 use Rattle.std.specs.Global.{Vec}
 use Rattle.std.specs.Str.{IsUtf8, IsValidUpTo, chars}

@@ -1,3 +1,4 @@
+use crate::fallible::Vec;
 use crate::fallible::alloc::{AllocError, Global};
 use core::borrow::Borrow;
 use core::fmt::{self, Arguments, Debug, Display, Formatter, Write};
@@ -43,6 +44,11 @@ impl String {
     #[inline]
     pub fn as_str(&self) -> &str {
         &self.0
+    }
+
+    /// The bytes of the text, without a copy.
+    pub fn into_bytes(self) -> Vec<u8> {
+        Vec::from_std(self.0.into_bytes())
     }
 
     /// The text as one of `alloc`, without a copy.

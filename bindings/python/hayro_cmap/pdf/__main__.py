@@ -75,7 +75,8 @@ def arguments(words) -> argparse.Namespace:
     check.add_argument("--html", metavar="REPORT", help="also write a page with a chart of the codes of each font")
     check.add_argument("-q", "--quiet", action="store_true", help="only files with faults or warnings, and no last line")
     commands.add_parser("fonts", parents=[every, many], help="the fonts of each file")
-    commands.add_parser("text", parents=[every, many, read], help="the texts that pages show")
+    text = commands.add_parser("text", parents=[every, many, read], help="the texts that pages show")
+    text.add_argument("--exact", action="store_true", help="variation selectors, ligatures and spaces as fonts give them")
     mend = commands.add_parser("repair", parents=[every], help="writes ToUnicode CMaps with faults anew")
     mend.add_argument("input", metavar="IN", help="a PDF file")
     mend.add_argument("output", metavar="OUT", help="where the file is written, or a copy where nothing is repaired")
@@ -132,6 +133,7 @@ def options_of(asked: argparse.Namespace) -> dict:
     return {
         "charts": getattr(asked, "html", None) is not None,
         "deny": getattr(asked, "deny", []),
+        "exact": getattr(asked, "exact", False),
         "lenient": not getattr(asked, "strict", False),
         "guesses": not getattr(asked, "no_guesses", False),
         "json": asked.json,

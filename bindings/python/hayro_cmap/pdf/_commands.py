@@ -65,6 +65,11 @@ class Job(NamedTuple):
         """Whether texts may be guesses."""
         return self.options.get("guesses", True)
 
+    @property
+    def exact(self) -> bool:
+        """Whether texts are as the fonts give them, and not in the characters that are usually written."""
+        return self.options.get("exact", False)
+
     def report(self) -> Report:
         """What is known of the file, with its fonts by the numbers of their objects."""
         report = check(self.pdf, self.progress, self.lenient, self.deadline, self.guesses)
@@ -134,7 +139,7 @@ def charts_of(report: Report) -> List[Dict[str, Any]]:
 def run_text(job: Job) -> Result:
     document, lines, objects = Document(job.pdf, lenient=job.lenient, deadline=job.deadline, guesses=job.guesses), [], []
     for number, page in enumerate(job.progress(document.pages), 1):
-        of_page = list(document.lines(page))
+        of_page = list(document.lines(page, job.exact))
         lines += of_page
         objects.append({"page": number, "text": "\n".join(of_page)})
     fault = fault_in(document.faults)

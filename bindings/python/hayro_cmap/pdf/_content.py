@@ -6,7 +6,7 @@ from typing import Any, Dict, Iterator, List, NamedTuple, Optional, Tuple
 
 import pikepdf
 
-from .. import Code
+from .. import Code, fold
 from ._fonts import (
     Character,
     Font,
@@ -90,11 +90,11 @@ class Content:
             return [Character(None, Code(it, 1, None, False, False), None, Source.NONE) for it in piece.string]
         return piece.font.characters(piece.string, *self._options)
 
-    def lines(self, page: pikepdf.Page) -> Iterator[str]:
+    def lines(self, page: pikepdf.Page, exact: bool = False) -> Iterator[str]:
         """The lines of text that a page shows, in the order of its content; U+FFFD for a code without a text.
 
         A line continues as long as strings follow each other on it, and a wide gap between two strings is a space. Text
-        from right to left comes in reading order.
+        from right to left comes in reading order. Lines are as `hayro_cmap.fold` gives them, unless they are `exact`.
         """
         left, lines = MOST_CHARACTERS, Lines()
         # of most strings there is no line, which then goes on
@@ -104,7 +104,7 @@ class Content:
             if left < 0:
                 self.fault(f"a page has more than {MOST_CHARACTERS:,} characters")
                 return
-            yield line
+            yield line if exact else fold(line)
 
     def shown(self, page: pikepdf.Page, annotations: bool = True) -> Iterator[Shown]:
         """The strings that a page shows, in the order of its content, and then those of its annotations."""
