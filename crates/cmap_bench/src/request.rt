@@ -5,7 +5,7 @@ ghost use Rattle.cmap_bench.specs.Arguments.{SpellsNoRequest, SpellsRequest, mod
 
 use cmap_queries::arguments::decimal;
 
-/// What the rounds do.
+/// The work of each round.
 #[derive(Clone, Copy)]
 pub enum Mode {
     /// Read the file.
@@ -34,14 +34,14 @@ impl Mode {
     }
 }
 
-/// What the arguments ask for.
+/// The request that the arguments spell.
 #[derive(Clone, Copy)]
 pub struct Request<'a> {
-    /// What the rounds do.
+    /// The work of each round.
     pub mode: Mode,
-    /// The file that they do it on.
+    /// The path of the file.
     pub path: &'a str,
-    /// How many rounds.
+    /// The number of rounds.
     pub rounds: u64,
 }
 

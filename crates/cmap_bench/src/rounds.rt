@@ -10,12 +10,12 @@ use std::time::{Clock, Instant};
 /// One more than the last code of two bytes.
 const CODE_COUNT: u32 = 0x1_0000;
 
-/// How long rounds took, and what they found.
+/// The time that rounds took, and their checksum.
 #[derive(Clone, Copy)]
 pub struct Measured {
-    /// The nanoseconds of the rounds alone; 0 where there was none.
+    /// The nanoseconds of the rounds alone; 0 without rounds.
     pub nanos: u128,
-    /// How many rounds accepted the file; or the sum of what one round of lookups finds.
+    /// The number of rounds that accepted the file, or the sum of the values that one round of lookups finds.
     pub checksum: u64,
 }
 
@@ -43,8 +43,7 @@ impl<'d> Work<'d> {
         }
     }
 
-    /// Makes this many rounds. The sum of lookups is also there for no rounds: one is made before
-    /// the clock is read.
+    /// Makes this many rounds. Lookups have a sum even for 0 rounds, since one round is made before the clock is read.
     pub fn measure<C: Clock>(
         &self,
         clock: &C,
@@ -86,7 +85,7 @@ impl<'d> Work<'d> {
     }
 }
 
-/// 1 where a file is accepted, and 0 where it is refused.
+/// 1 if a file is accepted, and 0 if it is refused.
 fn accepted(alloc: Global, data: &[u8]) -> Result<u64, Failure> {
     match parse(alloc, data) {
         Ok(_map) => Ok(1),
@@ -95,7 +94,7 @@ fn accepted(alloc: Global, data: &[u8]) -> Result<u64, Failure> {
     }
 }
 
-/// The map of a file that uses no other.
+/// The map of a file that uses no other file.
 fn parse(alloc: Global, data: &[u8]) -> Result<CMap, Failure> {
     let no_files: Option<&Bundle<'_>> = None;
     match CMap::parse_from(alloc, None, data, None, &no_files) {
@@ -105,7 +104,7 @@ fn parse(alloc: Global, data: &[u8]) -> Result<CMap, Failure> {
     }
 }
 
-/// The sum of the CIDs of all codes of two bytes; none counts 0.
+/// The sum of the CIDs of all codes of two bytes; a code without a CID counts 0.
 fn cid_sum(map: &CMap) -> u64 {
     let mut sum: u64 = 0;
     for code in 0..CODE_COUNT {
@@ -124,7 +123,7 @@ fn all_codes(alloc: Global) -> Result<Vec<u8>, AllocError> {
     Ok(text)
 }
 
-/// The sum of the CIDs of the codes that a string is cut into; none counts 0.
+/// The sum of the CIDs of the codes that a string is cut into; a code without a CID counts 0.
 fn decoded_sum(map: &CMap, text: &[u8]) -> u64 {
     let mut sum: u64 = 0;
     let mut left = text;
@@ -139,7 +138,7 @@ fn decoded_sum(map: &CMap, text: &[u8]) -> u64 {
     sum
 }
 
-/// The sum of the first characters of the texts of the same codes; none counts 0.
+/// The sum of the first characters of the texts of all codes of two bytes; a code without a text counts 0.
 fn text_sum(alloc: Global, map: &CMap) -> Result<u64, AllocError> {
     let mut sum: u64 = 0;
     for code in 0..CODE_COUNT {
@@ -148,7 +147,7 @@ fn text_sum(alloc: Global, map: &CMap) -> Result<u64, AllocError> {
     Ok(sum)
 }
 
-/// The first character of the text of a code; 0 where it has none.
+/// The first character of the text of a code; 0 without a text.
 fn first_char(alloc: Global, map: &CMap, code: u32) -> Result<u64, AllocError> {
     match map.lookup_bf_string(alloc, code)? {
         Some(BfString::Char(first)) => Ok(u64::from(first)),

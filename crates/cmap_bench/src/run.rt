@@ -1,4 +1,4 @@
-//! A whole run, from the arguments to the line that is written.
+//! A whole run, from the arguments to the written line.
 
 use crate::request::Request;
 use crate::rounds::{Measured, Work};

@@ -10,7 +10,7 @@ identity_layer name mode = record {
   lists = lists_of (Declaration.cid 2 (record { start = 0; end = 0xFFFF; cid = 0 }) ∷ Declaration.codespace (record { len = 2; low = 0; high = 0xFFFF }) ∷ []);
 }
 
--- what such a name stands for where no file has it: a text that says the same
+-- the text that such a name stands for if no file has the name: the text declares the same identity
 abbrev pub identity_text : List ℕ → Option (List ℕ)
 identity_text name =
     if bytes_eq name (codes "Identity-H") then Some (codes "/Registry (Adobe) /Ordering (Identity) /Supplement 0 /CMapName /Identity-H /WMode 0 begincodespacerange <0000> <FFFF> endcodespacerange begincidrange <0000> <FFFF> 0 endcidrange")

@@ -1,4 +1,4 @@
--- Private aid: files that were checked, by their names, and what a further use of one spends.
+-- Private aid: files that were read, by their names, and the bytes that a further use of a file spends.
 use Rattle.std.specs.Prelude.{◌≡◌, ℕ, ◌+◌, List, Option, Some, None}
 use Rattle.std.specs.Ordering.{nat_cmp}
 use Rattle.std.specs.Cmp.Lexicographic.{slice_cmp}
@@ -7,13 +7,13 @@ use Rattle.cmap_chains.specs.BytesSpent.{Leaves}
 use Rattle.cmap_chains.specs.declared.known.KnownFile.{KnownFile}
 use Rattle.cmap_chains.specs.declared.known.KnownFiles.{KnownFiles}
 
--- this was taken from a budget
+-- this many bytes were taken from a budget
 abbrev pub IsSpent : Option ℕ → Option ℕ → ℕ → Type 0
 IsSpent None after spent = ⊥
 IsSpent (Some before) None spent = ⊥
 IsSpent (Some before) (Some after) spent = after + spent ≡ before
 
--- the same is taken once more; where there is no budget, nothing is
+-- as many bytes are taken once more; without a budget, nothing is taken
 abbrev pub SpendsAgain : Option ℕ → Option ℕ → Option ℕ → Type 0
 SpendsAgain spent None left = left ≡ None
 SpendsAgain None (Some budget) left = ⊥

@@ -7,7 +7,7 @@ use Rattle.cmap_text.specs.TextFiles.{IsTextFile}
 use Rattle.cmap_packed.specs.Bundles.{PrefixTables}
 use Rattle.cmap_binary.specs.BinaryFiles.{IsMarkedBinary, IsBinaryFile}
 
--- what bytes mean: where there is a bundle, by its tables, bytes that are marked so are a binary file; all others are a text file
+-- the file that bytes mean: with a bundle, bytes that are marked as a binary file are a binary file by its tables; all other bytes are a text file
 abbrev pub Means : Option PrefixTables → List ℕ → File → Type 0
 Means None bytes file = IsTextFile bytes file
 Means (Some tables) bytes file = (IsMarkedBinary bytes × IsBinaryFile tables bytes file) ⊎ ((IsMarkedBinary bytes → ⊥) × IsTextFile bytes file)
@@ -20,7 +20,7 @@ AreUses means bytes uses = (file : File) × means bytes file × (file.uses ≡ u
 abbrev pub OfAnswer : {A : Type 0} → (List ℕ → Option (List ℕ) → Type 0) → (List ℕ → A → Type 0) → List ℕ → A → Type 0
 OfAnswer answer P name x = (bytes : List ℕ) × answer name (Some bytes) × P bytes x
 
--- each of these names has layers, and those of the last one are the base; without a name it is empty
+-- each of these names has layers, and the layers of the last name are the base; without names the base is empty
 abbrev pub IsBase : (List ℕ → List Layer → Type 0) → List (List ℕ) → List Layer → Type 0
 IsBase are_layers names base = (each : List (List Layer)) × AllZip are_layers names each × (base ≡ unwrap_or (last_or None each) [])
 

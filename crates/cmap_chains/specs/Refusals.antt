@@ -16,56 +16,56 @@ use Rattle.cmap_chains.specs.Layers.{AreLayers, Means, OfAnswer}
 use Rattle.cmap_chains.specs.declared.refusal.Cause.{Cause}
 use Rattle.cmap_chains.specs.declared.refusal.Cause.TheVariants.{Malformed, NoFile, ChainLength, OverBudget}
 
--- bytes are read as a text: all where there is no bundle, else those that aren't marked as a binary file
+-- bytes are read as a text: without a bundle all bytes, else bytes that aren't marked as a binary file
 abbrev pub IsReadAsText : Option PrefixTables → List ℕ → Type 0
 IsReadAsText None bytes = Unit {0}
 IsReadAsText (Some tables) bytes = IsMarkedBinary bytes → ⊥
 
--- of bytes that are read as a text, those up to and including the one at which reading stopped decide: no text that begins with them is a file
+-- if bytes are read as a text, the bytes up to and including the byte at which reading stopped decide: no text that begins with these bytes is a file
 abbrev pub IsDecidedAsText : Option PrefixTables → List ℕ → Stop → Type 0
 IsDecidedAsText tables bytes stop = IsReadAsText tables bytes → DecidedBy IsTextFile bytes stop
 
--- the first fault of bytes that mean no file: of a text the first token that is wrong and why, of a binary file that of its header or else the first segment that says nothing
+-- the first fault of bytes that mean no file: in a text, the first wrong token and the reason; in a binary file, the fault of the header or else the first segment that says nothing
 abbrev pub IsFirstFault : Option PrefixTables → List ℕ → Stop → Type 0
 IsFirstFault None bytes stop = StopsText bytes stop
 IsFirstFault (Some tables) bytes stop = (IsMarkedBinary bytes × IsBinaryFault tables bytes stop) ⊎ ((IsMarkedBinary bytes → ⊥) × StopsText bytes stop)
 
--- one of these names, before which each has the property
+-- the name is one of these uses, and each use before it has the property
 abbrev pub IsUsedAfter : (List ℕ → Type 0) → List (List ℕ) → List ℕ → Type 0
 IsUsedAfter P uses name = (before : List (List ℕ)) × (after : List (List ℕ)) × (uses ≡ before ++ name ∷ after) × All P before
 
 module _ (tables : Option PrefixTables) (answer : List ℕ → Option (List ℕ) → Type 0) where
-  -- what is wrong with a file by itself
+  -- the fault of a file by itself
   abbrev pub IsOwnFault : List ℕ → Cause → Type 0
   IsOwnFault bytes (Malformed stop) = HoldsOfNone (Means tables bytes) × (stop.offset ≤ length bytes) × IsDecidedAsText tables bytes stop × IsFirstFault tables bytes stop
   IsOwnFault bytes OverBudget = ⊥
   IsOwnFault bytes NoFile = ⊥
   IsOwnFault bytes ChainLength = ⊥
 
-  -- why a name gives no file, where at most this many files may still stand in the chain; without room for one it isn't asked for
+  -- the cause for which a name gives no file; at most this many further files may stand in the chain, and if no further file may, the name isn't asked for
   abbrev pub IsMissing : ℕ → List ℕ → Cause → Type 0
   IsMissing room name (Malformed stop) = ⊥
   IsMissing room name OverBudget = ⊥
   IsMissing room name NoFile = (0 < room) × answer name None
   IsMissing room name ChainLength = room ≡ 0
 
-  -- a file of this name has layers, where at most this many files may still stand in the chain
+  -- a file of this name has layers; at most this many further files may stand in the chain
   abbrev pub HasLayers : ℕ → List ℕ → Type 0
   HasLayers room name = (layers : List said.Layer) × OfAnswer answer (AreLayers (Means tables) answer room) name layers
 
-  -- the names lead from the file of these bytes to the first one at fault, each used by the file before it
+  -- the names lead from the file of these bytes to the first file at fault; each name is used by the file before it
   abbrev pub IsFault : ℕ → List ℕ → List (List ℕ) → Cause → Type 0
   IsFault zero bytes names cause = ⊥
   IsFault (suc most) bytes [] cause = IsOwnFault bytes cause
   IsFault (suc most) bytes (name ∷ names) cause = (file : File) × IsOnly (Means tables bytes) file × IsUsedAfter (HasLayers most) file.uses name × ((IsMissing most name cause × (names ≡ []))
       ⊎ ((base : List ℕ) × answer name (Some base) × IsFault most base names cause))
 
-  -- the same from a use of this name
+  -- the names lead from a use of this name to the first file at fault
   abbrev pub IsUseFault : ℕ → List ℕ → List (List ℕ) → Cause → Type 0
   IsUseFault most name [] cause = ⊥
   IsUseFault most name (first ∷ names) cause = (first ≡ name) × ((IsMissing most name cause × (names ≡ [])) ⊎ ((base : List ℕ) × answer name (Some base) × IsFault most base names cause))
 
-  -- the same of a file and of a use within a budget: where this is passed, the names lead to the first file that passes it
+  -- the names lead from a file, or from a use, to the first file at fault; over a budget, to the first file that exceeds the budget
   abbrev pub IsFaultWithin : Option ℕ → ℕ → List ℕ → List (List ℕ) → Cause → Type 0
   IsFaultWithin budget most bytes names OverBudget = PassesAt (OpensFirst (Means tables) answer most bytes) budget names
   IsFaultWithin budget most bytes names cause = IsFault most bytes names cause

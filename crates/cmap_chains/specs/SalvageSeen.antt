@@ -1,4 +1,4 @@
--- Private aid: what contracts see of files that are read past their faults.
+-- Private aid: files that are read past their faults, as contracts see them.
 use Rattle.std.specs.Prelude.{◌≡◌, ◌≤◌, ◌+◌, ◌-◌, ℕ, suc, Bool, true, false, ◌⊎◌, List, [], ◌∷◌, ◌++◌, All, IfSome, length, map, Option, Some, None}
 use Rattle.std.specs.BTreeMap.{get_by}
 use Rattle.std.specs.Cmp.Lexicographic.{slice_cmp}
@@ -45,17 +45,17 @@ has_kind_of (Some kinds) cause = has_kind kinds cause
 abbrev pub is_marked : Faults → List ℕ → Cause → Bool
 is_marked faults name cause = has_kind_of (get_by (λ other. slice_cmp nat_cmp name other.now) faults.kinds) cause
 
--- as many are marked as are listed
+-- a fault of a kind is marked for a name exactly if the list has such a fault
 abbrev pub AreMarked : Faults → Type 0
 AreMarked faults = (name : List ℕ) (cause : Cause) → is_marked faults name cause ≡ list_any (is_fault_of name cause) (listed faults)
 
--- what is wrong with the file that the names lead to is listed
+-- the faults of the file that the names lead to are listed, and marked
 pub record Lists (old new : Faults) (names : List (List ℕ)) (causes : List Cause) : Type 0 where
   pub all : listed new ≡ list_causes (listed old) names causes
   pub marked : AreMarked new
 
 -- ---- files that are known
--- what is wrong with the file of a name is listed already
+-- the faults of the file of a name are listed already
 abbrev pub AddsNothing : List NamedFault → Option (List ℕ) → List Cause → Type 0
 AddsNothing faults None causes = Unit {0}
 AddsNothing faults (Some name) [] = Unit {0}
@@ -64,7 +64,7 @@ AddsNothing faults (Some name) (cause ∷ more) = list_any (is_fault_of name cau
 abbrev pub ReadingAddsNothing : List NamedFault → Reading → Type 0
 ReadingAddsNothing faults reading = AddsNothing faults (last_or None reading.names) reading.causes
 
--- the chain and the budget have room for the file
+-- the file exceeds neither the limit of the chain nor the budget
 abbrev pub HasRoom : List Cause → Type 0
 HasRoom [] = Unit {0}
 HasRoom (Malformed stop ∷ more) = Unit {0}
@@ -72,13 +72,13 @@ HasRoom (NoFile ∷ more) = Unit {0}
 HasRoom (ChainLength ∷ more) = ⊥
 HasRoom (OverBudget ∷ more) = ⊥
 
--- so it is with one to which at most this many names lead
+-- at most this many names lead to the file, and the file exceeds neither the limit of the chain nor the budget
 pub record IsRead (most : ℕ) (reading : Reading) : Type 0 where
   pub short : length reading.names ≤ most
   pub room : HasRoom reading.causes
 
 module _ (tables : Option PrefixTables) (answer : List ℕ → Option (List ℕ) → Type 0) where
-  -- the file of this name was read with those that it uses, and their faults are listed
+  -- the file of this name was read with the files that it uses, and their faults are listed
   pub record WasRead (faults : List NamedFault) (name : List ℕ) (file : KnownFile) : Type 0 where
     pub room : ℕ
     pub leading : List (List ℕ)
@@ -92,7 +92,7 @@ module _ (tables : Option PrefixTables) (answer : List ℕ → Option (List ℕ)
   abbrev pub WereRead : List NamedFault → KnownFiles → Type 0
   WereRead faults known = (name : List ℕ) (file : KnownFile) → file_known known name ≡ Some file → WasRead faults name file
 
-  -- what a walk knows is so
+  -- the marks and the known files of a walk are right
   pub record Knows (walk : Walk) : Type 0 where
     pub marked : AreMarked walk.faults
     pub known : WereRead (listed walk.faults) walk.search.known
@@ -101,13 +101,13 @@ module _ (tables : Option PrefixTables) (answer : List ℕ → Option (List ℕ)
 abbrev pub opening_seen : Walk → Opening
 opening_seen walk = record { left = walk.search.left; closed = walk.is_closed }
 
--- the walk goes on from where it was to where it is now: the faults of these are listed, and the names stay
+-- the walk goes on from old to new: the faults of these readings are listed, and the names stay
 pub record GoesOn (old new : Walk) (readings : List Reading) : Type 0 where
   pub names : names_seen new.search.names.items ≡ names_seen old.search.names.items
   pub all : listed new.faults ≡ list_each (listed old.faults) readings
 
 module _ (tables : Option PrefixTables) (answer : List ℕ → Option (List ℕ) → Type 0) where
-  -- what is found from there to here, in chains of this height after so many names; its layers, if they are wanted or a chain was too long
+  -- the result of a walk from old to new, with chains of this height after so many names; the layers are right if they are wanted or a chain was too long
   pub record Walks (salvages : Opening → Found → Type 0) (above below : ℕ) (wanted : Bool) (old new : Walk) (chain : Chain) : Type 0 where
     pub layers : List Layer
     pub readings : List Reading
@@ -121,27 +121,27 @@ module _ (tables : Option PrefixTables) (answer : List ℕ → Option (List ℕ)
   abbrev names_at : Walk → List (List ℕ)
   names_at walk = names_seen walk.search.names.items
 
-  -- of a file, under which this many files may stand in a chain
+  -- the walk of a file, under which this many files may stand in a chain
   abbrev pub WalksFile : ℕ → List ℕ → Bool → Walk → Walk → Chain → Type 0
   WalksFile below bytes wanted old new = Walks (Salvages tables answer (suc below) (names_at old) bytes) (length (names_at old)) below wanted old new
 
-  -- of uses of such a file
+  -- the walk of the uses of such a file
   abbrev pub WalksUses : ℕ → List (List ℕ) → Bool → Walk → Walk → Chain → Type 0
   WalksUses below uses wanted old new = Walks (SalvagesEach (SalvagesUse answer (Salvages tables answer below) below (names_at old)) uses []) (length (names_at old)) below wanted old new
 
-  -- of one use, after these layers
+  -- the walk of one use, after these layers
   abbrev pub WalksUse : ℕ → List ℕ → List Layer → Bool → Walk → Walk → Chain → Type 0
   WalksUse below name base wanted old new = Walks (SalvagesUse answer (Salvages tables answer below) below (names_at old) name base) (length (names_at old)) below wanted old new
 
-  -- of one use, before a chain was too long
+  -- the walk of one use, before a chain was too long
   abbrev pub WalksOpen : ℕ → List ℕ → Bool → Walk → Walk → Chain → Type 0
   WalksOpen below name wanted old new chain = old.is_closed ≡ false → Walks (SalvagesNamed answer (Salvages tables answer below) below (names_at old ++ name ∷ []) name) (length (names_at old)) below wanted old new chain
 
-  -- of the file that it names, which counts in its chain
+  -- the walk of the file of a use, which counts in the chain
   abbrev pub WalksNamed : ℕ → List ℕ → Bool → Walk → Walk → Chain → Type 0
   WalksNamed below name wanted old new = Walks (SalvagesNamed answer (Salvages tables answer below) below (names_at old) name) (length (names_at old) - 1) below wanted old new
 
--- this is read of a file within what was left of the budget, and its faults are listed
+-- a file is read within the rest of the budget, and its faults are listed
 pub record ReadsOn (tables : Option PrefixTables) (bytes : List ℕ) (old new : Walk) (file : File) : Type 0 where
   pub causes : List Cause
   pub reads : IsReadWithin tables old.search.left bytes file causes new.search.left

@@ -4,7 +4,7 @@ use Rattle.cmap_chains.specs.KnownFiles.{SpendsAgain, file_known}
 use Rattle.cmap_chains.specs.declared.known.KnownFile.{KnownFile}
 use Rattle.cmap_chains.specs.declared.search.Search.{Search}
 
--- a use of this name is passed over: its file is known, the chain has room for it, and its bytes are spent
+-- a use of this name is passed over: its file is known and doesn't make the chain too long, and its bytes are spent
 pub record PassesOver (name : List ℕ) (below : ℕ) (old new : Search) (height : ℕ) : Type 0 where
   pub file : KnownFile
   pub is_known : file_known old.known name ≡ Some file

@@ -11,7 +11,7 @@ ghost use Rattle.cmap_values.specs.declared.fault.Fault.TheVariants.{Refused};
 use crate::refusal::Cause;
 use cmap_values::fault::Fault;
 
-/// Takes `count` bytes from what is left of a budget, if there is one.
+/// Takes `count` bytes from the rest of a budget, if there is one; a fault if fewer bytes are left.
 pub(crate) fn spend(left: &mut Option<u64>, count: usize) -> Result<(), Fault<Cause>>
     ensures spent { OnOk result (Leaves left.old count left.new) }
     ensures over { IfErr result
@@ -28,8 +28,8 @@ pub(crate) fn spend(left: &mut Option<u64>, count: usize) -> Result<(), Fault<Ca
     Ok(())
 }
 
-/// Takes from what is left of a budget, if there is one, what was spent before; whether that much is
-/// left.
+/// Takes `spent` bytes from the rest of a budget; false if fewer bytes are left, or if `spent` is
+/// `None`. Without a budget, nothing is taken, and the answer is true.
 pub(crate) fn spend_again(left: &mut Option<u64>, spent: Option<u64>) -> bool
     ensures spent { OnTrue result (SpendsAgain spent left.old left.new) }
     ensures same { OnFalse result (left.new ≡ left.old) }

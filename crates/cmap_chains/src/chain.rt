@@ -1,4 +1,4 @@
-//! One file, and its layer over those that it is based on.
+//! Reading one file, and its layer over the layers of its base.
 
 ghost use Rattle.std.specs.Prelude.{◌≡◌, ◌∷◌, IfErr, IfOk};
 ghost use Rattle.cmap_packed.specs.BundleSeen.{tables_given};
@@ -20,10 +20,10 @@ use cmap_values::file::File;
 use cmap_values::metadata::Metadata;
 use std::alloc::{AllocError, Global};
 
-/// How many files may stand in a chain, the top one counted.
+/// The greatest number of files in a chain, the top file counted.
 pub(crate) const MOST_FILES: u8 = 16;
 
-/// A layer over those that it is based on.
+/// A layer with this metadata and these lists, over the layers of its base.
 pub(crate) fn layer_over(
     alloc: Global,
     metadata: Metadata,
@@ -38,8 +38,8 @@ pub(crate) fn layer_over(
     put_first(Layer::build(alloc, metadata, lists), base)
 }
 
-/// What one file says. With a bundle, bytes that are marked so are a binary file; all others are a
-/// text.
+/// The contents of one file. With a bundle, bytes that are marked as a binary file are read as a
+/// binary file; all other bytes are read as a text.
 pub fn read_file<'d>(
     alloc: Global,
     bytes: &'d [u8],

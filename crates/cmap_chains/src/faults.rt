@@ -1,4 +1,4 @@
-//! Faults that are listed, those of each file once.
+//! A list of faults, in which the faults of each file stand once.
 
 ghost use Rattle.std.specs.Prelude.{◌≡◌, ◌∷◌, ◌++◌, ◌&&◌, ◌||◌, ℕ, List, None, [], OnOk, map};
 ghost use Rattle.std.specs.List.{last_or};
@@ -14,7 +14,7 @@ use cmap_values::fault::Stop;
 use std::alloc::{AllocError, Global};
 use std::collections::BTreeMap;
 
-/// Of which kinds a file has faults.
+/// The kinds of faults that a file has.
 #[derive(Clone, Copy)]
 pub(crate) struct Kinds {
     malformed: bool,
@@ -23,7 +23,7 @@ pub(crate) struct Kinds {
     over_budget: bool,
 }
 
-/// Of none.
+/// No kinds.
 const NO_KINDS: Kinds = Kinds {
     malformed: false,
     no_file: false,
@@ -56,11 +56,12 @@ impl Kinds {
     }
 }
 
-/// Faults of files that names lead to.
+/// The faults of files, each with the names that lead to its file.
 #[derive(Drop)]
 pub(crate) struct Faults<'a> {
     pub(crate) list: Vec<Refusal<'a>>,
-    /// Of which kinds they are, by the last of the names. The top file has none, and is read once.
+    /// The kinds of the listed faults, by the last of the names. The top file has no name, and is
+    /// read once.
     kinds: BTreeMap<&'a [u8], Kinds>,
 }
 
@@ -75,7 +76,8 @@ impl<'a> Faults<'a> {
         }
     }
 
-    /// Adds a fault of the file that the names lead to, unless it has one of this kind already.
+    /// Adds a fault of the file that the names lead to, unless the list has a fault of this file
+    /// and this kind already.
     pub(crate) fn add(
         &mut self,
         alloc: Global,
@@ -92,7 +94,7 @@ impl<'a> Faults<'a> {
         self.mark(names, cause)
     }
 
-    /// Adds what is wrong with that file, unless it was added already.
+    /// Adds the faults of the file that the names lead to, unless they were added already.
     pub(crate) fn add_stops(
         &mut self,
         alloc: Global,

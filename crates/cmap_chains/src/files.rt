@@ -11,9 +11,10 @@ use cmap_packed::Bundle;
 use cmap_values::fault::Fault;
 use std::alloc::{AllocError, Global};
 
-/// The names of the files that the CMap file `data` uses, in order; `None` where it is outside the
-/// grammar. None of them is asked for. A caller who has to fetch files one by one learns from it
-/// which ones. With a bundle, a file that begins with `bcmap` is read as binary.
+/// The names of the files that the CMap file `data` uses, in order; `None` if `data` is outside the
+/// grammar. The function asks for none of these files. A caller who fetches files one by one learns
+/// from the names which files to fetch. With a bundle, a file that begins with `bcmap` is read as
+/// binary.
 pub fn uses<'a>(
     alloc: Global,
     data: &'a [u8],

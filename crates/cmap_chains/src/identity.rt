@@ -27,14 +27,15 @@ const HORIZONTAL: &[u8] = b"Identity-H";
 
 const VERTICAL: &[u8] = b"Identity-V";
 
-/// Texts that say what these say.
+/// Texts with the declarations of the predefined identities.
 const HORIZONTAL_TEXT: &[u8] =
     b"/Registry (Adobe) /Ordering (Identity) /Supplement 0 /CMapName /Identity-H /WMode 0 begincodespacerange <0000> <FFFF> endcodespacerange begincidrange <0000> <FFFF> 0 endcidrange";
 
 const VERTICAL_TEXT: &[u8] =
     b"/Registry (Adobe) /Ordering (Identity) /Supplement 0 /CMapName /Identity-V /WMode 1 begincodespacerange <0000> <FFFF> endcodespacerange begincidrange <0000> <FFFF> 0 endcidrange";
 
-/// A text that says what the predefined CMap of this name says, if it is Identity-H or Identity-V.
+/// A text with the declarations of the predefined CMap of this name; `None` unless the name is
+/// Identity-H or Identity-V.
 pub fn identity_text(name: &[u8]) -> Option<&'static [u8]>
     ensures { option_copied result ≡ identity.identity_text name.now }
 {
@@ -63,7 +64,7 @@ pub fn identity_v(alloc: Global) -> Result<Layers, AllocError>
     identity(alloc, VERTICAL, WritingMode::Vertical)
 }
 
-/// The predefined identity of this name, if it is the name of one.
+/// The predefined identity of this name; `None` unless the name is Identity-H or Identity-V.
 pub fn identity_named(alloc: Global, name: &[u8]) -> Result<Option<Layers>, AllocError>
     ensures { IfOk result
         (λ found. MatchOption found (IsNoIdentity name.now) (IsIdentity name.now)) }
@@ -87,7 +88,7 @@ fn identity(alloc: Global, name: &[u8], mode: WritingMode) -> Result<Layers, All
     Ok(Layers::of(layers))
 }
 
-/// The same, as a list.
+/// The one layer of an identity with this name and this writing mode, as a list.
 fn identity_list(alloc: Global, name: &[u8], mode: WritingMode) -> Result<Vec<Layer>, AllocError>
     ensures { IfOk result (λ layers. layers_seen layers.items
         ≡ identity_layer name.now (mode_seen mode) ∷ []) }
@@ -104,7 +105,7 @@ fn identity_list(alloc: Global, name: &[u8], mode: WritingMode) -> Result<Vec<La
     layer_over(alloc, metadata, lists, Vec::new(alloc))
 }
 
-/// The declarations that say that codes of two bytes are CIDs.
+/// The declarations of an identity: a codespace range of two bytes, whose codes are CIDs.
 fn two_byte_lists(alloc: Global) -> Result<Lists, AllocError>
     ensures { IfOk result (λ lists. lists_seen lists ≡ (identity_layer [] files.horizontal).lists) }
 {
@@ -113,7 +114,7 @@ fn two_byte_lists(alloc: Global) -> Result<Lists, AllocError>
     after(lists, added)
 }
 
-/// Adds what says that codes of two bytes are CIDs.
+/// Adds the declarations of an identity.
 fn add_two_bytes(lists: &mut Lists) -> Result<(), AllocError>
     requires { lists_seen lists.old ≡ no_lists }
     ensures { OnOk result

@@ -1,4 +1,4 @@
-//! Files that were read, so that a further use of one need not read it.
+//! Files that were read, and that a further use need not read again.
 
 ghost use Rattle.std.specs.Prelude.{◌≡◌, ℕ, List, IfSome, None, OnOk, Some, bytes_eq, if◌then◌else◌};
 ghost use Rattle.cmap_chains.specs.KnownFiles.{IsSpent, file_known};
@@ -9,14 +9,15 @@ use std::collections::BTreeMap;
 /// What is known of a file.
 #[derive(Clone, Copy)]
 pub(crate) struct KnownFile {
-    /// How many files stand in its longest chain, itself counted.
+    /// The number of files in the longest chain of the file, the file itself counted.
     pub(crate) height: u8,
-    /// The bytes of the files that are opened for it, itself counted; none where there is no budget.
+    /// The number of bytes of the files that are opened for the file, the file itself counted;
+    /// `None` without a budget.
     pub(crate) spent: Option<u64>,
 }
 
 impl KnownFile {
-    /// The file for which `before` was left of a budget, and `after` is left now.
+    /// A file that reduced the rest of a budget from `before` to `after`.
     pub(crate) fn new(height: u8, before: Option<u64>, after: Option<u64>) -> Self
         ensures height { result.height ≡ height }
         ensures spent { IfSome result.spent (IsSpent before after) }
@@ -28,7 +29,7 @@ impl KnownFile {
     }
 }
 
-/// What was taken from a budget; none where there is no budget.
+/// The number of bytes that were taken from a budget; `None` without a budget.
 fn spent_between(before: Option<u64>, after: Option<u64>) -> Option<u64>
     ensures { IfSome result (IsSpent before after) }
 {

@@ -1,5 +1,5 @@
-//! Files over the files that they use: what a map of a file is, why it has none, where files come from, and
-//! reading past faults.
+//! Files over the files that they use: the map of a file, the causes for which a file has no map,
+//! the sources of files, and reading past faults.
 #![tactic(auto)]
 
 mod budget;

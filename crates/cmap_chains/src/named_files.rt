@@ -42,16 +42,16 @@ impl<'a> NamedFile for (&'a [u8], &'a [u8]) {
     }
 }
 
-/// A bundle whose files are found by their names: over the bytes that were parsed, or with copies of
-/// its files.
+/// A bundle whose files are found by their names. The bundle refers to the bytes that were parsed,
+/// or has copies of its files.
 pub trait BundleFiles {
     ghost use Rattle.cmap_packed.specs.Bundles.{Bundle};
 
     /// The tables and the files.
     ghost bundle_of: { Self → Bundle };
 
-    /// The file of this name; `None` where the bundle has none. It has none also where ten bytes stand
-    /// for one: `bcmap`, four zeros, and their number.
+    /// The file of this name; `None` if the bundle has no such file, or if these ten bytes stand
+    /// for an absent file: `bcmap`, four zeros, and the byte 10.
     fn file_of(&self, name: &[u8]) -> Option<&[u8]>
         ensures { option_copied result ≡ embedded (Some (bundle_of self.now)) name.now };
 }
@@ -97,8 +97,9 @@ impl<B: BundleFiles> Source for Option<&B> {
     }
 }
 
-/// Files by their names, and those of a bundle for the names that none of them has. Of several files of
-/// one name the first counts. Identity-H and Identity-V need no file: ISO 32000-1, 9.7.5.2.
+/// Files by their names. A bundle supplies the file of a name that none of these files has. Among
+/// several files of one name, the first counts. Identity-H and Identity-V need no file:
+/// ISO 32000-1, 9.7.5.2.
 #[derive(Drop)]
 pub struct NamedFiles<'f, N, B> {
     pub files: &'f [N],
@@ -118,7 +119,7 @@ impl<'f, N: NamedFile> NamedFiles<'f, N, Bundle<'f>> {
 }
 
 impl<'f, N: NamedFile, B: BundleFiles> NamedFiles<'f, N, B> {
-    /// The first file of this name, else that of the bundle.
+    /// The first file of this name, else the file of this name in the bundle.
     pub fn find(&self, name: &[u8]) -> Option<&'f [u8]>
         ensures { option_copied result ≡ file_named N.name_of N.bytes_of B.bundle_of
             self.now.files.now self.now.bundle name.now }
@@ -140,7 +141,7 @@ impl<'f, N: NamedFile, B: BundleFiles> Source for NamedFiles<'f, N, B> {
     ghost answers = { λ files name answer. answer
         ≡ text_named N.name_of N.bytes_of B.bundle_of files.files.now files.bundle name };
 
-    /// The file of this name; where there is none, the text of Identity-H or Identity-V.
+    /// The file of this name; if no file has the name, the text of Identity-H or Identity-V.
     fn file(&self, name: &[u8]) -> Option<&[u8]> {
         match self.find(name) {
             Some(bytes) => Some(bytes),

@@ -9,13 +9,13 @@ use std::fmt::{self, Display, Formatter, Write};
 /// Why a file gives no map.
 #[derive(Clone, Copy, Debug, PartialEq, Eq)]
 pub enum Cause {
-    /// It is outside the grammar.
+    /// The file is outside the grammar.
     Malformed(Stop),
-    /// No file has its name.
+    /// No file has the name.
     NoFile,
-    /// It would be the seventeenth of a chain.
+    /// The file would be the seventeenth in a chain.
     ChainLength,
-    /// It has more bytes than are left of the budget.
+    /// The file has more bytes than are left of the budget.
     OverBudget,
 }
 
@@ -36,8 +36,8 @@ impl Display for Cause {
 /// A file at fault, and why.
 #[derive(Debug, Drop)]
 pub struct Refusal<'a> {
-    /// The names of the files from the one that the top file uses down to the one at fault, each
-    /// used by the file before it. The top file itself has no name.
+    /// The names that lead from the top file to the file at fault. The top file uses the first
+    /// name, and each named file uses the next name. The top file itself has no name.
     pub names: Vec<&'a [u8]>,
     pub cause: Cause,
 }

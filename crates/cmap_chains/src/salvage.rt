@@ -30,24 +30,27 @@ use cmap_values::file::{File, Salvaged};
 use cmap_values::memory::after;
 use std::alloc::{AllocError, Global};
 
-/// What a file says over the files that it uses, apart from their faults, and the faults.
+/// The layers of a file over the files that it uses, read past their faults, and these faults.
 #[derive(Drop)]
 pub struct SalvagedLayers<'a> {
-    /// Those of the file first.
+    /// The layers, the layer of the file first.
     pub layers: Layers,
-    /// In the order in which the files are first read, those of each file once. Those of one file
-    /// come in the order of their offsets, before those of the files that it uses.
+    /// The faults, in the order in which the files are first read. The faults of each file are
+    /// listed once, in the order of their offsets, before the faults of the files that the file
+    /// uses.
     pub faults: Vec<Refusal<'a>>,
 }
 
-/// What the CMap file `data` says over the files that it uses, apart from their faults, and the
-/// faults. Of a file that `read_layers` accepts it is those layers, and there is no fault; of another
-/// one, the first fault is one for which it is refused, or in a text in rows one before it.
+/// The layers of the CMap file `data` over the files that it uses, read past their faults, and
+/// these faults. If `read_layers` accepts the file, the layers are the same, and there is no fault.
+/// If `read_layers` refuses the file, the first fault is the cause of the refusal, or in a text in
+/// rows a fault before the cause.
 ///
-/// A file is read past its faults, which are listed once, however often it is used. A use without a
-/// file, or for which the chain has no room, is a fault too, and gives no layers. After a chain that
-/// is too long no further file is opened, and the uses that follow are passed over. A file that would
-/// pass the budget isn't read, and gives a layer that says nothing.
+/// A file is read past its faults. The faults are listed once, however often the file is used. A
+/// use without a file is a fault too, and so is a use that makes the chain too long; such a use
+/// gives no layers. After a chain that is too long, no further file is opened, and the uses that
+/// follow are passed over. A file that would exceed the budget isn't read, and gives an empty
+/// layer.
 ///
 /// It fails only if memory runs out.
 pub fn salvaged_layers<'a, S: Source>(
@@ -63,13 +66,13 @@ pub fn salvaged_layers<'a, S: Source>(
         SalvagesMap (tables_given bundle.entry) (S.answers source.now) «data».now budget
         found.layers (faults_seen found.faults.items)) }
 
-    // Of a file that has a map, for which the budget suffices, it gives that map and no fault.
+    // If the file has a map, and the budget suffices, the answer is this map without a fault.
     ensures right { IfOk result (λ found.
         GivesMap (tables_given bundle.entry) (S.answers source.now) «data».now budget
         found.layers (faults_seen found.faults.items)) }
 
-    // Of another one, the first fault is one for which it is refused, or in a text in rows one before
-    // it.
+    // If the file has no map or exceeds the budget, the first fault is the cause of a refusal, or
+    // in a text in rows a fault before the cause.
     ensures wrong { IfOk result (λ found.
         HasNoMap (tables_given bundle.entry) (S.answers source.now) «data».now
         ⊎ ExceedsBudget (tables_given bundle.entry) (S.answers source.now) «data».now budget
@@ -87,7 +90,7 @@ pub fn salvaged_layers<'a, S: Source>(
     })
 }
 
-/// How far the reading of files over files has come.
+/// The state of reading files over files.
 #[derive(Drop)]
 pub(crate) struct Walk<'a> {
     pub(crate) search: Search<'a>,
@@ -99,17 +102,17 @@ pub(crate) struct Walk<'a> {
     pub(crate) is_cut: bool,
 }
 
-/// What is read of files that use each other.
+/// The result of reading a file over the files that it uses.
 #[derive(Drop)]
 pub(crate) struct Chain {
-    /// Those that are wanted. Where a chain was too long, they always are.
+    /// The layers, if they are wanted. Once a chain was too long, they are always wanted.
     pub(crate) layers: Vec<Layer>,
     /// How many files stand in the longest chain.
     pub(crate) height: u8,
 }
 
 impl<'a> Walk<'a> {
-    /// Before the first file.
+    /// The state before the first file.
     pub(crate) fn new(alloc: Global, budget: Option<u64>) -> Self
         ensures names { result.search.names.items ≡ [] }
         ensures faults { result.faults.list.items ≡ [] }
@@ -135,8 +138,8 @@ impl<'a> Walk<'a> {
         self.faults.add(alloc, &self.search.names, cause)
     }
 
-    /// Passes over a use of a known file of which no layers are wanted: how many files stand in its
-    /// longest chain.
+    /// Passes over a use of a known file, if its layers aren't wanted. Returns the number of files
+    /// in the longest chain of the file; `None` if the use isn't passed over.
     fn pass_over(&mut self, name: &[u8], below: u8, wanted: bool) -> Option<u8>
         ensures { MatchOption result (self.new ≡ self.old) (λ height.
             PassesOver name.now below self.old.search self.new.search height
@@ -150,8 +153,9 @@ impl<'a> Walk<'a> {
     }
 }
 
-/// What can be read of a file. At most `below` files stand under it in a chain; the height is that of
-/// the longest one. Its layers are wanted, or its faults alone.
+/// Reads a file past its faults. At most `below` files stand under the file in a chain; the height
+/// is the number of files under it in the longest chain. The caller wants the layers, or the faults
+/// alone.
 #[cycle(salvage)]
 pub(crate) fn salvage_file<'a, S: Source>(
     alloc: Global,
@@ -173,8 +177,7 @@ pub(crate) fn salvage_file<'a, S: Source>(
     put_over(alloc, file, base, wanted || walk.is_closed)
 }
 
-/// What can be read of the files that uses name, one after another: the layers are those of the last
-/// one.
+/// Reads the files of uses past their faults, one after another. The last use gives the layers.
 #[cycle(salvage)]
 fn salvage_base<'a, S: Source>(
     alloc: Global,
@@ -204,8 +207,8 @@ fn salvage_base<'a, S: Source>(
     salvage_used(alloc, *last, base, bundle, source, below, wanted, walk)
 }
 
-/// What can be read of the file that a use names, after that of other uses. Once a chain was too long,
-/// their layers stay.
+/// Reads the file of a use past its faults, after the files of other uses. Once a chain was too
+/// long, the file isn't opened, and the layers of the other uses stay.
 #[cycle(salvage)]
 fn salvage_used<'a, S: Source>(
     alloc: Global,
@@ -234,8 +237,8 @@ fn salvage_used<'a, S: Source>(
     })
 }
 
-/// What can be read of the file that a use names. One that is known isn't read again, if its layers
-/// aren't wanted, and the chain and the budget have room for it.
+/// Reads the file of a use past its faults. A known file isn't read again if its layers aren't
+/// wanted, and if it exceeds neither the limit of the chain nor the budget.
 #[cycle(salvage)]
 fn salvage_open<'a, S: Source>(
     alloc: Global,
@@ -261,7 +264,7 @@ fn salvage_open<'a, S: Source>(
     }
 }
 
-/// The same, where the file is read.
+/// Reads the file of a use past its faults, and notes the file as known, unless the walk is cut.
 #[cycle(salvage)]
 fn salvage_unknown<'a, S: Source>(
     alloc: Global,
@@ -289,8 +292,8 @@ fn salvage_unknown<'a, S: Source>(
     Ok(used)
 }
 
-/// The same, where the last of the names leads to the file. It has no layers where the chain has no
-/// room for it, or no file has the name.
+/// Reads the file of the last name past its faults. The answer has no layers if the chain would be
+/// too long, or if no file has the name.
 #[cycle(salvage)]
 fn salvage_named<'a, S: Source>(
     alloc: Global,
@@ -324,7 +327,7 @@ fn salvage_named<'a, S: Source>(
     }
 }
 
-/// No layers, for a fault of the file that the names lead to, which is added.
+/// Adds a fault of the file that the names lead to. The answer has no layers.
 fn without_file(
     alloc: Global,
     cause: Cause,
@@ -343,7 +346,8 @@ fn without_file(
     })
 }
 
-/// The layer of a file over those that it is based on, if it is wanted and they can be read.
+/// The layer of a file over the layers of its base, if `wanted`; else the base alone. A failure of
+/// the base is passed on.
 fn put_over(
     alloc: Global,
     file: File<'_>,
@@ -366,8 +370,8 @@ fn put_over(
     })
 }
 
-/// What a file says apart from its faults, which are listed. One that would pass the budget isn't
-/// read, and says nothing.
+/// Reads a file past its faults, which are listed. A file that would exceed the budget isn't read;
+/// the answer is then an empty file.
 fn read_within<'a>(
     alloc: Global,
     bytes: &'a [u8],
@@ -391,7 +395,8 @@ fn read_within<'a>(
     )
 }
 
-/// What bytes say apart from their faults, and the faults. Of a file it is just that file.
+/// Reads bytes past their faults, and lists the faults. Bytes that mean a file give this file,
+/// without a fault.
 fn read_past<'a>(
     alloc: Global,
     bytes: &'a [u8],
@@ -410,7 +415,7 @@ fn read_past<'a>(
     }
 }
 
-/// What bytes that are no file say apart from their faults, and the faults.
+/// Reads bytes that mean no file past their faults, and lists the faults.
 fn salvage_bytes<'a>(
     alloc: Global,
     bytes: &'a [u8],

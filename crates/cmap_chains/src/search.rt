@@ -1,4 +1,4 @@
-//! How far a search for layers has come.
+//! The state of a search for layers.
 
 ghost use Rattle.std.specs.Prelude.{◌≡◌, ℕ, List, [], MatchOption, None};
 ghost use Rattle.cmap_chains.specs.KnownFiles.{file_known};
@@ -8,19 +8,19 @@ use crate::budget::spend_again;
 use crate::known::KnownFiles;
 use std::alloc::Global;
 
-/// How far a search for layers has come.
+/// The state of a search for layers.
 #[derive(Drop)]
 pub(crate) struct Search<'a> {
     /// The names that lead to the file that is being read.
     pub(crate) names: Vec<&'a [u8]>,
-    /// What is left of the budget, if there is one.
+    /// The rest of the budget, if there is one.
     pub(crate) left: Option<u64>,
     /// The files that need not be read again.
     pub(crate) known: KnownFiles<'a>,
 }
 
 impl<'a> Search<'a> {
-    /// Before the first file.
+    /// The state before the first file.
     pub(crate) fn new(alloc: Global, budget: Option<u64>) -> Self
         ensures names { result.names.items ≡ [] }
         ensures left { result.left ≡ budget }
@@ -33,8 +33,9 @@ impl<'a> Search<'a> {
         }
     }
 
-    /// Passes over a use of a known file, if the chain has room for `below` files and what the file
-    /// spends is left: how many files stand in its longest chain.
+    /// Passes over a use of a known file, if at most `below` files stand in the longest chain of
+    /// the file, and the budget suffices. Returns the number of files in this chain; `None` if the
+    /// use isn't passed over.
     pub(crate) fn pass_over(&mut self, name: &[u8], below: u8) -> Option<u8>
         ensures { MatchOption result (self.new ≡ self.old)
             (PassesOver name.now below self.old self.new) }

@@ -1,4 +1,4 @@
--- What is known of files, by what was answered to the names of those that others use.
+-- The known facts about files, by the answers to the names of the files that other files use.
 use Rattle.std.specs.Prelude.{◌≡◌, ℕ, zero, suc, ◌-◌, ◌<◌, ◌≤◌, ◌⊎◌, Bool, true, false, List, [], ◌∷◌, ◌++◌, Contains, length, map, sum, take, bytes_eq, MatchOption, Option, Some, None, option_and_then, slice_get, slice_index, if◌then◌else◌}
 use Rattle.std.specs.Option.{option_copied}
 use Rattle.cmap_values.specs.Files.{File}
@@ -55,7 +55,7 @@ first_answer (answer ∷ answers) name = if is_of_name answer.name name then Som
 abbrev pub IsAnswered : List Answer → List ℕ → Option (List ℕ) → Type 0
 IsAnswered answers name bytes = first_answer answers name ≡ Some bytes
 
--- what is answered so is answered so there too
+-- each answer of the first relation is an answer of the other relation too
 abbrev pub Agrees : (List ℕ → Option (List ℕ) → Type 0) → (List ℕ → Option (List ℕ) → Type 0) → Type 0
 Agrees answer other = (name : List ℕ) (bytes : Option (List ℕ)) → answer name bytes → other name bytes
 
@@ -63,11 +63,11 @@ Agrees answer other = (name : List ℕ) (bytes : Option (List ℕ)) → answer n
 abbrev pub bytes_at : List Answer → ℕ → Option (List ℕ)
 bytes_at answers i = option_and_then (λ answer. answer.bytes) (slice_get answers i)
 
--- this holds of the bytes, which are there
+-- there are bytes, and P holds of them
 abbrev pub OfBytes : Option (List ℕ) → (List ℕ → Type 0) → Type 0
 OfBytes given P = (bytes : List ℕ) × (given ≡ Some bytes) × P bytes
 
--- this is the index of the first answer to a name, if it has one
+-- this is the index of the first answer to a name, if the name has an answer
 abbrev pub IsFound : List Answer → List ℕ → Option ℕ → Type 0
 IsFound answers name found = MatchOption found (first_answer answers name ≡ None) (λ i. (i < length answers) × (first_answer answers name ≡ Some (bytes_at answers i)))
 
@@ -78,14 +78,14 @@ module _ (tables : Option PrefixTables) where
   MeansOnly bytes = IsOnly (Means tables bytes)
 
   module _ (answer : List ℕ → Option (List ℕ) → Type 0) where
-    -- what a file opens, as `Opens` says it, where each file that is opened means one thing alone, or nothing
+    -- the files that a file opens, as `Opens` defines them, if each file that is opened means one thing alone, or nothing
     abbrev pub OpensOnly : ℕ → List ℕ → Trail → Type 0
     OpensOnly zero bytes trail = ⊥
     OpensOnly (suc most) bytes trail = (HoldsOfNone (Means tables bytes) × (trail ≡ (length bytes ∷ [], true)))
         ⊎ ((file : File) × (rest : Trail) × MeansOnly bytes file × OpensEach (OpensUse answer (OpensOnly most) most) file.uses rest
         × (trail ≡ (length bytes ∷ rest.0, rest.1)))
 
-    -- the first files that are opened, as `OpensFirst` says it, likewise
+    -- the first files that are opened, as `OpensFirst` defines them, with the same condition
     abbrev pub OpensOnlyFirst : ℕ → List ℕ → List (List ℕ) → List ℕ → Type 0
     OpensOnlyFirst zero bytes names lengths = ⊥
     OpensOnlyFirst (suc most) bytes names lengths = ((names ≡ []) × (lengths ≡ length bytes ∷ []))
@@ -98,11 +98,11 @@ module _ (tables : Option PrefixTables) where
     pub record IsWhole (most : ℕ) (bytes : List ℕ) (lengths : List ℕ) : Type 0 where
       pub opened : OpensOnly (IsAnswered answers) most bytes (lengths, false)
 
-    -- the same of uses, one after another
+    -- uses are opened whole, one after another: these are the lengths of the files
     pub record AreWhole (room : ℕ) (uses : List (List ℕ)) (lengths : List ℕ) : Type 0 where
       pub opened : OpensEach (OpensUse (IsAnswered answers) (OpensOnly (IsAnswered answers) room) room) uses (lengths, false)
 
-    -- a file uses this name, after others that are whole, where at most this many files may stand in a chain under the file
+    -- a file uses this name, after other uses that are whole; at most this many files may stand in a chain under the file
     pub record Uses (room : ℕ) (bytes name lengths : List ℕ) : Type 0 where
       pub file : File
       pub only : MeansOnly bytes file
@@ -111,30 +111,30 @@ module _ (tables : Option PrefixTables) where
       pub split : file.uses ≡ before ++ name ∷ after
       pub whole : AreWhole room before lengths
 
-    -- a file that was answered uses this name, which wasn't asked for yet
+    -- a file among the answers uses this name, and the name has no answer yet
     abbrev pub IsWanted : List ℕ → Type 0
     IsWanted name = ((i : ℕ) × (i < length answers) × OfBytes (bytes_at answers i) (λ bytes. (file : File) × MeansOnly bytes file × Contains file.uses name)) × (first_answer answers name ≡ None)
 
     module _ (budget : Option ℕ) (first : List ℕ) where
-      -- all that is opened for the first file is within the budget
+      -- the files that are opened for the first file are within the budget
       pub record IsWithin : Type 0 where
         pub lengths : List ℕ
         pub whole : IsWhole 16 first lengths
         pub within : IsOver budget (sum lengths) → ⊥
 
-      -- the names lead from the first file to one at fault, and all that is opened up to there is within the budget
+      -- the names lead from the first file to a file at fault, and the files that are opened up to this file are within the budget
       pub record IsFaulty (names : List (List ℕ)) (cause : Cause) : Type 0 where
         pub fault : IsFault tables (IsAnswered answers) 16 first names cause
         pub lengths : List ℕ
         pub broken : OpensOnly (IsAnswered answers) 16 first (lengths, true)
         pub within : IsOver budget (sum lengths) → ⊥
 
-      -- the same, or the names lead to the first file that passes the budget
+      -- the names lead from the first file to a file at fault, or to the first file that exceeds the budget
       abbrev pub IsRefusal : List (List ℕ) → Cause → Type 0
       IsRefusal names OverBudget = PassesAt (OpensOnlyFirst (IsAnswered answers) 16 first) budget names
       IsRefusal names cause = IsFaulty names cause
 
-      -- the names lead from the first file to one of these bytes, under which, itself counted, at most so many files may stand in a chain; what is opened before it leaves this of the budget
+      -- the names lead from the first file to a file of these bytes; at most so many files may stand in its chain, the file itself counted; the files that are opened before it leave this rest of the budget
       pub record Leads (most : ℕ) (names : List (List ℕ)) (left : Option ℕ) (bytes : List ℕ) : Type 0 where
         pub some : 0 < most
         pub few : most ≤ 16
@@ -144,7 +144,7 @@ module _ (tables : Option PrefixTables) where
         pub broken : (rest : List ℕ) → OpensOnly (IsAnswered answers) most bytes (rest, true) → OpensOnly (IsAnswered answers) 16 first (lengths ++ rest, true)
         pub opened : (more : List (List ℕ)) (rest : List ℕ) → OpensOnlyFirst (IsAnswered answers) most bytes more rest → OpensOnlyFirst (IsAnswered answers) 16 first (names ++ more) (lengths ++ rest)
 
-      -- the same of the file that is answered; without one, its use is at fault
+      -- the names lead from the first file to the file of an answer; without a file, its use is at fault
       abbrev pub LeadsToAnswer : List (List ℕ) → Option ℕ → Option (List ℕ) → Type 0
       LeadsToAnswer names left None = IsFaulty names NoFile
       LeadsToAnswer names left (Some bytes) = (most : ℕ) × Leads most names left bytes
@@ -160,11 +160,11 @@ IsCost None count cost = Unit {0}
 IsCost (Some budget) count cost = count ≡ cost
 
 -- ---- one file
--- there is one, and its bytes mean this alone
+-- there is a file, and its bytes mean this file alone
 abbrev pub IsOpened : Option PrefixTables → Option (List ℕ) → File → Type 0
 IsOpened tables given file = OfBytes given (λ bytes. MeansOnly tables bytes file)
 
--- there is none, it would pass what is left of the budget, or it is outside the grammar
+-- there is no file, or the file would exceed the rest of the budget, or it is outside the grammar
 abbrev pub FailsToOpen : Option PrefixTables → Option (List ℕ) → Option ℕ → Cause → Type 0
 FailsToOpen tables given left (Malformed stop) = OfBytes given (λ bytes. IsOwnFault tables (IsAnswered []) bytes (Malformed stop) × (IsOver left (length bytes) → ⊥))
 FailsToOpen tables given left OverBudget = OfBytes given (λ bytes. IsOver left (length bytes))
@@ -195,7 +195,7 @@ pub record HasFirst (tables : Option PrefixTables) (answers : List Answer) (budg
 abbrev pub AreIndexed : Table → Type 0
 AreIndexed table = (name : List ℕ) → IsFound (given table) name (index_of table.indices name)
 
--- what a table says is so
+-- the entries of a table are right
 pub record IsTable (table : Table) : Type 0 where
   pub indexed : AreIndexed table
   pub files : length table.files.items ≡ length table.answers.items
@@ -213,7 +213,7 @@ pub record IsBegun (table : Table) : Type 0 where
   pub high : 16 < slice_index table.heights.items 0
 
 module _ (table : Table) where
-  -- the chain or the budget has no room for the file at this index, as far as is known
+  -- as far as is known, the file at this index makes the chain too long, or exceeds the budget
   abbrev pub HasNoRoom : ℕ → Option ℕ → ℕ → Type 0
   HasNoRoom room left i = (room < slice_index table.heights.items i) ⊎ IsOver left (slice_index table.costs.items i)
 
@@ -232,13 +232,13 @@ module _ (table : Table) where
     pub whole : AreWhole (tables_of table) (given table) room uses lengths
     pub leaves : Leaves old (sum lengths) new
 
-  -- the first of these uses, with at most this many files in their chains, and what is left after them
+  -- the first of these uses, with at most this many files in their chains, and the rest of the budget after them
   pub record AreFirst (room : ℕ) (uses : List (List ℕ)) (old new : Option ℕ) (first : FirstUses) : Type 0 where
     pub within : first.count ≤ length uses
     pub high : first.highest ≤ room
     pub passed : ArePassed first.highest (take first.count uses) old new
 
-  -- the first of these uses that isn't passed
+  -- the first of these uses that isn't passed over
   pub record IsStuckAt (room : ℕ) (uses : List (List ℕ)) (old : Option ℕ) (stuck : Stuck) : Type 0 where
     pub before : List (List ℕ)
     pub after : List (List ℕ)
@@ -260,7 +260,7 @@ module _ (table : Table) where
     pub whole : IsWhole (tables_of table) (given table) height bytes lengths
     pub leaves : Leaves old (sum lengths) new
 
-  -- a file has a use that isn't passed
+  -- a file has a use that isn't passed over
   pub record HasStuck (room : ℕ) (bytes : List ℕ) (old : Option ℕ) (stuck : Stuck) : Type 0 where
     pub lengths : List ℕ
     pub uses : Uses (tables_of table) (given table) room bytes stuck.name.now lengths
@@ -269,13 +269,13 @@ module _ (table : Table) where
     pub found : IsFound (given table) stuck.name.now stuck.found
     pub has_none : IsStuck room stuck.left stuck.found
 
-  -- of a file under which, itself counted, at most this many may stand in a chain
+  -- the look at a file; at most this many files may stand in its chain, the file itself counted
   abbrev pub IsLook : ℕ → Option ℕ → List ℕ → Look → Type 0
   IsLook most left bytes (look.Whole height after) = (height ≤ most) × IsSpent height bytes left after
   IsLook most left bytes look.OverBudget = IsOver left (length bytes)
   IsLook most left bytes (look.Stuck stuck) = HasStuck (most - 1) bytes left stuck
 
-  -- what is wanted of the file of these bytes, by the answers so far
+  -- the wanted file for the first file of these bytes, by the answers so far
   pub record IsAwaiting (first : List ℕ) (wanted : Wanted) : Type 0 where
     pub name : List ℕ
     pub is : option_copied wanted.name ≡ Some name
@@ -294,26 +294,26 @@ module _ (table : Table) where
   IsNext first (next.Wanted wanted) = IsAwaiting first wanted
   IsNext first (next.Refused refusal) = IsRefusal (tables_of table) (given table) table.budget first (names_seen refusal.names.items) refusal.cause
 
-  -- what it says is so, unless it is done
+  -- the entries of the table are right, unless a file is refused
   abbrev pub IsReady : Next → Type 0
   IsReady next.Whole = IsTable table
   IsReady (next.Wanted wanted) = IsTable table × IsBegun table
   IsReady (next.Refused refusal) = Unit {0}
 
-  -- this answer is awaited: that of the first file, or of one that is used
+  -- this answer is awaited: the answer of the first file, or the answer to a use
   pub record IsAwaited (wanted : Wanted) (bytes : Option (List ℕ)) : Type 0 where
     pub new : (name : List ℕ) → option_copied wanted.name ≡ Some name → first_answer (given table) name ≡ None
     pub begun : IsBegun table ⊎ ((table.answers.items ≡ []) × OfBytes bytes (λ b. Unit {0}))
     pub leads : (first : List ℕ) → bytes_at (given table ++ record { name = option_copied wanted.name; bytes = bytes } ∷ []) 0 ≡ Some first
         → LeadsToAnswer (tables_of table) (given table ++ record { name = option_copied wanted.name; bytes = bytes } ∷ []) table.budget first (names_seen wanted.names.items) wanted.left bytes
 
--- an answer that was awaited was taken, and this is next
+-- the awaited answer was taken, and this is next
 pub record IsTaken (old new : Table) (wanted : Wanted) (bytes : Option (List ℕ)) (next : Next) : Type 0 where
   pub answered : given new ≡ given old ++ record { name = option_copied wanted.name; bytes = bytes } ∷ []
   pub has : OfBytes (bytes_at (given new) 0) (λ b. Unit {0})
   pub ready : IsReady new next
   pub goes_on : (first : List ℕ) → bytes_at (given new) 0 ≡ Some first → IsNext new first next
 
--- these are the layers of the first file, by what was answered
+-- these are the layers of the first file, by the answers
 pub record AreLoaded (tables : Option PrefixTables) (answers : List Answer) (layers : List Layer) : Type 0 where
   pub from : (bytes : List ℕ) → bytes_at answers 0 ≡ Some bytes → AreLayers (MeansOnly tables) (IsAnswered answers) 16 bytes layers

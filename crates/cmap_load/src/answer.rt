@@ -1,4 +1,4 @@
-//! What was answered to the names of files.
+//! Answers to the names of files.
 
 /// A name that was asked for, and the file of that name, if there is one. The first file has no name.
 #[derive(Clone, Copy)]

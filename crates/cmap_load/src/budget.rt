@@ -6,7 +6,7 @@ ghost use Rattle.cmap_chains.specs.Budgets.{IsOver};
 ghost use Rattle.cmap_chains.specs.BytesSpent.{Leaves};
 ghost use Rattle.cmap_load.specs.Loading.{IsCost};
 
-/// Takes `count` bytes from what is left of a budget, if there is one; false where fewer are left.
+/// Takes `count` bytes from the rest of a budget, if there is one; false if fewer bytes are left.
 pub(crate) fn spend(left: &mut Option<u64>, count: u64) -> bool
     ensures spent { OnTrue result (Leaves left.old count left.new) }
     ensures over { OnFalse result (IsOver left.old count × (left.new ≡ left.old)) }
@@ -21,7 +21,7 @@ pub(crate) fn spend(left: &mut Option<u64>, count: u64) -> bool
     true
 }
 
-/// What was taken from a budget; 0 where there is none.
+/// How many bytes were taken from a budget; 0 without a budget.
 pub(crate) fn spent(before: Option<u64>, after: Option<u64>) -> u64
     ensures { (count : ℕ) → Leaves before count after → IsCost before count result }
 {

@@ -19,9 +19,9 @@ use cmap_packed::Bundle;
 use cmap_values::fault::Fault;
 use std::alloc::{AllocError, Global};
 
-/// The layers of the CMap file `data`, its own first, then those of the file that it is based on, and
-/// so on; or why there are none: the file at fault, by the names that lead to it, and what is wrong
-/// with it. No more bytes are opened than `budget`; `None` is no budget.
+/// The layers of the CMap file `data`: its own layer first, then the layer of the file that it is
+/// based on, and so on. A refusal contains the names that lead to the file at fault, and the cause.
+/// The files that are opened have at most `budget` bytes together; `None` is no budget.
 pub fn read_layers<'a, S: Source>(
     alloc: Global,
     budget: Option<u64>,
@@ -29,7 +29,7 @@ pub fn read_layers<'a, S: Source>(
     bundle: Option<&Bundle<'_>>,
     source: &'a S,
 ) -> Result<Layers, Fault<Refusal<'a>>>
-    // A caller whose `Source` says what it answers to each name meets both premises.
+    // A caller whose `Source` defines its answer to each name meets both premises.
     requires can_ask { S.can_ask source.now }
     requires by_name { IsByName (S.answers source.now) }
     ensures accepts { IfOk result
@@ -37,20 +37,21 @@ pub fn read_layers<'a, S: Source>(
     ensures within { OnOk result
         (FitsBudget (tables_given bundle.entry) (S.answers source.now) «data».now budget) }
 
-    // There is no map, or what is opened passes the budget.
+    // There is no map, or the files that are opened exceed the budget.
     ensures refuses { IfErr result (RefusesWith (λ refusal. refusal.cause ≢ Cause.OverBudget
         → HasNoMap (tables_given bundle.entry) (S.answers source.now) «data».now
         × FitsBudget (tables_given bundle.entry) (S.answers source.now) «data».now budget)) }
     ensures over { IfErr result (RefusesWith (λ refusal. refusal.cause ≡ Cause.OverBudget
         → ExceedsBudget (tables_given bundle.entry) (S.answers source.now) «data».now budget)) }
 
-    // The names lead to the file that is at fault; over a budget, to the first that passes it.
+    // The names lead to the file at fault; over a budget, to the first file that exceeds the
+    // budget.
     ensures blames { IfErr result (RefusesWith (λ refusal.
         LeadsToFault (tables_given bundle.entry) (S.answers source.now) «data».now budget
         (names_seen refusal.names.items) refusal.cause)) }
 
-    // Unless the budget is passed, it is the first fault that is read past, or in a text in rows one
-    // after it.
+    // Unless the budget is exceeded, the cause is the first fault that is read past, or in a text
+    // in rows a fault after it.
     ensures first { IfErr result (RefusesWith (λ refusal. refusal.cause ≢ Cause.OverBudget
         → AreOfBundle (tables_given bundle.entry)
         → IsFirstPastFaults (tables_given bundle.entry) (S.answers source.now) «data».now budget
@@ -62,9 +63,10 @@ pub fn read_layers<'a, S: Source>(
     load.finish()
 }
 
-/// The layers of the file of this name, which `source` answers: it is read as `read_layers` reads it,
-/// so that the metadata of the first is what that file says. Where no file has the name, Identity-H
-/// and Identity-V are made without one, and any other name has no layers: `None`. ISO 32000-1, 9.7.5.2.
+/// The layers of the file that `source` answers to this name. The file is read as by `read_layers`,
+/// so the first layer has the metadata of the file. If no file has the name, Identity-H and
+/// Identity-V are built without a file, and any other name has no layers: `None`.
+/// ISO 32000-1, 9.7.5.2.
 pub fn open_layers<'a, S: Source>(
     alloc: Global,
     budget: Option<u64>,
@@ -81,14 +83,14 @@ pub fn open_layers<'a, S: Source>(
     ensures within { OnOk result
         (FitsBudgetNamed (tables_given bundle.entry) (S.answers source.now) name.now budget) }
 
-    // A file has the name. There is no map, or what is opened passes the budget.
+    // A file has the name. There is no map, or the files that are opened exceed the budget.
     ensures refuses { IfErr result (RefusesWith (λ refusal. refusal.cause ≢ Cause.OverBudget
         → HasNoMapNamed (tables_given bundle.entry) (S.answers source.now) name.now
         × FitsBudgetNamed (tables_given bundle.entry) (S.answers source.now) name.now budget)) }
     ensures over { IfErr result (RefusesWith (λ refusal. refusal.cause ≡ Cause.OverBudget
         → ExceedsBudgetNamed (tables_given bundle.entry) (S.answers source.now) name.now budget)) }
 
-    // The names lead from that file to the one that is at fault.
+    // The names lead from this file to the file at fault.
     ensures blames { IfErr result (RefusesWith (λ refusal.
         LeadsToFaultNamed (tables_given bundle.entry) (S.answers source.now) name.now budget
         (names_seen refusal.names.items) refusal.cause)) }

@@ -1,4 +1,4 @@
-//! The answers to names, by their indices.
+//! The indices of the answers to names.
 
 ghost use Rattle.std.specs.Prelude.{◌≡◌, ℕ, List, None, OnOk, Some, bytes_eq, if◌then◌else◌};
 ghost use Rattle.std.specs.Option.{option_copied};
@@ -14,7 +14,7 @@ pub(crate) struct Indices<'a> {
 }
 
 impl<'a> Indices<'a> {
-    /// No answer yet.
+    /// Indices without an answer.
     pub(crate) fn new(alloc: Global) -> Self
         ensures { (name : List ℕ) → index_of result name ≡ None }
     {
@@ -29,7 +29,7 @@ impl<'a> Indices<'a> {
         self.indices.get(name).copied()
     }
 
-    /// Notes the index of an answer, if it is that to a name.
+    /// Notes the index of an answer, if the answer has a name.
     pub(crate) fn note(&mut self, name: Option<&'a [u8]>, index: usize) -> Result<(), AllocError>
         ensures { OnOk result ((other : List ℕ) → index_of self.new other
             ≡ index_after (option_copied name.entry) index other (index_of self.old other)) }

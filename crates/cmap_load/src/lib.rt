@@ -1,5 +1,5 @@
-//! CMap files over the files that they use, which the caller finds: a loader that is asked, and never
-//! asks.
+//! CMap files over the files that they use, which the caller finds: the caller asks the loader, and
+//! the loader never asks the caller.
 #![tactic(auto)]
 
 mod answer;

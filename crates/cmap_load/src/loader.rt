@@ -1,4 +1,4 @@
-//! A loader that is asked, and never asks.
+//! A loader that its caller asks for the wanted files, and that never asks the caller.
 
 ghost use Rattle.std.specs.Prelude.{◌≡◌, ◌++◌, ◌∷◌, [], IfErr, IfOk, IfSome, IsSome, None, OnOk, Some};
 ghost use Rattle.std.specs.Option.{option_copied};
@@ -17,12 +17,12 @@ use cmap_values::fault::Fault;
 use std::alloc::{AllocError, Global};
 use std::mem;
 
-/// Reads a CMap file over the files that it uses, which its caller finds: it says which name it wants,
-/// and is supplied with the file of that name.
+/// Reads a CMap file over the files that it uses. The loader states the name of the file that it
+/// wants, and the caller supplies the file of this name.
 ///
-/// Each file is read once, however often it is used. Files are wanted in the order in which a reader
-/// opens them, each before those that it uses; after a fault none is. Files that are used count for
-/// the budget at each use, and one that would pass it isn't read.
+/// Each file is read once, however often it is used. Files are wanted in the order in which a
+/// reader opens them, each before the files that it uses; after a fault, no file is wanted. A file
+/// counts for the budget at each use, and a file that would exceed the budget isn't read.
 #[derive(Drop)]
 pub struct Loader<'a, 'b> {
     pub(crate) alloc: Global,
@@ -31,7 +31,8 @@ pub struct Loader<'a, 'b> {
 }
 
 impl<'a, 'b> Loader<'a, 'b> {
-    /// Reads the first file. No more bytes are opened than `budget`; `None` is no budget.
+    /// Reads the first file. The files that are opened have at most `budget` bytes together; `None`
+    /// is no budget.
     pub fn new(
         alloc: Global,
         budget: Option<u64>,
@@ -54,12 +55,12 @@ impl<'a, 'b> Loader<'a, 'b> {
         Ok(Loader { alloc, table, next })
     }
 
-    /// The name of the file that is wanted; `None` where no further file is.
+    /// The name of the wanted file; `None` if no further file is wanted.
     pub fn wanted(&self) -> Option<&'a [u8]>
         requires { IsLoading self.now }
         ensures asked { option_copied result ≡ wanted_of self.now }
 
-        // A file that was supplied uses it, and it wasn't answered yet.
+        // A supplied file uses the name, and the name has no answer yet.
         ensures new { IfSome result
             (λ name. IsWanted (tables_in self.now) (answers_of self.now) name.now) }
     {
@@ -69,7 +70,7 @@ impl<'a, 'b> Loader<'a, 'b> {
         }
     }
 
-    /// Takes the file of the name that is wanted; `None` where there is no such file.
+    /// Supplies the wanted file; `None` if no file has the name.
     pub fn supply(&mut self, bytes: Option<&'a [u8]>) -> Result<(), AllocError>
         requires loading { IsLoading self.old }
         requires wanted { IsSome (wanted_of self.old) }
@@ -87,7 +88,8 @@ impl<'a, 'b> Loader<'a, 'b> {
         Ok(())
     }
 
-    /// The layers of the first file, or the file at fault, by the names that lead to it.
+    /// The layers of the first file. A refusal contains the names that lead to the file at fault,
+    /// and the cause.
     pub fn finish(self) -> Result<Layers, Fault<Refusal<'a>>>
         requires loading { IsLoading self }
         requires all { wanted_of self ≡ None }

@@ -1,15 +1,15 @@
-//! What is found on the way to the next file.
+//! Results on the way to the next file.
 
 use cmap_chains::Refusal;
 
 /// The first uses of a file, whose files are whole.
 #[derive(Clone, Copy)]
 pub(crate) struct FirstUses {
-    /// How many uses they are.
+    /// The number of uses.
     pub(crate) count: usize,
-    /// How many files stand in the longest of their chains.
+    /// The number of files in the longest chain of these uses.
     pub(crate) highest: u8,
-    /// How many bytes are opened for them, where there is a budget.
+    /// The number of bytes that are opened for these uses, if there is a budget.
     pub(crate) cost: u64,
 }
 
@@ -20,11 +20,11 @@ pub(crate) const NO_USES: FirstUses = FirstUses {
     cost: 0,
 };
 
-/// The first use of a file that can't be passed: that of a file which wasn't read, for which the chain
-/// is too long, or which would pass the budget.
+/// The first use in a file that can't be passed over: the file of the use isn't known to be whole,
+/// makes the chain too long, or would exceed the budget.
 #[derive(Drop)]
 pub(crate) struct Stuck<'a> {
-    /// The uses before it.
+    /// The uses before the use that can't be passed over.
     pub(crate) before: FirstUses,
     pub(crate) name: &'a [u8],
     /// The index of the answer to the name.
@@ -36,7 +36,7 @@ pub(crate) struct Stuck<'a> {
 /// What is known of the uses of a file, in order.
 #[derive(Drop)]
 pub(crate) enum Passed<'a> {
-    /// All can be passed: how many files stand in the longest of their chains, and what is left of the
+    /// All uses can be passed over: the number of files in their longest chain, and the rest of the
     /// budget.
     All(u8, Option<u64>),
     Stuck(Stuck<'a>),
@@ -45,9 +45,9 @@ pub(crate) enum Passed<'a> {
 /// What is known of a file.
 #[derive(Drop)]
 pub(crate) enum Look<'a> {
-    /// It is whole: how many files stand in its longest chain, and what is left of the budget.
+    /// The file is whole: the number of files in its longest chain, and the rest of the budget.
     Whole(u8, Option<u64>),
-    /// It has more bytes than are left of the budget.
+    /// The file has more bytes than are left of the budget.
     OverBudget,
     Stuck(Stuck<'a>),
 }
@@ -55,9 +55,9 @@ pub(crate) enum Look<'a> {
 /// A file that is wanted.
 #[derive(Drop)]
 pub(crate) struct Wanted<'a> {
-    /// The names that lead to it, its own last.
+    /// The names that lead to the file, its own name last.
     pub(crate) names: Vec<&'a [u8]>,
-    /// The first file has none.
+    /// The name of the file; the first file has no name.
     pub(crate) name: Option<&'a [u8]>,
     /// What is left of the budget before the file.
     pub(crate) left: Option<u64>,
@@ -66,15 +66,15 @@ pub(crate) struct Wanted<'a> {
 /// What is known of all files.
 #[derive(Drop)]
 pub(crate) enum Step<'a> {
-    /// The file at this index is whole: how many files stand in its longest chain, and how many bytes
-    /// are opened for it.
+    /// The file at this index is whole: the number of files in its longest chain, and the number of
+    /// bytes that are opened for it.
     Whole(usize, u8, u64),
-    /// A file is wanted, which the file at this index uses after these uses.
+    /// The file at this index uses the wanted file, after these first uses.
     Wanted(usize, FirstUses, Wanted<'a>),
     Refused(Refusal<'a>),
 }
 
-/// How far all files are read.
+/// The state of all files: whole, or one file is wanted or refused.
 #[derive(Drop)]
 pub(crate) enum Next<'a> {
     Whole,

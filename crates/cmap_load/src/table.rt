@@ -22,15 +22,16 @@ use cmap_values::file::File;
 use std::alloc::{AllocError, Global};
 use std::mem;
 
-/// How many files may stand in a chain, the top one counted.
+/// The greatest number of files in a chain, the top file counted.
 const MOST_FILES: u8 = 16;
 
-/// More files than may stand in a chain.
+/// The height of a file that isn't known to be whole: more files than may stand in a chain.
 const UNKNOWN: u8 = 17;
 
-/// The files that were read. At the same index stand what was answered, what the file says, how many
-/// files stand in its longest chain (or more than may, if that isn't known), how many bytes are opened
-/// for it, each use counted (if the height is known, and there is a budget), and its first uses.
+/// The files that were read. The same index holds the answer, the contents of the file, the number
+/// of files in its longest chain (`UNKNOWN` if the number isn't known), the number of bytes that
+/// are opened for the file, each use counted (if the height is known, and there is a budget), and
+/// its first uses.
 #[derive(Drop)]
 pub(crate) struct Table<'a, 'b> {
     pub(crate) bundle: Option<&'b Bundle<'b>>,
@@ -44,7 +45,7 @@ pub(crate) struct Table<'a, 'b> {
 }
 
 impl<'a, 'b> Table<'a, 'b> {
-    /// No file yet.
+    /// A table without files.
     pub(crate) fn new(alloc: Global, budget: Option<u64>, bundle: Option<&'b Bundle<'b>>) -> Self
         ensures table { IsTable result }
         ensures bundle { result.bundle ≡ bundle.entry }
@@ -63,8 +64,9 @@ impl<'a, 'b> Table<'a, 'b> {
         }
     }
 
-    /// Passes over a use of the file that was found, if it is whole, at most `room` files stand in its
-    /// longest chain, and what it costs is left: how many files stand in that chain.
+    /// Passes over a use of the found file, if the file is whole, at most `room` files stand in its
+    /// longest chain, and the budget suffices. Returns the number of files in this chain; `None` if
+    /// the use isn't passed over.
     fn pass_over(&self, found: Option<usize>, room: u8, left: &mut Option<u64>) -> Option<u8>
         requires table { IsTable self.now }
         requires room { room < 16 }
@@ -82,7 +84,8 @@ impl<'a, 'b> Table<'a, 'b> {
         }
     }
 
-    /// What is known of uses, under which, each counted, at most `room` files may stand in a chain.
+    /// Passes over uses in order, as far as their files are known to be whole. At most `room` files
+    /// may stand in the chain of a use, its own file counted.
     fn pass(&self, uses: &[&'a [u8]], room: u8, left: Option<u64>) -> Passed<'a>
         requires table { IsTable self.now }
         requires room { room < 16 }
@@ -111,8 +114,8 @@ impl<'a, 'b> Table<'a, 'b> {
         Passed::All(highest, after)
     }
 
-    /// The first uses of the file at an index, if at most `room` files stand in their chains and what
-    /// they cost is left; else none.
+    /// The first uses of the file at an index, if at most `room` files stand in their chains and
+    /// the budget suffices; else no uses.
     fn first_uses(&self, at: usize, room: u8, left: &mut Option<u64>) -> FirstUses
         requires table { IsTable self.now }
         requires at { at < length self.now.answers.items }
@@ -128,7 +131,7 @@ impl<'a, 'b> Table<'a, 'b> {
         }
     }
 
-    /// What is known of all uses of the file at an index, as of `pass`.
+    /// Passes over all uses of the file at an index, as `pass` does.
     fn pass_all(&self, at: usize, room: u8, left: Option<u64>) -> Passed<'a>
         requires table { IsTable self.now }
         requires at { at < length self.now.answers.items }
@@ -164,8 +167,8 @@ impl<'a, 'b> Table<'a, 'b> {
         }
     }
 
-    /// What is known of the file at an index, under which, itself counted, at most `most` files may
-    /// stand in a chain.
+    /// Looks at the file at an index. At most `most` files may stand in its chain, the file itself
+    /// counted.
     fn look(&self, at: usize, most: u8, left: Option<u64>) -> Look<'a>
         requires table { IsTable self.now }
         requires most { (0 < most) × (most ≤ 16) }
@@ -195,7 +198,7 @@ impl<'a, 'b> Table<'a, 'b> {
         }
     }
 
-    /// The file that is wanted first, or the first that is at fault, or one that is whole.
+    /// The first file that is wanted or at fault, or a file that is found to be whole.
     fn walk(&self, alloc: Global) -> Result<Step<'a>, AllocError>
         requires table { IsTable self.now }
         requires first { IsBegun self.now }
@@ -234,7 +237,7 @@ impl<'a, 'b> Table<'a, 'b> {
         }
     }
 
-    /// Goes on until a file is wanted, or all is known.
+    /// Goes on until a file is wanted or refused, or all files are whole.
     fn advance(&mut self, alloc: Global) -> Result<Next<'a>, AllocError>
         requires table { IsTable self.old }
         requires first { IsBegun self.old }
@@ -263,8 +266,8 @@ impl<'a, 'b> Table<'a, 'b> {
         }
     }
 
-    /// Takes the file that is awaited, if there is one, reads it if it is within what is left of the
-    /// budget, and goes on.
+    /// Takes the awaited answer, reads its file within the rest of the budget, and goes on. If the
+    /// file can't be read, the result is a refusal.
     pub(crate) fn take(
         &mut self,
         alloc: Global,
@@ -286,8 +289,8 @@ impl<'a, 'b> Table<'a, 'b> {
         }
     }
 
-    /// Notes the answer to a name, and adds its file, if there is one, and it is within what is left of
-    /// the budget.
+    /// Notes the answer to a name, and adds its file, if there is one within the rest of the
+    /// budget.
     fn open(
         &mut self,
         alloc: Global,
@@ -336,7 +339,7 @@ impl<'a, 'b> Table<'a, 'b> {
         Ok(())
     }
 
-    /// Adds what the file says that was answered last.
+    /// Adds the contents of the file of the last answer.
     fn add(&mut self, file: File<'a>) -> Result<(), AllocError>
         ensures files { OnOk result (self.new.files.items ≡ self.old.files.items ++ file.entry ∷ []) }
         ensures heights { OnOk result (self.new.heights.items ≡ self.old.heights.items ++ 17 ∷ []) }
@@ -355,7 +358,7 @@ impl<'a, 'b> Table<'a, 'b> {
         Ok(())
     }
 
-    /// The layers of the first file, each of a file whose lists are moved into it.
+    /// The layers of the first file. The lists of each file are moved into its layer.
     pub(crate) fn into_layers(mut self, alloc: Global) -> Result<Layers, AllocError>
         requires table { IsTable self }
         requires whole { (bytes : List ℕ) → bytes_at (given self) 0 ≡ Some bytes
@@ -385,7 +388,7 @@ impl<'a, 'b> Table<'a, 'b> {
     }
 }
 
-/// What a file says, if there is one, and it is within what is left of the budget.
+/// The contents of a file, if there is one within the rest of the budget.
 fn open_file<'a>(
     alloc: Global,
     bytes: Option<&'a [u8]>,
@@ -410,7 +413,7 @@ fn open_file<'a>(
     }
 }
 
-/// Takes the file at an index out of the list, where one that says nothing is left.
+/// Takes the file at an index out of the list, and leaves an empty file at the index.
 fn take_file<'a>(alloc: Global, files: &mut Vec<File<'a>>, at: usize) -> File<'a>
     requires { at < length files.old.items }
     ensures taken { slice_get files.old.items at ≡ Some result }

@@ -1,11 +1,11 @@
--- What a bundle is made of.
+-- The parts of a bundle.
 use Rattle.std.specs.Prelude.{ℕ, ◌<◌, ◌^◌, List, All}
 use Rattle.cmap_values.specs.Files.{File}
 use Rattle.cmap_packed.specs.Bundles.{PrefixTables}
 use Rattle.cmap_writer.specs.Encoded.{IsEncodedFor}
 use Rattle.cmap_writer.specs.Keeps.{IsWritten}
 
--- deltas of four bytes and counts of one
+-- tables with deltas of four bytes and counts of one byte
 pub record HaveSymbols (tables : PrefixTables) : Type 0 where
   pub deltas : All (λ p. p.symbol < 2 ^ 32) tables.delta
   pub counts : All (λ p. p.symbol < 2 ^ 8) tables.count

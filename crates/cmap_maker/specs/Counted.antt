@@ -10,7 +10,7 @@ use Rattle.cmap_maker.specs.Tables.{is_shorter}
 abbrev pub numbers_of : List Frequency → List ℕ
 numbers_of fs = map (λ f. f.number) fs
 
--- how often each of the numbers comes, the lowest number first
+-- the frequency of each of the numbers, the lowest number first
 pub record AreFrequencies (numbers : List ℕ) (fs : List Frequency) : Type 0 where
   pub order : AreInOrder nat_lt (numbers_of fs)
   pub kept : All (Contains (numbers_of fs)) numbers
@@ -18,13 +18,13 @@ pub record AreFrequencies (numbers : List ℕ) (fs : List Frequency) : Type 0 wh
   pub times : All (λ f. f.times ≡ times_in numbers f.number) fs
   pub total : sum_by (λ f. f.times) fs ≡ length numbers
 
--- the last of these comes once more, or the number comes after them and isn't the last
+-- the last frequency counts the number once more, or the number isn't the last and has a new frequency after the others
 abbrev pub CountsNumber : List Frequency → ℕ → List Frequency → Type 0
 CountsNumber fs n after =
     ((front : List Frequency) × (times : ℕ) × (fs ≡ front ++ record { number = n; times = times } ∷ []) × (after ≡ front ++ record { number = n; times = times + 1 } ∷ []))
     ⊎ ((after ≡ fs ++ record { number = n; times = 1 } ∷ []) × ((d : Frequency) → 0 < length fs → (get_or fs (length fs - 1) d).number ≡ n → ⊥))
 
--- no number comes twice
+-- no number occurs twice
 abbrev pub AreDistinct : List Frequency → Type 0
 AreDistinct fs = (n : ℕ) → count_by (λ f. f.number == n) fs ≤ 1
 

@@ -1,4 +1,4 @@
--- The numbers that files are spelled by, and their tables.
+-- The numbers that spell files, and the tables for these numbers.
 use Rattle.std.specs.Prelude.{◌≡◌, ℕ, List, [], Some, flat_map}
 use Rattle.cmap_packed.specs.Bundles.{PrefixTables}
 use Rattle.cmap_writer.specs.declared.segments.Segment.{Segment}
@@ -12,7 +12,7 @@ deltas_in segments = flat_map (λ s. s.deltas.items) segments
 abbrev pub counts_in : List Segment → List ℕ
 counts_in segments = flat_map (λ s. s.counts.items) segments
 
--- the segments of one file: none where it isn't in the binary form
+-- the segments of one file; none if the file isn't in the binary form
 abbrev pub slot_segments : Slot → List Segment
 slot_segments (File prepared) = prepared.segments.items
 slot_segments (Text text) = []

@@ -1,7 +1,7 @@
 -- Lists in order.
 use Rattle.std.specs.Prelude.{◌≡◌, Bool, true, List, [], ◌∷◌, All, if◌then◌else◌}
 
--- an element at its place among others, which are in order; once, if it is one of them
+-- a list in order with an element at its place; an element that the list contains already isn't added again
 abbrev pub placed : {X : Type 0} → (X → X → Bool) → X → List X → List X
 placed before x [] = x ∷ []
 placed before x (y ∷ ys) = if before x y then x ∷ y ∷ ys else (if before y x then y ∷ placed before x ys else y ∷ ys)

@@ -1,4 +1,4 @@
--- Maps over a bundle that is made of files, and over the texts that these were read from.
+-- Maps over a bundle of files, and maps over the texts that the files were read from.
 use Rattle.std.specs.Prelude.{◌≡◌, ◌↔◌, ℕ, List, All, Option, Some, option_and_then}
 use Rattle.std.specs.Borrow.{Bor}
 use Rattle.std.specs.Option.{option_copied}
@@ -42,15 +42,15 @@ AreOverTexts sources given bytes layers = AreLayers (Means given) (OfTexts sourc
 abbrev pub AreOverBundle : Bundle → List ℕ → List Layer → Type 0
 AreOverBundle bundle bytes layers = AreLayers (Means (Some bundle.tables)) (OfBundle bundle) most_files bytes layers
 
--- it has layers over both or over neither, and these answer alike
+-- the file of these bytes has layers over both or over neither, and the layers answer alike
 pub record HasMapsAlike (sources : List Source) (bundle : Bundle) (given : Option PrefixTables) (bytes : List ℕ) : Type 0 where
   pub bundled : (layers : List Layer) → AreOverTexts sources given bytes layers → (others : List Layer) × AreOverBundle bundle bytes others × AnswerAlike layers others
   pub unbundled : (others : List Layer) → AreOverBundle bundle bytes others → (layers : List Layer) × AreOverTexts sources given bytes layers × AnswerAlike layers others
 
--- the bytes mean the same by the tables and by those of the bundle: so all texts do, and all files where these are the same
+-- the bytes mean the same by the given tables and by the tables of the bundle: this holds of all texts, and of all files if the tables are the same
 abbrev pub MeanTheSame : Option PrefixTables → PrefixTables → List ℕ → Type 0
 MeanTheSame given tables bytes = (file : File) → Means given bytes file ↔ Means (Some tables) bytes file
 
--- any file answers over the bundle that the bytes are as it does over the texts
+-- the bytes are a bundle over which any file answers as it does over the texts
 abbrev pub AnswersAsTexts : List Source → List ℕ → Type 0
 AnswersAsTexts sources bytes = All IsRead sources → (bundle : Bundle) → IsOnly (IsBundle bytes) bundle → (given : Option PrefixTables) (file : List ℕ) → MeanTheSame given bundle.tables file → HasMapsAlike sources bundle given file

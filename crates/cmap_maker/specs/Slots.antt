@@ -39,16 +39,16 @@ source_at (source ∷ sources) place = if is_index (index_of_name source.name) p
 abbrev pub IsTextBehind : List ℕ → List ℕ → Type 0
 IsTextBehind text bytes = (size : List ℕ) × (spaces : List ℕ) × (bytes ≡ (codes "% text" ++ size) ++ (10 ∷ (text ++ spaces))) × All (λ b. ends_comment b ≡ false) size × All (λ b. b ≡ 32) spaces × IsFramedFile bytes × (length size ≡ 4)
 
--- something stands in the way of the file in the binary form
+-- the file has an obstacle in the binary form
 abbrev pub IsUnsayable : File → Type 0
 IsUnsayable file = (obstacle : Obstacle) × IsObstacle file obstacle
 
--- what stands in a bundle for a name: the file of its source in the binary form, just where nothing stands in its way, or else its text; without a source no file
+-- the bytes of a bundle for a name: the file of its source in the binary form, or, if the file has an obstacle, its text behind a comment; without a source, the bytes of an absent file
 abbrev pub IsFileFor : PrefixTables → Option Source → List ℕ → Type 0
 IsFileFor tables None bytes = bytes ≡ no_file_bytes
 IsFileFor tables (Some source) bytes = IsFileWritten tables (file_seen source.file.now) bytes ⊎ (IsUnsayable (file_seen source.file.now) × ((text : Bor (List ℕ)) × (source.text ≡ Some text) × IsTextBehind text.now bytes))
 
--- what is to be written for a name
+-- the slot that is to be written for a name
 abbrev pub IsSlotFor : Option Source → Slot → Type 0
 IsSlotFor None slot.Absent = Unit {0}
 IsSlotFor (Some source) (slot.File prepared) = IsPreparedFor (file_seen source.file.now) prepared
@@ -58,7 +58,7 @@ IsSlotFor _ _ = ⊥
 abbrev pub AreSlotsFor : List Source → List Slot → ℕ → Type 0
 AreSlotsFor sources slots count = (length slots ≡ count) × ((place : ℕ) (d : Slot) → place < count → IsSlotFor (source_at sources place) (get_or slots place d))
 
--- each name has a place, and the bytes are a bundle with the tables for all numbers of the files, which has for each known name, at its index, the file of the first source of this name
+-- each name has a place, and the bytes are a bundle with the tables for all numbers of the files; at the index of each known name, the bundle has the file of the first source of this name
 pub record IsNamedBundle (sources : List Source) (bytes : List ℕ) : Type 0 where
   pub named : AllHavePlaces sources
   pub tables : PrefixTables
@@ -71,7 +71,7 @@ pub record IsNamedBundle (sources : List Source) (bytes : List ℕ) : Type 0 whe
   pub spelled : AreTablesFor slots tables
 
 -- ---- private aid
--- these bytes are what is to be written
+-- these bytes are the written slot
 abbrev pub IsSlotWritten : PrefixTables → Slot → List ℕ → Type 0
 IsSlotWritten tables (slot.File prepared) bytes = IsEncoded tables prepared bytes × IsFramedFile bytes × ((file : File) → IsPrepared file prepared → IsWritten tables file bytes)
 IsSlotWritten tables (slot.Text text) bytes = IsTextBehind text.now bytes × (11 + length text.now < 2 ^ 32)
@@ -82,6 +82,6 @@ AreSlotsWritten tables [] [] = Unit {0}
 AreSlotsWritten tables (s ∷ slots) (text ∷ texts) = IsSlotWritten tables s text × AreSlotsWritten tables slots texts
 AreSlotsWritten tables slots texts = ⊥
 
--- the bytes are a bundle with what is to be written, and with the tables for its numbers
+-- the bytes are a bundle of the written slots, with the tables for their numbers
 abbrev pub IsBundleOfSlots : List Slot → List ℕ → Type 0
 IsBundleOfSlots slots bytes = (tables : PrefixTables) × (texts : List (List ℕ)) × IsBundle bytes (record { tables = tables; files = texts }) × AreSlotsWritten tables slots texts × AreTablesFor slots tables × HaveOneWordEach tables

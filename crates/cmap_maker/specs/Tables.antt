@@ -9,7 +9,7 @@ use Rattle.cmap_maker.specs.InOrder.{in_order}
 abbrev pub filled : CodeWord → CodeWord
 filled w = record { len = max 1 w.len; symbol = w.symbol }
 
--- a code word is shorter than another one, or as long, and its symbol is lower
+-- a code word is shorter than another code word, or as long with a lower symbol
 abbrev pub is_shorter : CodeWord → CodeWord → Bool
 is_shorter v w = nat_lt v.len w.len || ((v.len == w.len) && nat_lt v.symbol w.symbol)
 
@@ -21,11 +21,11 @@ huffman_table frequencies = map filled (in_order is_shorter (huffman_words frequ
 abbrev pub flat_table : List Frequency → List CodeWord
 flat_table frequencies = map (λ f. record { len = 16; symbol = f.number }) frequencies
 
--- each word has at most 32 bits, and fewer than 2 ^ 16 words have as many
+-- each word has at most 32 bits, and fewer than 2 ^ 16 words have the same length
 abbrev pub fits : List CodeWord → Bool
 fits table = list_all (λ w. nat_le w.len 32 && nat_lt (count_by (λ v. v.len == w.len) table) (2 ^ 16)) table
 
--- the table for numbers that come so often, the rarest first: by Huffman's method, or else words of sixteen bits, which fewer than 2 ^ 16 numbers can have
+-- the table for numbers with these frequencies, the rarest number first: by Huffman's method, or else words of sixteen bits for fewer than 2 ^ 16 numbers
 abbrev pub table_of : List Frequency → Option (List CodeWord)
 table_of frequencies =
     if fits (huffman_table frequencies) then Some (huffman_table frequencies) else (

@@ -25,7 +25,7 @@ pub record IsPlaceless (sources : List Source) (index : ℕ) : Type 0 where
   pub placeless : index_of_name source.name ≡ None
   pub before : AllHavePlaces (take index sources)
 
--- all names have places; there is something to write for each place below that of the source, which is the first of its name, and which has no text and can't be written for this reason
+-- all names have places, and each place below the place of the source has a slot to write; the source is the first source of its name, has no text, and can't be written because of this obstacle
 pub record IsUnwritable (sources : List Source) (index : ℕ) (obstacle : Obstacle) : Type 0 where
   pub source : Source
   pub at_index : slice_get sources index ≡ Some source
@@ -44,20 +44,20 @@ IsLongSlot tables (slot.File prepared) = IsLongBy tables prepared
 IsLongSlot tables (slot.Text text) = 2 ^ 32 ≤ 11 + length text.now
 IsLongSlot tables slot.Absent = ⊥
 
--- one of these is too long by the tables for their numbers
+-- one of these slots is too long by the tables for their numbers
 pub record HasLongSlot (slots : List Slot) : Type 0 where
   pub tables : PrefixTables
   pub spelled : AreTablesFor slots tables
   pub long : Any (IsLongSlot tables) slots
 
--- these can't stand in one bundle: there is no table for their deltas, or one of them is too long
+-- these slots can't stand in one bundle: there is no table for their deltas, or a slot is too long
 abbrev pub IsWholeObstacle : List Slot → Obstacle → Type 0
 IsWholeObstacle slots NoWord = table_for (deltas_in (segments_in slots)) ≡ None
 IsWholeObstacle slots TooLong = HasLongSlot slots
 IsWholeObstacle slots other = ⊥
 
 -- ---- bundles
--- the source at the index; without one each source is something to write, and all together can't be written
+-- the source at the index is at fault; without an index, each place has a slot to write, and the slots together can't be written
 abbrev pub IsObstacleOf : List Source → Option ℕ → Obstacle → Type 0
 IsObstacleOf sources (Some index) NoPlace = IsPlaceless sources index
 IsObstacleOf sources (Some index) other = IsUnwritable sources index other
@@ -67,7 +67,7 @@ abbrev pub IsUnwritableOf : List Source → Unwritable → Type 0
 IsUnwritableOf sources unwritable = IsObstacleOf sources unwritable.index unwritable.obstacle
 
 -- ---- private aid
--- the source at a place, which has no text and can't be written
+-- the first source at a place has no text and can't be written
 pub record IsUnwritableAt (sources : List Source) (place : ℕ) (unwritable : Unwritable) : Type 0 where
   pub index : ℕ
   pub is : unwritable.index ≡ Some index
@@ -78,11 +78,11 @@ pub record IsUnwritableAt (sources : List Source) (place : ℕ) (unwritable : Un
   pub named : index_of_name source.name ≡ Some place
   pub first : source_at (take index sources) place ≡ None
 
--- this source, which has this index, has no text and can't be written
+-- this source, at this index, has no text and can't be written
 abbrev pub IsUnwritableAs : Source → ℕ → Unwritable → Type 0
 IsUnwritableAs source index unwritable = (unwritable.index ≡ Some index) × (source.text ≡ None) × IsObstacle (file_seen source.file.now) unwritable.obstacle
 
--- deltas of four bytes and counts of one, and few of them
+-- a segment with deltas of four bytes and counts of one byte that isn't too large
 pub record IsSound (segment : Segment) : Type 0 where
   pub deltas : All (λ n. n < 2 ^ 32) segment.deltas.items
   pub counts : All (λ n. n < 2 ^ 8) segment.counts.items
@@ -91,7 +91,7 @@ pub record IsSound (segment : Segment) : Type 0 where
 abbrev pub AreSound : List Slot → Type 0
 AreSound slots = All IsSound (segments_in slots)
 
--- why these can't be written by tables
+-- the obstacle to writing a slot, or slots, by these tables
 abbrev pub IsSlotObstacle : PrefixTables → Slot → Obstacle → Type 0
 IsSlotObstacle tables s NoWord = Any (HasNoWord tables) (slot_segments s)
 IsSlotObstacle tables s TooLong = Any IsLarge (slot_segments s) ⊎ IsLongSlot tables s
@@ -100,7 +100,7 @@ IsSlotObstacle tables s other = ⊥
 abbrev pub IsSlotsObstacle : PrefixTables → List Slot → Obstacle → Type 0
 IsSlotsObstacle tables slots obstacle = Any (λ s. IsSlotObstacle tables s obstacle) slots
 
--- or these tables can't stand in a bundle
+-- the obstacle to writing these slots by these tables, or to writing the tables themselves
 abbrev pub IsTablesObstacle : PrefixTables → List Slot → Obstacle → Type 0
 IsTablesObstacle tables slots NoWord = (HaveSymbols tables → ⊥) ⊎ IsSlotsObstacle tables slots NoWord
 IsTablesObstacle tables slots other = IsSlotsObstacle tables slots other

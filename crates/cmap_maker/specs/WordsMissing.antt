@@ -1,10 +1,10 @@
--- Why there is no table.
+-- The obstacle to a table.
 use Rattle.cmap_values.specs.declared.fault.Fault.{Fault}
 use Rattle.cmap_values.specs.declared.fault.Fault.TheVariants.{Memory, Refused}
 use Rattle.cmap_writer.specs.declared.obstacle.Obstacle.{Obstacle}
 use Rattle.cmap_writer.specs.declared.obstacle.Obstacle.TheVariants.{NoWord}
 
--- a number has no code word only where this holds; of memory nothing is said, and there is no other reason
+-- a number has no code word only if this holds; a failure of memory has no condition, and there is no other obstacle
 abbrev pub IsNoWordIf : Type 0 → Fault Obstacle → Type 0
 IsNoWordIf holds (Refused NoWord) = holds
 IsNoWordIf holds (Refused other) = ⊥

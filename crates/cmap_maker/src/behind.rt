@@ -1,4 +1,4 @@
-//! A text in a bundle, with a comment before it that holds its length.
+//! A text in a bundle, behind a comment that contains the length.
 
 ghost use Rattle.std.specs.Prelude.{◌≡◌, ◌+◌, ◌^◌, ◌∷◌, ◌++◌, ◌≤◌, ◌<◌, ℕ, All, IfErr, IfOk, List, false, length, true};
 ghost use Rattle.std.specs.Int.{from_be_bytes, w32};
@@ -12,13 +12,15 @@ use cmap_writer::Obstacle;
 use cmap_writer::pieces::push_framed;
 use std::alloc::Global;
 
-/// The six bytes that begin a text: a comment, which goes on up to the line end after the length.
+/// The first six bytes of a text. They begin a comment, which ends at the line end after the
+/// length.
 const TEXT_HEAD: &[u8] = b"% text";
 
-/// How many bytes come before a text: the six, the four of the length, and a line end.
+/// The number of bytes before a text: the six bytes of `TEXT_HEAD`, four bytes of the length, and a
+/// line end.
 const BEFORE: u64 = 11;
 
-/// Writes a text after a comment, which holds its length.
+/// Writes a text behind a comment that contains the length.
 pub(crate) fn push_text(
     alloc: Global,
     text: &[u8],
@@ -33,7 +35,7 @@ pub(crate) fn push_text(
     Ok(())
 }
 
-/// A line end, the text, and as many spaces as it takes until no byte of the length ends a comment.
+/// A line end, the text, and enough spaces that no byte of the length ends a comment.
 fn text_payload(alloc: Global, text: &[u8]) -> Result<Vec<u8>, Fault<Obstacle>>
     ensures written { IfOk result (λ payload. (spaces : List ℕ) × (payload.items ≡ 10 ∷ (text.now ++ spaces))
         × All (λ b. b ≡ 32) spaces × All (λ b. ends_comment b ≡ false) (bytes_of 4 (10 + length payload.items))) }
@@ -51,7 +53,7 @@ fn text_payload(alloc: Global, text: &[u8]) -> Result<Vec<u8>, Fault<Obstacle>>
     Ok(payload)
 }
 
-/// The least number from this one on, no byte of which ends a comment.
+/// The least number, from `number` on, whose bytes don't end a comment.
 fn without_line_end(number: u32) -> u32
     ensures more { number ≤ result }
     ensures ends { All (λ b. ends_comment b ≡ false) (bytes_of 4 result) }
@@ -59,7 +61,7 @@ fn without_line_end(number: u32) -> u32
     u32::from_be_bytes(raised(number.to_be_bytes()))
 }
 
-/// The bytes of the least number from that of these on, none of which ends a comment.
+/// The bytes of the least number, from the number of `bytes` on, whose bytes don't end a comment.
 fn raised(bytes: [u8; 4]) -> [u8; 4]
     ensures more { from_be_bytes w32 bytes ≤ from_be_bytes w32 result }
     ensures ends { All (λ b. ends_comment b ≡ false) result }
@@ -77,7 +79,7 @@ fn raised(bytes: [u8; 4]) -> [u8; 4]
     }
 }
 
-/// The least byte from this one on that doesn't end a comment.
+/// The least byte from `byte` on that doesn't end a comment.
 fn after_line_end(byte: u8) -> u8
     ensures more { byte ≤ result }
     ensures above { ends_comment byte ≡ true → byte < result }

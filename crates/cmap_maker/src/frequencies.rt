@@ -1,4 +1,4 @@
-//! How often numbers come.
+//! The frequencies of numbers.
 
 ghost use Rattle.std.specs.Prelude.{◌≡◌, ◌+◌, ◌<◌, ◌^◌, IfOk, length, sum_by};
 ghost use Rattle.std.specs.List.Sorted.{IsNonDecreasing};
@@ -8,14 +8,15 @@ ghost use Rattle.cmap_maker.specs.Seen.{frequencies_seen};
 
 use std::alloc::{AllocError, Global};
 
-/// A number, and how often it comes.
+/// A number, and how often it occurs.
 #[derive(Clone, Copy)]
 pub(crate) struct Frequency {
     pub(crate) number: u32,
     pub(crate) times: u64,
 }
 
-/// How often each of these numbers comes: the rarest first, and of those that come as often the lowest.
+/// The frequency of each of these numbers: the rarest number first, and of equally frequent numbers
+/// the lowest first.
 pub(crate) fn frequencies_of(
     alloc: Global,
     mut numbers: Vec<u32>,
@@ -29,7 +30,7 @@ pub(crate) fn frequencies_of(
     Ok(frequencies)
 }
 
-/// How often each of these numbers comes, which are in order: the lowest first.
+/// The frequency of each of these sorted numbers, the lowest number first.
 fn count_numbers(alloc: Global, numbers: &[u32]) -> Result<Vec<Frequency>, AllocError>
     requires { IsNonDecreasing numbers.now }
     ensures { IfOk result (λ frequencies. AreFrequencies numbers.now (frequencies_seen frequencies.items)) }
@@ -41,7 +42,7 @@ fn count_numbers(alloc: Global, numbers: &[u32]) -> Result<Vec<Frequency>, Alloc
     Ok(frequencies)
 }
 
-/// Counts a number: the last of these once more, or a new one after them.
+/// Counts a number: once more in the last frequency, or in a new frequency after it.
 fn count_number(frequencies: &mut Vec<Frequency>, number: u32) -> Result<(), AllocError>
     requires { sum_by (λ f. f.times) frequencies.old.items + 1 < 2 ^ 64 }
     ensures { IfOk result (λ _. CountsNumber (frequencies_seen frequencies.old.items) number (frequencies_seen frequencies.new.items)) }

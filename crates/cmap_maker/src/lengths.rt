@@ -1,4 +1,5 @@
-//! How long the code words of numbers are: by Huffman's method, so that all together take the fewest bits.
+//! The lengths of the code words of numbers, by Huffman's method: all words together take the
+//! fewest bits.
 
 ghost use Rattle.std.specs.Prelude.{◌≡◌, ◌+◌, ◌<◌, ◌≤◌, ◌^◌, [], All, IfOk, length, map, sum_by};
 ghost use Rattle.cmap_maker.specs.Groups.{AreRising, IsJoinedNext, IsSized};
@@ -9,15 +10,15 @@ use crate::frequencies::Frequency;
 use std::alloc::{AllocError, Global};
 use std::collections::VecDeque;
 
-/// A number, and how many bits its code word has.
+/// A number, and the length of its code word in bits.
 #[derive(Clone, Copy)]
 pub(crate) struct WordLength {
     pub(crate) number: u32,
     pub(crate) len: usize,
 }
 
-/// Numbers whose code words have one beginning: how often they come in all, and how many bits each word
-/// has after that beginning.
+/// Numbers whose code words share a prefix: how often the numbers occur in all, and the number of
+/// bits of each word after the prefix.
 #[derive(Drop)]
 struct Group {
     times: u64,
@@ -25,7 +26,7 @@ struct Group {
 }
 
 impl Group {
-    /// One number.
+    /// The group of one number.
     fn alone(alloc: Global, frequency: Frequency) -> Result<Group, AllocError>
         ensures { IfOk result (λ group. group_seen group ≡ alone (frequency_seen frequency)) }
     {
@@ -34,7 +35,7 @@ impl Group {
         Ok(Group { times, words })
     }
 
-    /// The numbers of both. Each word begins with one bit more.
+    /// The group with the numbers of both groups. Each word begins with one more bit.
     fn join(mut self, other: Group) -> Result<Group, AllocError>
         requires few { self.times + other.times < 2 ^ 64 }
         requires sized { IsSized (group_seen self) }
@@ -50,7 +51,7 @@ impl Group {
     }
 }
 
-/// Gives each word one bit more.
+/// Lengthens each word by one bit.
 fn lengthen(words: &mut [WordLength])
     requires { All (λ w. w.len + 1 < 2 ^ 64) words.old }
     ensures { words_seen words.new ≡ map longer (words_seen words.old) }
@@ -64,8 +65,8 @@ fn lengthen(words: &mut [WordLength])
     }
 }
 
-/// Groups of numbers, each queue in the order of how often they come: those of one number, and those that
-/// were joined.
+/// Groups of numbers in two queues, each in the order of frequency: groups of one number, and
+/// joined groups.
 #[derive(Drop)]
 struct Groups {
     alone: VecDeque<Group>,
@@ -73,7 +74,7 @@ struct Groups {
 }
 
 impl Groups {
-    /// Each number alone.
+    /// The groups of one number each.
     fn of_each(alloc: Global, frequencies: &[Frequency]) -> Result<Groups, AllocError>
         ensures alone { IfOk result (λ groups. groups_seen groups.alone.items ≡ map alone (frequencies_seen frequencies.now)) }
         ensures joined { IfOk result (λ groups. groups.joined.items ≡ []) }
@@ -88,7 +89,7 @@ impl Groups {
         Ok(groups)
     }
 
-    /// Joins the two groups that come the fewest times.
+    /// Joins the two rarest groups.
     fn join(&mut self) -> Result<(), AllocError>
         requires queues { AreQueued self.old }
         requires two { 2 ≤ length (groups_in self.old) }
@@ -105,7 +106,7 @@ impl Groups {
         Ok(())
     }
 
-    /// Takes the group that comes the fewest times; of equal ones one that wasn't joined.
+    /// Takes the rarest group; of equally frequent groups, a group that wasn't joined.
     fn take_rarest(&mut self) -> Option<Group>
         ensures { Takes self.old result self.new }
     {
@@ -116,7 +117,7 @@ impl Groups {
         }
     }
 
-    /// Whether the next group is one that was joined.
+    /// Whether the next group is a joined group.
     fn is_joined_next(&self) -> bool
         ensures { IsJoinedNext (groups_seen self.now.alone.items) (groups_seen self.now.joined.items) result }
     {
@@ -127,7 +128,7 @@ impl Groups {
     }
 }
 
-/// The lengths of the code words of numbers that come so often, the rarest first.
+/// The lengths of the code words of numbers with these frequencies, the rarest number first.
 pub(crate) fn word_lengths(
     alloc: Global,
     frequencies: &[Frequency],

@@ -1,5 +1,5 @@
-//! Makers of bundles of CMap files in the binary form `bcmap`: what a reader of one reads is what was
-//! asked for.
+//! Makers of bundles of CMap files in the binary form `bcmap`: a reader of a bundle reads the files
+//! that the caller asked for.
 #![tactic(auto)]
 
 mod behind;

@@ -21,11 +21,11 @@ use std::alloc::Global;
 /// A file of a bundle.
 #[derive(Drop)]
 pub(crate) enum Slot<'s> {
-    /// In the binary form.
+    /// A file in the binary form.
     File(Prepared),
-    /// As a text.
+    /// A file as a text.
     Text(&'s [u8]),
-    /// None.
+    /// No file.
     Absent,
 }
 
@@ -63,7 +63,7 @@ fn check_names(sources: &[Source<'_, '_>]) -> Result<(), Fault<Unwritable>>
     Ok(())
 }
 
-/// The file at a place: that of the first source with this index.
+/// The file at a place: the file of the first source whose name has this index.
 fn slot_at<'s>(
     alloc: Global,
     sources: &[Source<'s, '_>],

@@ -8,7 +8,7 @@ use cmap_values::names::CMapName;
 pub struct Source<'s, 'd> {
     pub name: CMapName<'s>,
     pub file: &'s File<'d>,
-    /// The text that the file was read from, where there is one. It stands in the bundle as it is where
-    /// the file has an obstacle.
+    /// The text that the file was read from, if there is one. The bundle contains the text
+    /// unchanged if the file has an obstacle.
     pub text: Option<&'s [u8]>,
 }

@@ -1,5 +1,5 @@
-//! Tables of code words for the numbers that files are spelled by: the more often a number comes,
-//! the shorter its word.
+//! Tables of code words for the numbers that spell files: the more often a number occurs, the
+//! shorter its word.
 
 ghost use Rattle.std.specs.Prelude.{◌≡◌, ◌⊎◌, ◌<◌, ◌≤◌, ◌^◌, ◌++◌, IfErr, IfOk, MatchOption, None, Some, false, length, map, sum_by, true};
 ghost use Rattle.cmap_packed.specs.PrefixWords.{lengths_from, lengths_of};
@@ -21,13 +21,13 @@ use cmap_writer::segments::Segment;
 use cmap_writer::{Encoder, Encoders, Obstacle};
 use std::alloc::{AllocError, Global};
 
-/// The most bits of a code word.
+/// The greatest length of a code word, in bits.
 const LONGEST: usize = 32;
 
-/// How many bits each code word has where they aren't by frequencies.
+/// The length of each code word, in bits, in a table that isn't by frequencies.
 const FLAT: usize = 16;
 
-/// The numbers that files are spelled by, as often as they come.
+/// The numbers that spell files, each as often as it occurs.
 #[derive(Drop)]
 struct Symbols {
     deltas: Vec<u32>,
@@ -48,7 +48,7 @@ impl Symbols {
     }
 }
 
-/// Tables with a code word for each number that these files are spelled by.
+/// Tables with a code word for each number that spells these files.
 pub(crate) fn tables_for(alloc: Global, slots: &[Slot<'_>]) -> Result<Encoders, Fault<Obstacle>>
     ensures made { IfOk result (λ tables. AreTablesFor slots.now (encoders_seen tables)) }
     ensures alone { IfOk result (λ tables. HaveOneWordEach (encoders_seen tables)) }
@@ -99,8 +99,8 @@ fn encoder_for(alloc: Global, numbers: Vec<u32>) -> Result<Encoder, Fault<Obstac
     }
 }
 
-/// The table by Huffman's method. `None` where a word has more than 32 bits, or 2^16 words or more have
-/// as many bits.
+/// The table by Huffman's method; `None` if a word has more than 32 bits, or if 2^16 words or more
+/// have the same length.
 fn huffman_encoder(alloc: Global, frequencies: &[Frequency]) -> Result<Option<Encoder>, AllocError>
     requires order { AreInOrder is_rarer (frequencies_seen frequencies.now) }
     requires distinct { AreDistinct (frequencies_seen frequencies.now) }
@@ -134,8 +134,9 @@ fn numbers_of_words(alloc: Global, words: &[WordLength]) -> Result<Vec<u32>, All
     words.iter().map(|word| word.number).collect(alloc)
 }
 
-/// How many of these words, the shortest first, have each number of bits from 1 to 32; each word has at
-/// least one. `None` where a word has more, or 2^16 words or more have as many.
+/// The number of these words, the shortest first, for each length from 1 to 32 bits; a word of 0
+/// bits counts as a word of 1 bit. `None` if a word has more than 32 bits, or if 2^16 words or more
+/// have the same length.
 fn counts_of(alloc: Global, words: &[WordLength]) -> Result<Option<Vec<u16>>, AllocError>
     requires { AreInOrder is_shorter (words_seen words.now) }
     ensures { IfOk result (λ found. MatchOption found (fits (map filled (words_seen words.now)) ≡ false)

@@ -1,11 +1,11 @@
-//! Which file of a bundle can't be written, or that the bundle as a whole can't.
+//! A file of a bundle, or a bundle as a whole, that can't be written.
 
 use cmap_writer::Obstacle;
 
-/// Which file can't be written in a bundle, or that the bundle as a whole can't, and why.
+/// The file of a bundle, or the bundle as a whole, that can't be written, and the obstacle.
 #[derive(Clone, Copy, Debug)]
 pub struct Unwritable {
-    /// The index of the file among those that were handed in; `None` where it is the bundle as a whole.
+    /// The index of the file among the sources; `None` for the bundle as a whole.
     pub index: Option<usize>,
     pub obstacle: Obstacle,
 }

@@ -1,5 +1,4 @@
-//! What the program `cmap_query` does, as a call: arguments are answered over a CMap file, perhaps one
-//! after a bundle.
+//! The program `cmap_query` as a call, which answers arguments from a CMap file, perhaps after a bundle.
 
 mod lines;
 
@@ -15,12 +14,10 @@ use hayro_cmap::{CMap, Cause, Fault};
 use std::alloc::Global;
 use std::io::{Read, Write};
 
-/// Answers the arguments from the CMap file that `input` gives, perhaps after a bundle, one line each
-/// on `out`, and returns the exit status: 0, or that of a failure, which `err` then names in one
-/// line.
+/// Answers the queries in the arguments from the CMap file that `input` gives, perhaps after a bundle, with one line
+/// each on `out`. Returns the exit status: 0, or the status of a failure. `err` then names the failure in one line.
 ///
-/// The arguments are looked at before the input is read, and the answers are made before one is
-/// written.
+/// The arguments are parsed before the input is read, and all answers are made before the first answer is written.
 pub fn run<R: Read, W: Write, E: Write>(
     alloc: Global,
     arguments: &[String],
@@ -80,7 +77,7 @@ fn map_of(alloc: Global, options: RunOptions, input: &[u8]) -> Result<CMap, Fail
     }
 }
 
-/// The map of a file, which may use the files of the bundle as `load_embedded` gives them, and no others.
+/// The map of a file, which may use the files of the bundle as `load_embedded` gives them, and no other files.
 fn map_over(
     alloc: Global,
     budget: Option<u64>,

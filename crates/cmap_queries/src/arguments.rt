@@ -19,7 +19,7 @@ fn gathered(rt: &HostRuntime) -> Option<Vec<String>> {
     arguments.collect(rt.alloc()).ok()
 }
 
-/// The number that decimal digits spell, where it fits.
+/// The number that decimal digits spell, if it fits into 64 bits.
 pub fn decimal(digits: &str) -> Option<u64>
     ensures { SomeIff result (SpellsNumber digits.now) (digits_value 10 digits.now) }
 {

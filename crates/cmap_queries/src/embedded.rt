@@ -6,8 +6,8 @@ ghost use Rattle.hayro_cmap.specs.Answers.{stored};
 
 use hayro_cmap::{Bundle, CMapName, Source, load_embedded};
 
-/// The files of a bundle as `load_embedded` gives them, also where one stands for a file that isn't
-/// there; none without a bundle.
+/// The files of a bundle as `load_embedded` gives them, including bytes that stand for an absent file; without a
+/// bundle, no files.
 #[derive(Clone, Copy)]
 pub(crate) struct Embedded<'f> {
     pub(crate) bundle: Option<&'f Bundle<'f>>,

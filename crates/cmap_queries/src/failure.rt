@@ -1,4 +1,4 @@
-//! Why a run gives no answers.
+//! The causes for which a run gives no answers.
 
 ghost use Rattle.std.specs.Prelude.{◌≡◌};
 ghost use Rattle.cmap_queries.specs.Failures.{failure_of};
@@ -9,18 +9,18 @@ use std::alloc::{AllocError, AllocFailed};
 use std::fmt;
 use std::io::{self, ErrorKind};
 
-/// Why a run gives no answers. Its number is the exit status, and its text the line on the standard
+/// The cause for which a run gives no answers. Its number is the exit status, and its text is the line on the standard
 /// error.
 #[derive(Clone, Copy)]
 pub enum Failure {
-    /// The input isn't a CMap file, or uses one that is missing, or doesn't begin with a bundle of the
-    /// given length.
+    /// The input isn't a CMap file, or uses a file that is missing, or doesn't begin with a bundle of the given
+    /// length.
     Refused = 1,
     /// The arguments are wrong.
     Usage = 2,
     /// Out of memory: an allocation failed.
     NoMemory = 3,
-    /// The arguments or the input could not be read, or the answers not written.
+    /// The arguments or the input could not be read, or the answers could not be written.
     Unreadable = 4,
     /// The files have more bytes than the budget.
     OverBudget = 5,

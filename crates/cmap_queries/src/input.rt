@@ -9,14 +9,14 @@ use std::io::{ErrorKind, Read};
 /// How many bytes a read asks for.
 const PIECE_LEN: usize = 8192;
 
-/// How many bytes there is room for at first. A room of this size has pages of its own: they aren't copied
-/// where it grows, and take no memory before they are filled.
+/// The first capacity of the buffer, in bytes. A buffer of this size has pages of its own: the pages aren't copied
+/// when the buffer grows, and take no memory before they are filled.
 const FIRST_ROOM: usize = 1 << 18;
 
-/// How many reads an input may take: with whole pieces, 32 TiB. So the loop ends on any input.
+/// The greatest number of reads of an input: with whole pieces, 32 TiB. The limit ends the loop on any input.
 const MOST_READS: u32 = u32::MAX;
 
-/// All bytes of `input`. One that hasn't ended after `MOST_READS` reads is unreadable.
+/// All bytes of `input`. An input that hasn't ended after `MOST_READS` reads is unreadable.
 pub fn read_all<R: Read>(alloc: Global, input: &mut R) -> Result<Vec<u8>, Failure>
     ensures { IfOk result (λ all. IfSome (R.remaining input.old) (λ given. all.items ≡ given)) }
 {
@@ -33,7 +33,7 @@ pub fn read_all<R: Read>(alloc: Global, input: &mut R) -> Result<Vec<u8>, Failur
     Err(Failure::Unreadable)
 }
 
-/// The first `len` bytes, and those after them; `None` where there are fewer.
+/// The first `len` bytes, and the bytes after them; `None` if there are fewer than `len` bytes.
 pub fn split_bundle(bytes: &[u8], len: u64) -> Option<(&[u8], &[u8])>
     ensures { MatchOption result (length bytes.now < len)
         (λ parts. (bytes.now ≡ parts.0.now ++ parts.1.now) × (length parts.0.now ≡ len)) }

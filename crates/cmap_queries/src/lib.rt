@@ -1,5 +1,5 @@
-//! Queries of codes: how arguments spell them, how they are answered in lines, and why a run ends without
-//! answers. The program cmap_query is one call of it.
+//! Queries of codes: the arguments that spell queries, the lines that answer them, and the failures that end a run
+//! without answers. The program cmap_query is one call of this crate.
 #![tactic(auto)]
 
 pub mod answers;

@@ -1,4 +1,4 @@
-//! What the arguments ask of the whole run, before the queries.
+//! The options of the whole run, which come before the queries.
 
 ghost use Rattle.std.specs.Prelude.{◌≡◌, MatchResult, map, string_bytes};
 ghost use Rattle.cmap_queries.specs.OptionArguments.{SpellsNoNumber, SpellsNoOptions};
@@ -7,18 +7,18 @@ ghost use Rattle.cmap_queries.specs.OptionArguments.{SpellsOption, SpellsOptions
 use crate::arguments::decimal;
 use crate::failure::Failure;
 
-/// What is asked of the whole run.
+/// The options of the whole run.
 #[derive(Clone, Copy)]
 pub struct RunOptions {
-    /// How many bytes, at the front of the input, are a bundle.
+    /// The length of the bundle that begins the input, in bytes.
     pub bundle: Option<u64>,
-    /// How many bytes the files that are opened may have together.
+    /// The greatest number of bytes that the files that are opened may have together.
     pub budget: Option<u64>,
 }
 
 impl RunOptions {
-    /// The options that the arguments begin with, and the arguments after them: `--bundle N`, then
-    /// `--budget N`, where N has decimal digits. Each of them may be absent.
+    /// The options that the arguments begin with, and the arguments after them: `--bundle N`, then `--budget N`, where
+    /// N has decimal digits. Each option may be absent.
     pub fn parse(arguments: &[String]) -> Result<(RunOptions, &[String]), Failure>
         ensures { MatchResult result
             (λ found. SpellsOptions (map string_bytes arguments.now) found.0.bundle found.0.budget
@@ -31,7 +31,7 @@ impl RunOptions {
     }
 }
 
-/// The number of the option of this name, where the arguments begin with it, and the arguments after it.
+/// The number of the option of this name, if the arguments begin with the option, and the arguments after the option.
 fn parse_option<'w>(
     name: &str,
     arguments: &'w [String],

@@ -7,10 +7,10 @@ ghost use Rattle.std.specs.Str.Parse.{IsNumeral, digits_value};
 use crate::failure::Failure;
 use std::alloc::Global;
 
-/// A character code, and what is asked of it.
+/// A character code, and the question about it.
 #[derive(Clone, Copy)]
 pub struct Query<'a> {
-    /// What is asked.
+    /// The question: the CID or the text.
     pub asked: Asked,
     /// The bytes of the code as one number, big-endian.
     pub code: u32,
@@ -22,9 +22,9 @@ impl<'a> Query<'a> {
     ghost use Rattle.cmap_queries.specs.CodeArguments.{SpellsNoQuery};
     ghost use Rattle.cmap_queries.specs.Queries.{argument_of, IsSpelled};
 
-    /// The query that an argument spells. The argument `L:HEX` asks for the CID of a code of L bytes, 1 to
-    /// 4, in 2L hexadecimal digits, and `bf:HEX` for the text of a code, in 1 to 8 of them. The
-    /// digits are of either case.
+    /// The query that an argument spells; `None` if the argument spells no query. The argument `L:HEX` asks for the
+    /// CID of a code of L bytes, 1 to 4, in 2L hexadecimal digits. The argument `bf:HEX` asks for the text of a code,
+    /// in 1 to 8 hexadecimal digits. The digits are of either case.
     pub fn parse(argument: &'a str) -> Option<Query<'a>>
         ensures spelled { IfSome result IsSpelled }
         ensures argument { IfSome result (λ query. argument_of query ≡ argument.now) }
@@ -43,8 +43,8 @@ impl<'a> Query<'a> {
         })
     }
 
-    /// The queries that the arguments spell, one for each; a fault of usage where one of them is wrong,
-    /// or there is none.
+    /// The queries that the arguments spell, one for each; `Failure::Usage` if an argument is wrong, or if there are
+    /// no arguments.
     pub fn parse_all(alloc: Global, arguments: &'a [String]) -> Result<Vec<Query<'a>>, Failure>
         ensures arguments { IfOk result
             (λ queries. map argument_of queries.items ≡ map string_bytes arguments.now) }
@@ -69,7 +69,7 @@ impl<'a> Query<'a> {
     }
 }
 
-/// What is asked of a code.
+/// The question about a code.
 #[derive(Clone, Copy)]
 pub enum Asked {
     /// The CID of a code of this many bytes, 1 to 4.
@@ -81,7 +81,7 @@ pub enum Asked {
 impl Asked {
     ghost use Rattle.cmap_queries.specs.CodeArguments.{asked_name, HasDigitCount, IsAskable};
 
-    /// What is asked by the part of an argument before its colon.
+    /// The question that the part of an argument before its colon names.
     fn named(name: &str) -> Option<Asked>
         ensures known { IfSome result IsAskable }
         ensures name { IfSome result (λ asked. name.now ≡ asked_name asked) }
@@ -97,7 +97,7 @@ impl Asked {
         }
     }
 
-    /// Whether an argument that asks this has this many digits.
+    /// Whether an argument with this question may have this many digits.
     fn has_digits(self, count: usize) -> bool
         ensures { IsTrue result ↔ HasDigitCount self count }
     {
@@ -108,7 +108,7 @@ impl Asked {
     }
 }
 
-/// The number that hexadecimal digits spell, where it fits.
+/// The number that hexadecimal digits spell, if it fits into 32 bits.
 fn hexadecimal(digits: &str) -> Option<u32>
     ensures { SomeIff result (IsNumeral 16 digits.now × (digits_value 16 digits.now < 2 ^ 32))
         (digits_value 16 digits.now) }

@@ -1,4 +1,4 @@
-//! Callers of the library, one of which its page shows.
+//! Callers of the library. Its page shows one of them.
 
 use hayro_cmap::bcmap::Bundle;
 use hayro_cmap::{CMap, CMapName, Cid, Fault, NamedFiles, load_embedded};
@@ -40,8 +40,8 @@ pub fn cid_over_files(
     }
 }
 
-/// The CIDs of a string, one for each of its codes. A code in no range has CID 0, and so has one
-/// without a CID.
+/// The CIDs of a string, one for each of its codes. A code in no codespace range has CID 0, and so has a code without
+/// a CID.
 pub fn cids_of_string(alloc: Global, map: &CMap, text: &[u8]) -> Result<Vec<Cid>, AllocError> {
     let mut cids = Vec::new(alloc);
     let mut left = text;

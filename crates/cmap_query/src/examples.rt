@@ -52,7 +52,7 @@ pub fn has_unijis(alloc: Global, bytes: &[u8]) -> Result<bool, AllocError> {
     Ok(load_embedded(Some(&bundle), CMapName::UniJisUtf16H).is_some())
 }
 
-/// The bundle of one file, as 90ms-RKSJ-H; `None` where the binary form can't say what it says.
+/// The bundle of one file, as 90ms-RKSJ-H; `None` if the binary form can't contain the file.
 pub fn bundle_of(alloc: Global, file: &File<'_>) -> Result<Option<Vec<u8>>, AllocError> {
     let source = Source {
         name: CMapName::N90msRksjH,
@@ -74,7 +74,7 @@ pub fn count_of_texts(map: &CMap) -> usize {
     }
 }
 
-/// The text of a string of a font, with U+FFFD for each code that has none.
+/// The text of a string of a font, with U+FFFD for each code without a text.
 pub fn text_of_string(
     alloc: Global,
     font: &Extractor<'_>,
@@ -107,7 +107,7 @@ pub fn have_same_cids(left: &CMap, right: &CMap) -> bool {
     first_cid_difference(left.layers(), right.layers(), CodeLength::Two).is_none()
 }
 
-/// What a text says, in the fewest declarations.
+/// The file of a text, in the fewest declarations.
 pub fn tidied_text<'d>(alloc: Global, text: &'d [u8]) -> Result<File<'d>, Fault<Stop>> {
     let file = read_text(alloc, text)?;
     Ok(tidy(alloc, &file)?)

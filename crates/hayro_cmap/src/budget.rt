@@ -1,4 +1,4 @@
-//! How reading within a budget ends without an answer.
+//! The errors of reading within a budget.
 
 use std::alloc::AllocError;
 

@@ -1,4 +1,4 @@
-//! Files that a caller's function answers by their names.
+//! Files that a caller's function finds by their names.
 
 ghost use Rattle.cmap_chains.specs.Answers.{Answers};
 
@@ -6,10 +6,10 @@ use cmap_chains::Source;
 use cmap_values::names::CMapName;
 use std::marker::PhantomData;
 
-/// A caller's function, asked for the name that stands for a text.
+/// A caller's function as a source: the function is asked for the name that stands for a text.
 ///
-/// Files are read by a function that calls itself. Such a function can't have the bound that
-/// `get_cmap` has, since that names a lifetime, but it can take a `Source`.
+/// The function that reads files calls itself. Such a function can't have the bound of `get_cmap`,
+/// since the bound names a lifetime, but it can take a `Source`.
 #[derive(Drop)]
 pub(crate) struct FilesByName<'f, 'a, F> {
     pub(crate) get_cmap: &'f F,

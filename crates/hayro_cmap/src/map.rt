@@ -1,4 +1,4 @@
-//! Maps: what the codes of a CMap file stand for.
+//! Maps: the CIDs and the texts that the codes of a CMap file stand for.
 
 ghost use Rattle.std.specs.Prelude.{◌⊎◌, ◌≡◌, ◌≢◌, [], ◌∷◌, ◌≤◌, IfErr, IfOk, IfSome, IfNone, IsErrOf, IsSome, MatchOption, OnOk, Some, codes, length};
 ghost use Rattle.std.specs.List.{All};
@@ -45,13 +45,13 @@ use cmap_values::range::Range;
 use std::alloc::{AllocError, Global};
 use std::marker::{Model, PhantomData};
 
-/// What the codes of a CMap file stand for: the layers of the file and of those that it is based on.
+/// The map of a CMap file: the layer of the file, and the layers of the files that it is based on.
 #[derive(Debug, Drop)]
 pub struct CMap {
     layers: Layers,
 }
 
-// A clause sees the list of them, the top one first.
+// A clause sees the list of layers, the top layer first.
 impl Model for CMap {
     ghost use Rattle.std.specs.Prelude.{List};
     ghost use Rattle.cmap_layers.specs.Layers.{Layer};
@@ -61,25 +61,28 @@ impl Model for CMap {
     ghost view = { λ map. map.layers };
 }
 
-/// What a file says over the files that it uses, apart from their faults, and the faults.
+/// The map of a file over the files that it uses, read past their faults, and these faults.
 #[derive(Debug, Drop)]
 pub struct SalvagedMap<'a> {
     pub map: CMap,
-    /// In the order in which the files are first read, those of each file once. Those of one file
-    /// come in the order of their offsets, before those of the files that it uses.
+    /// The faults, in the order in which the files are first read. The faults of each file are
+    /// listed once, in the order of their offsets, before the faults of the files that the file
+    /// uses.
     pub faults: Vec<Refusal<'a>>,
 }
 
 impl CMap {
-    /// The map of the CMap file `data`; `None` where it is refused: it or a file that it uses is
-    /// outside the grammar, a use has no answer, or more than 16 files stand in a chain.
+    /// The map of the CMap file `data`; `None` if the file is refused: the file or a file that it
+    /// uses is outside the grammar, a use has no answer, or more than 16 files stand in a chain.
     ///
-    /// `get_cmap` is asked for the files that others use, once for each name: those of a file in order,
-    /// and only after the file has been read whole. Each use needs its file, also one that a later
-    /// use replaces. A file takes the layers of the last one that it uses. With a bundle, a file that
-    /// begins with `bcmap` is read as binary, by the bundle's tables; all others are texts.
+    /// `get_cmap` is asked for the files that other files use, once for each name: for the uses of
+    /// a file in order, and only after the whole file has been read. Each use needs its file, even
+    /// if a later use replaces it. A file takes the layers of the last file that it uses. With a
+    /// bundle, a file that begins with `bcmap` is read as binary, by the bundle's tables; all other
+    /// files are texts.
     ///
-    /// It has to answer a name alike each time. Which map comes out else isn't specified.
+    /// `get_cmap` has to give a name the same answer each time. Otherwise the resulting map isn't
+    /// specified.
     pub fn parse<'a, F>(
         alloc: Global,
         data: &[u8],
@@ -91,7 +94,7 @@ impl CMap {
         requires callable { F.IsAlwaysCallable get_cmap.now }
         requires by_name { AnswersByName F.Fn get_cmap.now }
 
-        // A map is that of the file, and no other layers are.
+        // The answer is the map of the file, and no other layers are.
         ensures accepts { IfOk result (λ found. IfSome found
             (IsMapOf (tables_given bundle.entry) (Answers F.Fn get_cmap.now) «data».now)) }
         ensures refuses { IfOk result (λ found. IfNone found
@@ -104,12 +107,12 @@ impl CMap {
         }
     }
 
-    /// The map that `parse` gives, where all files that are opened have no more bytes than `budget`; `None` is no
-    /// budget.
+    /// The map that `parse` gives, if the files that are opened have at most `budget` bytes
+    /// together; `None` is no budget.
     ///
-    /// Files count in the order in which they are opened, each before those that it uses, and a file
-    /// that is used twice counts twice. Nothing is opened after a file outside the grammar or a use
-    /// without its file. A file that would pass the budget isn't read.
+    /// Files count in the order in which they are opened, each before the files that it uses, and a
+    /// file that is used twice counts twice. No file is opened after a file outside the grammar or
+    /// a use without its file. A file that would exceed the budget isn't read.
     pub fn parse_within<'a, F>(
         alloc: Global,
         budget: Option<u64>,
@@ -126,11 +129,11 @@ impl CMap {
         ensures refuses { IfOk result (λ found. IfNone found
             (HasNoMap (tables_given bundle.entry) (Answers F.Fn get_cmap.now) «data».now)) }
 
-        // With an answer, all that is opened is within the budget.
+        // With an answer, the files that are opened are within the budget.
         ensures within { OnOk result
             (FitsBudget (tables_given bundle.entry) (Answers F.Fn get_cmap.now) «data».now budget) }
 
-        // There is a budget, and all that would be opened passes it.
+        // There is a budget, and the files that would be opened exceed it.
         ensures some { IsErrOf result parse_error.OverBudget → IsSome budget }
         ensures over { IsErrOf result parse_error.OverBudget
             → ExceedsBudget (tables_given bundle.entry) (Answers F.Fn get_cmap.now) «data».now budget }
@@ -142,8 +145,8 @@ impl CMap {
         without_refusal(CMap::parse_from(alloc, budget, data, bundle, &source))
     }
 
-    /// The map that `parse_within` gives, where the files that others use come from a `Source`; or why
-    /// there is none: the file at fault, by the names that lead to it, and what is wrong with it.
+    /// The map that `parse_within` gives, with the used files from a `Source`. A refusal contains
+    /// the names that lead to the file at fault, and the cause.
     pub fn parse_from<'a, S: Source>(
         alloc: Global,
         budget: Option<u64>,
@@ -151,7 +154,7 @@ impl CMap {
         bundle: Option<&Bundle<'_>>,
         source: &'a S,
     ) -> Result<CMap, Fault<Refusal<'a>>>
-        // A caller whose `Source` says what it answers to each name meets both premises.
+        // A caller whose `Source` defines its answer to each name meets both premises.
         requires can_ask { S.can_ask source.now }
         requires by_name { IsByName (S.answers source.now) }
         ensures accepts { IfOk result
@@ -159,20 +162,21 @@ impl CMap {
         ensures within { OnOk result
             (FitsBudget (tables_given bundle.entry) (S.answers source.now) «data».now budget) }
 
-        // There is no map, or what is opened passes the budget.
+        // There is no map, or the files that are opened exceed the budget.
         ensures refuses { IfErr result (RefusesWith (λ refusal. refusal.cause ≢ Cause.OverBudget
             → HasNoMap (tables_given bundle.entry) (S.answers source.now) «data».now
             × FitsBudget (tables_given bundle.entry) (S.answers source.now) «data».now budget)) }
         ensures over { IfErr result (RefusesWith (λ refusal. refusal.cause ≡ Cause.OverBudget
             → ExceedsBudget (tables_given bundle.entry) (S.answers source.now) «data».now budget)) }
 
-        // The names lead to the file that is at fault; over a budget, to the first that passes it.
+        // The names lead to the file at fault; over a budget, to the first file that exceeds the
+        // budget.
         ensures blames { IfErr result (RefusesWith (λ refusal.
             LeadsToFault (tables_given bundle.entry) (S.answers source.now) «data».now budget
             (names_seen refusal.names.items) refusal.cause)) }
 
-        // Unless the budget is passed, it is the first fault that `salvage` gives, or in a text in rows
-        // one after it.
+        // Unless the budget is exceeded, the cause is the first fault that `salvage` gives, or in a
+        // text in rows a fault after it.
         ensures first { IfErr result (RefusesWith (λ refusal. refusal.cause ≢ Cause.OverBudget
             → AreOfBundle (tables_given bundle.entry)
             → IsFirstPastFaults (tables_given bundle.entry) (S.answers source.now) «data».now budget
@@ -183,9 +187,9 @@ impl CMap {
         Ok(CMap { layers })
     }
 
-    /// The map of the file of this name, which `source` answers: it is read as `parse_from` reads it, so
-    /// that its metadata is what that file says. Where no file has the name, Identity-H and Identity-V
-    /// are made without one, and any other name has no map: `None`. ISO 32000-1, 9.7.5.2.
+    /// The map of the file that `source` answers to this name. The file is read as by `parse_from`,
+    /// so the map has the metadata of the file. If no file has the name, Identity-H and Identity-V
+    /// are built without a file, and any other name has no map: `None`. ISO 32000-1, 9.7.5.2.
     pub fn open<'a, S: Source>(
         alloc: Global,
         budget: Option<u64>,
@@ -202,14 +206,14 @@ impl CMap {
         ensures within { OnOk result
             (FitsBudgetNamed (tables_given bundle.entry) (S.answers source.now) name.now budget) }
 
-        // A file has the name. There is no map, or what is opened passes the budget.
+        // A file has the name. There is no map, or the files that are opened exceed the budget.
         ensures refuses { IfErr result (RefusesWith (λ refusal. refusal.cause ≢ Cause.OverBudget
             → HasNoMapNamed (tables_given bundle.entry) (S.answers source.now) name.now
             × FitsBudgetNamed (tables_given bundle.entry) (S.answers source.now) name.now budget)) }
         ensures over { IfErr result (RefusesWith (λ refusal. refusal.cause ≡ Cause.OverBudget
             → ExceedsBudgetNamed (tables_given bundle.entry) (S.answers source.now) name.now budget)) }
 
-        // The names lead from that file to the one that is at fault.
+        // The names lead from this file to the file at fault.
         ensures blames { IfErr result (RefusesWith (λ refusal.
             LeadsToFaultNamed (tables_given bundle.entry) (S.answers source.now) name.now budget
             (names_seen refusal.names.items) refusal.cause)) }
@@ -221,14 +225,16 @@ impl CMap {
         }
     }
 
-    /// What the CMap file `data` says over the files that it uses, apart from their faults, and the
-    /// faults. Of a file that `parse_from` accepts it is that map, and there is no fault; of another
-    /// one, the first fault is one for which it is refused, or in a text in rows one before it.
+    /// The map of the CMap file `data` over the files that it uses, read past their faults, and
+    /// these faults. If `parse_from` accepts the file, the map is the same, and there is no fault.
+    /// If `parse_from` refuses the file, the first fault is the cause of the refusal, or in a text
+    /// in rows a fault before the cause.
     ///
-    /// A file is read past its faults, which are listed once, however often it is used. A use without
-    /// a file, or for which the chain has no room, is a fault too, and gives no layers. After a chain
-    /// that is too long no further file is opened, and the uses that follow are passed over. A file
-    /// that would pass the budget isn't read, and gives a layer that says nothing.
+    /// A file is read past its faults. The faults are listed once, however often the file is used.
+    /// A use without a file is a fault too, and so is a use that makes the chain too long; such a
+    /// use gives no layers. After a chain that is too long, no further file is opened, and the uses
+    /// that follow are passed over. A file that would exceed the budget isn't read, and gives an
+    /// empty layer.
     ///
     /// It fails only if memory runs out.
     pub fn salvage<'a, S: Source>(
@@ -244,13 +250,13 @@ impl CMap {
             SalvagesMap (tables_given bundle.entry) (S.answers source.now) «data».now budget
             found.map (faults_seen found.faults.items)) }
 
-        // Of a file that has a map, for which the budget suffices, it gives that map and no fault.
+        // If the file has a map, and the budget suffices, the answer is this map without a fault.
         ensures right { IfOk result (λ found.
             GivesMap (tables_given bundle.entry) (S.answers source.now) «data».now budget
             found.map (faults_seen found.faults.items)) }
 
-        // Of another one, the first fault is one for which it is refused, or in a text in rows one before
-        // it.
+        // If the file has no map or exceeds the budget, the first fault is the cause of a refusal,
+        // or in a text in rows a fault before the cause.
         ensures wrong { IfOk result (λ found.
             HasNoMap (tables_given bundle.entry) (S.answers source.now) «data».now
             ⊎ ExceedsBudget (tables_given bundle.entry) (S.answers source.now) «data».now budget
@@ -268,9 +274,10 @@ impl CMap {
         })
     }
 
-    /// The names of the files that the CMap file `data` uses, in order; `None` where it is outside the
-    /// grammar. None of them is asked for. A caller who has to fetch files one by one learns from it
-    /// which ones. With a bundle, a file that begins with `bcmap` is read as binary.
+    /// The names of the files that the CMap file `data` uses, in order; `None` if `data` is outside
+    /// the grammar. The function asks for none of these files. A caller who fetches files one by
+    /// one learns from the names which files to fetch. With a bundle, a file that begins with
+    /// `bcmap` is read as binary.
     pub fn uses<'a>(
         alloc: Global,
         data: &'a [u8],
@@ -308,7 +315,7 @@ impl CMap {
         &self.layers
     }
 
-    /// What the file states about itself, without those that it is based on.
+    /// The metadata of the file itself, without the metadata of the files that it is based on.
     pub fn metadata(&self) -> &Metadata
         ensures top { top_metadata self.now ≡ Some (metadata_seen result.now) }
         ensures few { length self.now ≤ 16 }
@@ -324,15 +331,16 @@ impl CMap {
         self.layers().cid(code, byte_len, &mut Looks::new())
     }
 
-    /// The answer of `lookup_cid_code`, and what is looked at is counted.
+    /// The answer of `lookup_cid_code`; `looks` counts the runs and declarations that are looked
+    /// at.
     pub fn lookup_cid_counted(&self, code: u32, byte_len: u8, looks: &mut Looks) -> Option<Cid>
         ensures { FindsCid self.now code byte_len looks.old looks.new result }
     {
         self.layers().cid(code, byte_len, looks)
     }
 
-    /// The answer of `lookup_cid_code`, where the code lies in a codespace range of some layer; else
-    /// `None`, as `Layers::strict_cid` has it.
+    /// The answer of `lookup_cid_code`, if a codespace range of some layer contains the code, else
+    /// `None`, as `Layers::strict_cid` gives it.
     pub fn lookup_cid_code_strict(&self, code: u32, byte_len: u8) -> Option<Cid>
         ensures { IsStrictCid self.now code byte_len result }
     {
@@ -346,7 +354,8 @@ impl CMap {
         self.layers().text(alloc, code, &mut Looks::new())
     }
 
-    /// The answer of `lookup_bf_string`, and what is looked at is counted.
+    /// The answer of `lookup_bf_string`; `looks` counts the runs and declarations that are looked
+    /// at.
     pub fn lookup_bf_counted(
         &self,
         alloc: Global,
@@ -396,7 +405,7 @@ impl CMap {
     }
 }
 
-/// The map that is found; none where the file is refused, unless for the budget.
+/// The found map; `None` if the file is refused for another cause than the budget.
 fn without_refusal(found: Result<CMap, Fault<Refusal<'_>>>) -> Result<Option<CMap>, ParseError>
     ensures found { IfOk found.entry (λ map. result ≡ Ok (Some map)) }
     ensures over { IfErr found.entry (RefusesWith (λ refusal. refusal.cause ≡ Cause.OverBudget
