@@ -669,8 +669,9 @@ hayro_cmap_status hayro_cmap_codes_of_cid(hayro_cmap *map, uint32_t cid, uint8_t
 
 /* Makes a CMap file from these declarations, in their order, and from its metadata: its text, in the fewest
  * declarations that give each code the same. Codes of texts are written with the length of the declarations
- * of texts, if all have one length; otherwise with the least length whose codespace ranges have codes below
- * and above, or two bytes; and with four bytes if a code doesn't fit in these.
+ * of texts, if all have one length; otherwise with the least length for which the code lies between the lowest
+ * and the highest code of the codespace ranges of this length, or two bytes if there is no such length; and
+ * with four bytes if a code doesn't fit in these.
  *
  * With HAYRO_CMAP_OK the text is at the head of the buffer `room`, and `needed` is its number of bytes. With
  * HAYRO_CMAP_NO_ROOM `needed` is this number, and the buffer is unchanged. With HAYRO_CMAP_REFUSED a

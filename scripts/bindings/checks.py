@@ -1,4 +1,4 @@
-"""What all tests of the bindings use: checks that are counted, and programs that are run."""
+"""The parts that all tests of the bindings use: checks that are counted, and programs that are run."""
 
 import functools
 import importlib.util
@@ -10,7 +10,7 @@ from dataclasses import dataclass
 
 # a test that hangs fails
 SECONDS = 600
-# languages, as the names of tests have them
+# the languages in the names of tests, and their spelling
 LANGUAGES = {"c": "C", "cpp": "C++", "python": "Python", "rust": "Rust"}
 
 
@@ -47,7 +47,7 @@ def run_in(environment, *words, folder=None):
 
 
 class Checks:
-    """How many checks passed, and how many failed; what failed is printed at once."""
+    """Counts how many checks passed and failed; a failure is printed at once."""
 
     def __init__(self):
         self.passed = self.failed = 0
@@ -83,7 +83,7 @@ def is_there(tool):
 
 
 def needs(*tools):
-    """Has a test skipped where the machine lacks one of these."""
+    """Skips a test if the machine lacks one of these tools."""
 
     def decorated(test):
         @functools.wraps(test)

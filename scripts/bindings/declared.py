@@ -1,4 +1,4 @@
-"""What Rust and Python declare of the calls and the structs, against the header."""
+"""Checks of the calls and the structs that Rust and Python declare, against the header."""
 
 import ctypes
 import importlib.util
@@ -10,7 +10,7 @@ from .library import TOP
 RUST = TOP / "bindings" / "rust" / "src"
 PYTHON = TOP / "bindings" / "python" / "hayro_cmap" / "_library.py"
 
-# how Rust writes a type of the header, behind a pointer too
+# the types of Rust, also behind pointers, and the types of the header
 OF_RUST = {
     "u8": "uint8_t",
     "u16": "uint16_t",
@@ -39,7 +39,7 @@ OF_RUST = {
     "RawDeclaration<'_>": "hayro_cmap_declaration",
     "RawFacts<'_>": "hayro_cmap_facts",
 }
-# the structs of Rust and of Python, with those of the header
+# the structs of Rust and of Python, with their names in the header
 RUST_STRUCTS = {
     "RawMap": "hayro_cmap",
     "RawBundle": "hayro_cmap_bundle",
@@ -79,7 +79,7 @@ ENUMS = {"hayro_cmap_status", "hayro_cmap_mode", "hayro_cmap_reading"}
 
 
 def rust_in_c(name, kind):
-    """What the header declares for a parameter or a field of Rust."""
+    """The declaration in the header for a parameter or a field of Rust."""
     if array := re.fullmatch(r"\[(\w+); (\w+)\]", kind):
         return f"{OF_RUST[array[1]]} {name}[HAYRO_CMAP_{array[2]}]"
     if pointed := re.fullmatch(r"\*(const|mut) (.*)", kind):
@@ -88,7 +88,7 @@ def rust_in_c(name, kind):
 
 
 def pairs(text):
-    """The names of parameters or fields of Rust, each with its type, but for those without bytes."""
+    """The names of parameters or fields of Rust, each with its type; fields without bytes are left out."""
     found = re.findall(r"(?:pub(?:\(crate\))? )?(\w+): ([^,]+?)(?:,|$)", re.sub(r"///.*", "", text).strip())
     return [(name, kind.strip()) for name, kind in found if not kind.startswith("PhantomData")]
 
@@ -101,7 +101,7 @@ def rust_calls():
 
 
 def rust_fields(struct):
-    """The fields of a struct of Rust that is laid out as C does."""
+    """The fields of a struct of Rust with the layout of C."""
     text = "\n".join(path.read_text() for path in sorted(RUST.glob("*.rs")))
     head = rf"#\[repr\(C\)\]\n(?:#\[[^\n]*\]\n)*(?:pub(?:\(crate\))? )?struct {re.escape(struct)} \{{\n(.*?)^\}}"
     return [rust_in_c(*pair) for pair in pairs(re.search(head, text, re.M | re.S)[1])]
@@ -125,26 +125,26 @@ def python_in_c(module):
 
 
 def as_ctypes(declared):
-    """The type of a parameter or a field of the header, as Python tells types apart."""
+    """The type of a parameter or a field of the header, as far as ctypes distinguishes types."""
     kind = re.sub(r"\w+(\[\w+\])?$", "", declared.removeprefix("const ")).strip()
     kind = re.sub(r"^hayro_cmap(_bundle|_encoder)? \*$", "handle *", kind)
     return "int32_t" if kind in ENUMS else kind.replace("size_t", "uint64_t")
 
 
 def field_as_ctypes(declared, most):
-    """The name and the type of a field of the header, and how many it has."""
+    """The name, the type and the number of items of a field of the header."""
     name, _, length = re.search(r"(\w+)(\[(\w+)\])?$", declared).groups()
     return name, as_ctypes(declared), {None: 1, "HAYRO_CMAP_MOST_NAMES": most}[length]
 
 
 def field_of_python(kinds, name, kind):
-    """The same of a field of Python."""
+    """The name, the type and the number of items of a field of Python."""
     items = getattr(kind, "_length_", 1)
     return name, kinds[kind._type_ if hasattr(kind, "_length_") else kind], items
 
 
 def test_rust_declares_the_calls(checks, _setting):
-    """The names, the results and the parameters of those that the crate calls."""
+    """The calls that the crate declares have the names, results and parameters of the header."""
     header = declarations()
     for name, (result, parameters) in rust_calls().items():
         expected = header.get(name, ("no call", []))
@@ -160,7 +160,7 @@ def test_rust_declares_the_structs(checks, _setting):
 
 
 def test_python_declares_the_calls(checks, _setting):
-    """The results and the parameters of those that the package calls."""
+    """The calls that the package declares have the results and parameters of the header."""
     module, header = python_library(), declarations()
     kinds = python_in_c(module)
     for name, (result, parameters) in module.CALLS.items():

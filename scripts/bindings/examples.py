@@ -35,7 +35,7 @@ PREDEFINED = EXAMPLES / "predefined.c"
 MAKING = {"C": EXAMPLES / "to_unicode.c", "C++": EXAMPLES / "to_unicode.cc"}
 WRITING = EXAMPLES / "subset.c"
 ENCODING = EXAMPLES / "encode.c"
-# what glyphs stand for, one of them twice
+# glyphs and their texts; one glyph is repeated
 GLYPHS = ["o", "ffi", "c", "e", "日", "\U0001F600", "é", "o"]
 
 
@@ -48,7 +48,7 @@ def check_strings(checks, setting, what, command, **environment):
 
 
 def check_refusals(checks, setting, what, command, **environment):
-    """A command says which file it refuses, where and why."""
+    """A command prints which file it refuses, where, and why."""
     folder = setting.once(refused_files)
     for name, (_, message) in REFUSED.items():
         ran = run(*command, folder, name, "41", **environment)
@@ -59,7 +59,7 @@ def check_refusals(checks, setting, what, command, **environment):
 
 
 def check_texts(checks, what, command, **environment):
-    """A command gives the texts of fonts' strings in each language that poppler-data has files for."""
+    """A command gives the texts of fonts' strings in each language for which poppler-data has files."""
     for folder, name, digits, text in rows_of_strings() if has_debian_files() else []:
         ran = run(*command, folder, name, digits, **environment)
         texts = "".join(line.split(" ", 2)[2] for line in ran.out.splitlines() if line.count(" ") >= 2)
@@ -68,7 +68,7 @@ def check_texts(checks, what, command, **environment):
 
 @needs("gcc", "g++")
 def test_c_and_cpp_decode(checks, setting):
-    """Over the archive."""
+    """The examples decode strings over the archive."""
     for language, source in NATIVE.items():
         command = [setting.programs.path(source)]
         check_strings(checks, setting, language, command)
@@ -78,7 +78,7 @@ def test_c_and_cpp_decode(checks, setting):
 
 @needs("gcc", "g++", "pkg-config")
 def test_c_and_cpp_decode_over_the_shared_library(checks, setting):
-    """As pkg-config says, with the library found by its soname."""
+    """The examples decode strings over the shared library, with flags of pkg-config; the soname finds the library."""
     for language, source in NATIVE.items():
         command = [setting.programs.over_shared(source)]
         folder = str(setting.library.folder)
@@ -87,7 +87,7 @@ def test_c_and_cpp_decode_over_the_shared_library(checks, setting):
 
 @needs("gcc", "g++")
 def test_c_and_cpp_decode_with_sanitizers(checks, setting):
-    """No address is wrong, and no behaviour undefined."""
+    """The sanitizers find no wrong address and no undefined behaviour."""
     for language, source in NATIVE.items():
         command = [setting.programs.sanitized(source)]
         check_strings(checks, setting, f"{language}, sanitizers", command)
@@ -157,7 +157,7 @@ def check_bundle(checks, setting, command):
 
 
 def check_absent_file(checks, setting, command):
-    """A command says that a bundle has no file of a name."""
+    """A command prints that a bundle has no file of a name."""
     for files in setting.files:
         ran = run(*command, files.bundle, "Nothing:2:0041")
         checks.ended(f"{command_line(command)}: a name without a file in {files.bundle.name}", ran, "", status=1)
@@ -176,7 +176,7 @@ def check_threads(checks, setting, command):
 
 
 def command_line(command):
-    """A command as one types it."""
+    """A command as a line of a shell."""
     return " ".join(map(str, command))
 
 
@@ -209,7 +209,7 @@ def test_c_threads_under_memcheck_and_helgrind(checks, setting):
 
 
 def check_declarations(checks, setting, command):
-    """A command gives the declarations of a file, and the codes of two CIDs, of which one has none."""
+    """A command gives the declarations of a file, and the codes of two CIDs, one of which has no code."""
     ran = run(*command, setting.once(declaring_file), "7", "34")
     checks.ended(f"{command_line(command)}: what a file declares", ran, DECLARED)
     ran = run(*command, setting.once(based_file), "-b", setting.once(declaring_file), "7", "34")
@@ -232,7 +232,7 @@ def test_c_lists_declarations_under_memcheck(checks, setting):
 
 
 def check_made_file(checks, setting, command):
-    """A command makes a file that declares the texts which it is asked for, as declared.c lists them."""
+    """A command makes a file that declares the given texts; declared.c lists them."""
     ran = run(*command, *MADE_OF)
     path = setting.work / "made"
     path.write_text(ran.out)
@@ -249,7 +249,7 @@ def test_c_and_cpp_make_files(checks, setting):
 
 
 def check_strings_of_texts(checks, setting, command, **environment):
-    """A command gives the string of a text by a ToUnicode CMap, or says where there is none."""
+    """A command gives the string of a text by a ToUnicode CMap, or prints that there is none."""
     path = setting.once(to_unicode_file)
     for text, string in ENCODED.items():
         ran = run(*command, path, text, **environment)
@@ -283,7 +283,7 @@ def test_python_encodes_texts(checks, setting):
 
 @needs("pdftotext")
 def test_python_fills_a_form(checks, setting):
-    """Each field has its text by pdftotext, and the codes of the glyphs that its collection means."""
+    """Each field has the codes of the right glyphs of its collection, and pdftotext reads its text."""
     python = python_with("pikepdf")
     if python is None or not has_debian_files():
         print("skipped: python fills a form, for lack of pikepdf or poppler-data", flush=True)
@@ -319,7 +319,7 @@ def test_c_and_cpp_make_to_unicode(checks, setting):
 
 
 def check_written_file(checks, setting, command):
-    """A command writes a file for some codes, which declared.c lists as those of the whole file."""
+    """A command writes a file for some codes; declared.c lists the same answers for them as in the whole file."""
     ran = run(*command, setting.once(declaring_file), *WRITTEN_FOR)
     path = setting.work / "written"
     path.write_text(ran.out)
@@ -343,7 +343,7 @@ def test_c_makes_and_writes_files_under_memcheck(checks, setting):
 
 
 def predefined_files(work):
-    """A folder with a file that predefined.c finds, and one that it mustn't."""
+    """A folder with a file that predefined.c must find, and a file that it must not find."""
     folder = work / "predefined"
     (folder / "below" / "Adobe-Japan1").mkdir(parents=True)
     (folder / "below" / "Adobe-Japan1" / "Small-H").write_text("")
@@ -355,7 +355,7 @@ def predefined_files(work):
 
 @needs("gcc")
 def test_c_finds_predefined_files(checks, setting):
-    """In the folders of CMAP_PATH and their subfolders alone."""
+    """The example finds files in the folders of CMAP_PATH and their subfolders alone."""
     command, folder = [setting.programs.path(PREDEFINED)], setting.once(predefined_files)
     path = f"/nowhere::{folder}/below"
     ran = run(*command, "Small-H", CMAP_PATH=path)

@@ -1,10 +1,10 @@
-"""A form in a PDF file, whose fields have fonts of East Asian character collections, and what fills it."""
+"""A form in a PDF file, whose fields have fonts of East Asian character collections, and the texts that fill it."""
 
 from common.composite_font import with_table
 
-# of each field: the CMap of its font and the ordering of its collection, a text, and the string that shows it. By
-# Identity-H that has the CIDs of the collection's map from Unicode, by another CMap the codes of Python's codecs. For
-# an ASCII letter of GBK-EUC-H poppler reads a full-width one.
+# each field: the CMap of its font, the ordering of its collection, a text, and the string that shows the text. With
+# Identity-H the string has the CIDs of the collection's map from Unicode; with another CMap it has the codes of
+# Python's codecs. poppler reads an ASCII letter of GBK-EUC-H as a full-width letter.
 FIELDS = [
     ("90ms-RKSJ-H", "Japan1", "あ一(A)100", "82A088EA284129313030"),
     ("Identity-H", "Japan1", "あ一(A)100", "034B04B000090022000A001200110011"),
@@ -26,12 +26,12 @@ for field in pdf.Root.AcroForm.Fields:
 
 
 def listed():
-    """What is printed of the form that is filled."""
+    """The lines that are printed for the filled form."""
     return "".join(f"{text} {string}\n" for _, _, text, string in FIELDS)
 
 
 def words():
-    """What fills each field with its text."""
+    """The arguments that fill each field with its text."""
     return [f"{index}={text}" for index, (_, _, text, _) in enumerate(FIELDS)]
 
 

@@ -1,5 +1,5 @@
-"""The header against the crates of the C library: calls, structs, enums, version; against the libraries; and what is
-installed."""
+"""Checks of the header against the crates of the C library (calls, structs, enums, version) and against the libraries,
+and checks of the installed files."""
 
 import ctypes
 import re
@@ -65,7 +65,7 @@ RESULTS = {
     "bool": {"bool"},
     "": {"void"},
 }
-# structs of the header, and the files and the names that they have in the crates
+# structs of the header, with their files and their names in the crates
 STRUCTS = [
     ("hayro_cmap_file", "cmap_c/src/files.rt", "BaseFile"),
     ("hayro_cmap_code", "cmap_c_maps/src/decode.rt", "Code"),
@@ -82,7 +82,7 @@ STRUCTS = [
     ("hayro_cmap_codes", "cmap_c_writer/src/chosen.rt", "ChosenCodes"),
     ("hayro_cmap_piece", "cmap_c_encoder/src/pieces.rt", "EncodedPiece"),
 ]
-# the same of handles, with the file of the slot that they hold
+# handles of the header, with their files, the files of their slots, and their names in the crates
 HANDLES = [
     ("hayro_cmap", "cmap_handles/src/handle.rt", "cmap_handles/src/slot.rt", "Map"),
     ("hayro_cmap_bundle", "cmap_handles/src/bundle.rt", "cmap_handles/src/slot.rt", "Bundle"),
@@ -90,8 +90,8 @@ HANDLES = [
 ]
 PLACES = {name: f"AT_{name}" for name in ["CODE", "RANGE", "NAME", "OFFSET"]}
 NUMBERED = r"(?P<number>\d+)(?:, [\w()]+\))? => Some\({}::(?P<name>\w+)"
-# enums of the header: what the crates have no variant for, how and where they write a variant and its number, and what
-# the header calls otherwise, since another enum has the name
+# enums of the header, each with the numbers without a variant in the crates, the pattern and the file of the variants
+# and their numbers, and the names that differ in the header, since another enum has the name
 STATUSES, MODES, FAULTS = "cmap_handles/src/status.rt", "cmap_c_maps/src/metadata.rt", "cmap_c/src/fault.rt"
 KINDS, LINT, LINTED = "cmap_c_writer/src/declaration.rt", "cmap_lint/src/warning.rt", "cmap_c/src/lint.rt"
 GRADES, READINGS = "cmap_c_encoder/src/pieces.rt", "cmap_lint/src/read_as.rt"
@@ -112,9 +112,9 @@ EXPORT = re.compile(
     r"\((.*?)\)(?: -> (\w+))?\s*(?:ensures|\{)",
     re.S,
 )
-# what the libraries call of the C library, and what a linker adds to a shared one
+# functions of the system's C library that the libraries call, and names that a linker adds to a shared library
 CALLED = {"free", "malloc", "memcpy", "memmove", "memset", "realloc"}
-# what that of plain Rust calls beside them
+# functions that the library of plain Rust calls beside these
 CALLED_BY_PLAIN = {"abort", "bcmp", "memcmp"}
 ADDED = {"_ITM_deregisterTMCloneTable", "_ITM_registerTMCloneTable", "__cxa_finalize", "__gmon_start__"}
 
@@ -125,7 +125,7 @@ def source(name):
 
 
 def as_in_c(name, kind):
-    """What the header declares for a parameter or a field of the crates."""
+    """The declarations in the header for a parameter or a field of the crates."""
     if kind == "Global":
         return []
     if pointed := re.fullmatch(r"&(mut )?(\w+(?:<'_>)?)", kind):
@@ -139,7 +139,7 @@ def as_in_c(name, kind):
 
 
 def exports():
-    """The exports of the crates: what the header may give as the result of each, and its parameters."""
+    """The exports of the crates: the possible results in the header, and the parameters of each."""
     found = {}
     for path in [path for crate in WITH_CALLS for path in (CRATES / crate / "src").glob("*.rt")]:
         for name, parameters, result in EXPORT.findall(path.read_text()):
@@ -175,7 +175,7 @@ def numbers_of_header(enum):
 
 
 def numbers_of_crates(absent, variant, file, others):
-    """The same as the crates have them."""
+    """The names of an enum of the crates in the spelling of the header, with their numbers."""
     numbers = dict(absent)
     for found in re.finditer(variant, source(file)):
         snake = re.sub(r"(?<!^)([A-Z])", r"_\1", found["name"]).upper()
@@ -184,12 +184,12 @@ def numbers_of_crates(absent, variant, file, others):
 
 
 def public_names(library, *flags):
-    """The names that a library shows."""
+    """The names that a library exports."""
     return set(re.findall(r" T (\w+)", run("nm", "--defined-only", *flags, library).out))
 
 
 def test_calls_are_those_of_the_crates(checks, _setting):
-    """The names, the results and the parameters."""
+    """The names, results and parameters of the calls are the same in the header and in the crates."""
     declared, exported = declarations(), exports()
     checks.same("the calls of the header", sorted(declared), sorted(exported))
     for name in sorted(set(declared) & set(exported)):
@@ -199,7 +199,7 @@ def test_calls_are_those_of_the_crates(checks, _setting):
 
 
 def test_calls_are_tested_from_c(checks, _setting):
-    """Each stands in the tests in C."""
+    """The tests in C contain each call."""
     tests = C_TESTS.read_text()
     checks.same("the calls without a test in C", [name for name in sorted(declarations()) if f"{name}(" not in tests], [])
 
@@ -214,7 +214,7 @@ def test_structs_are_those_of_the_crates(checks, _setting):
 
 
 def test_handles_are_those_of_the_crates(checks, _setting):
-    """A flag and a pointer."""
+    """A handle is a flag and a pointer."""
     for name, file, slots, kind in HANDLES:
         crate = fields_of_crates(file, f"{kind}Handle") + fields_of_crates(slots, f"{kind}Slot")
         expected = [("full", "bool"), ("slot", f"{kind}Slot"), ("at", "*mut u8"), ("alloc", "Global")]
@@ -223,13 +223,13 @@ def test_handles_are_those_of_the_crates(checks, _setting):
 
 
 def test_numbers_are_those_of_the_crates(checks, _setting):
-    """Statuses, modes, kinds, causes, reasons, segments, warnings and places."""
+    """Each enum has the same names and numbers in the header and in the crates."""
     for enum, *of_crate in ENUMS:
         checks.same(f"the numbers of {enum}", numbers_of_header(enum), numbers_of_crates(*of_crate))
 
 
 def test_versions_are_one(checks, setting):
-    """That of the header, of crate cmap_c and of the library."""
+    """The header, the crate cmap_c and the library have the version of the project."""
     checks.same("HAYRO_CMAP_VERSION", re.search(r'HAYRO_CMAP_VERSION "(.*)"', HEADER)[1], VERSION)
     numbers = [re.search(rf"HAYRO_CMAP_VERSION_{part} (\d+)", HEADER)[1] for part in ("MAJOR", "MINOR", "PATCH")]
     checks.same("HAYRO_CMAP_VERSION_MAJOR and the others", ".".join(numbers), VERSION)
@@ -242,21 +242,21 @@ def test_versions_are_one(checks, setting):
 
 
 def test_installed_headers_are_those_of_the_project(checks, setting):
-    """Byte by byte."""
+    """The headers are the same, byte by byte."""
     for name in ["hayro_cmap.h", "hayro_cmap.hpp"]:
         is_same = (setting.library.include / name).read_bytes() == (TOP / "include" / name).read_bytes()
         checks.holds(f"the header {name} that is installed", is_same, "it isn't that of the project")
 
 
 def test_installed_pages_link_what_is_installed(checks, setting):
-    """Files, and headings of pages."""
+    """The installed pages have no dead links to files or headings."""
     folder = setting.library.prefix / "share" / "doc"
     checks.holds("a page is installed", any(folder.rglob("*.md")), f"there is none under {folder}")
     checks.same("dead links", dead_links_under(folder), [])
 
 
 def test_licences_are_those_of_what_is_contained(checks, setting):
-    """Each crate of the bill of materials is listed, and has its licences if a folder has some; no other one has."""
+    """Each crate of the bill of materials is listed, and only these crates have folders of licences."""
     documents = setting.library.prefix / "share" / "doc" / "hayro_cmap"
     contained = materials.names_of((documents / "hayro_cmap.spdx.json").read_text())
     checks.holds("the crates of the bill of materials", contained, "there are none")
@@ -268,7 +268,7 @@ def test_licences_are_those_of_what_is_contained(checks, setting):
 
 
 def test_what_is_installed_is_taken_away(checks, setting):
-    """All that the manifest lists, in a copy, and no other file."""
+    """`--uninstall` removes from a copy the files of the manifest, and no other file."""
     prefix, copy = setting.library.prefix, setting.work / "uninstalled"
     lines = (prefix / "share" / "hayro_cmap" / "manifest").read_text().splitlines()
     checks.same("what is listed and missing", [line for line in lines if not (prefix / line).exists()], [])
@@ -287,7 +287,7 @@ def test_what_is_installed_is_taken_away(checks, setting):
 
 @needs("gcc", "g++")
 def test_headers_compile_alone(checks, setting):
-    """As C and as C++, with nothing before them."""
+    """The headers compile as C and as C++, with no other header before them."""
     for header, suffix in [("hayro_cmap.h", ".c"), ("hayro_cmap.h", ".cc"), ("hayro_cmap.hpp", ".cc")]:
         path = setting.work / f"alone{suffix}"
         path.write_text(f"#include <{header}>\nint main() {{ return 0; }}\n")
@@ -297,7 +297,7 @@ def test_headers_compile_alone(checks, setting):
 
 @needs("clang++")
 def test_headers_compile_with_clang(checks, setting):
-    """Also where casts of C are refused in C++."""
+    """The headers compile with clang, also if C++ refuses the casts of C."""
     path = setting.work / "clang.cc"
     path.write_text("#include <hayro_cmap.h>\n#include <hayro_cmap.hpp>\nint main() { return 0; }\n")
     flags = ["-std=c++17", "-Wconversion", "-Wold-style-cast", f"-I{setting.library.include}", "-fsyntax-only"]
@@ -317,7 +317,7 @@ int main() {
 
 @needs("g++")
 def test_the_header_for_cpp_needs_no_exceptions(checks, setting):
-    """Nor type information at run time."""
+    """The header also needs no type information at run time."""
     path, program = setting.work / "without_exceptions.cc", setting.work / "without_exceptions"
     path.write_text(WITHOUT_EXCEPTIONS)
     flags = ["-fno-exceptions", "-fno-rtti", f"-I{setting.library.include}"]
@@ -342,7 +342,7 @@ int main() { return 0; }
 
 @needs("g++")
 def test_layers_are_a_range_of_cpp_20(checks, setting):
-    """And its algorithms take them."""
+    """The views of C++20 accept layers."""
     path = setting.work / "range.cc"
     path.write_text(LAYERS_AS_A_RANGE)
     flags = ["-std=c++20", f"-I{setting.library.include}", "-fsyntax-only"]
@@ -351,7 +351,7 @@ def test_layers_are_a_range_of_cpp_20(checks, setting):
 
 @needs("nm")
 def test_libraries_show_the_calls_alone(checks, setting):
-    """And they need little of the C library."""
+    """The libraries export only the calls, and need few functions of the system's C library."""
     names = sorted(declarations())
     checks.same("the names of the archive", sorted(public_names(setting.library.archive)), names)
     checks.same("the names of the shared library", sorted(public_names(setting.library.shared, "-D")), names)

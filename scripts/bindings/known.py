@@ -1,4 +1,4 @@
-"""CMap files with known answers: those of Debian's package poppler-data, and small ones under the same names."""
+"""CMap files with known answers: the files of Debian's package poppler-data, and small files of the same names."""
 
 import functools
 from pathlib import Path
@@ -22,20 +22,20 @@ VERTICAL = COLLECTION + b"""/UniJIS-UTF16-H usecmap /CMapName /UniJIS-UTF16-V de
 """
 TEXTS = b"2 beginbfrange <034A> <039C> <3041> <1EDB> <1EDC> <FF08> endbfrange\n"
 
-# a file, a string, and what an example prints of it over the files of Adobe-Japan1
+# a file, a string, and the output of an example for the string over the files of Adobe-Japan1
 STRINGS = [
     ("90ms-RKSJ-H", "93FA967B8CEA", "<93FA> 3284 日\n<967B> 3722 本\n<8CEA> 1952 語\n"),
     ("UniJIS-UTF16-V", "3042FF08", "<3042> 843 あ\n<FF08> 7899 （\n"),
     ("UniJIS-UTF16-H", "3042FFFF", "<3042> 843 あ\n<FFFF> none\n"),
 ]
-# words over a bundle of the predefined files, and their CIDs
+# arguments for a bundle of the predefined files, and their CIDs
 WORDS = {
     "UniJIS-UTF16-H:2:3042": "843",
     "UniJIS-UTF16-V:2:FF08": "7899",
     "90ms-RKSJ-H:2:93FA": "3284",
     "90ms-RKSJ-H:2:FFFF": "none",
 }
-# a file, and what the example prints that it declares, with the codes of the CIDs 7 and 34
+# a file, and the output of declared.c for it, with the codes of the CIDs 7 and 34
 DECLARING = b"""begincidrange <20> <7E> 1 <8140> <817E> 633 endcidrange begincidchar <41> 7 endcidchar
 beginbfrange <41> <42> <0061> <43> <43> <D83D> endbfrange beginbfchar <44> <00660069> endbfchar
 """
@@ -48,13 +48,13 @@ text 44 44 00660069
 7 <26> <26>
 7 <41> <41>
 """
-# the same of a file over that one
+# a file over DECLARING, and the output of declared.c for it
 OVER_DECLARING = b"/declaring usecmap begincidrange <40> <42> 6 endcidrange"
 BASED = """cid <40> <42> 6
 7 <26> <26>
 7 <41> <41>
 """
-# codes with texts, of which to_unicode.c makes a file, and what declared.c prints of that
+# codes with texts, from which to_unicode.c makes a file, and the output of declared.c for this file
 MADE_OF = ["1=R", "2=é", "3=ffi", "4=😀", "5=S"]
 MADE = """text 1 1 0052
 text 2 2 00E9
@@ -62,22 +62,22 @@ text 3 3 006600660069
 text 4 4 D83DDE00
 text 5 5 0053
 """
-# the ToUnicode CMap of the same codes, and the strings of texts by it that encode.c prints
+# a ToUnicode CMap of the same codes, and the strings that encode.c prints for texts
 TO_UNICODE = b"""begincodespacerange <0000> <FFFF> endcodespacerange
 beginbfchar <0001> <0052> <0002> <00E9> <0003> <006600660069> <0004> <D83DDE00> <0005> <0053> endbfchar
 """
 ENCODED = {"Réffi": "000100020003", "😀SS": "000400050005", "": ""}
-# codes for which subset.c writes the file of DECLARING, and what declared.c prints of that
+# codes for which subset.c writes DECLARING, and the output of declared.c for the written file
 WRITTEN_FOR = ["41", "42", "8142", "8143"]
 WRITTEN = """cid <41> <41> 7
 cid <42> <42> 35
 cid <8142> <8143> 635
 text 41 42 0061
 """
-# how many codes of two bytes have a CID in UniJIS-UTF16-H, that of poppler-data and the small one
+# how many codes of two bytes have a CID in UniJIS-UTF16-H, in the file of poppler-data and in the small file
 COUNT, SMALL_COUNT = 15391, 85
 
-# files that are refused, and what each example says of them
+# files that are refused, and the message of each example for them
 REFUSED = {
     "Broken": (b"1 begincidrange <00> <FF> x endcidrange", "Broken: byte 27: a CID was expected"),
     "Cut": (b"/A usecmap\nbegincodespacerange <00>", "Cut: byte 35: the file ends within a section"),
@@ -102,21 +102,21 @@ def declaring_file(work):
 
 
 def based_file(work):
-    """A file over that one."""
+    """A file over the file `declaring`."""
     path = work / "based"
     path.write_bytes(OVER_DECLARING)
     return path
 
 
 class Files:
-    """The files of a folder, of which UniJIS-UTF16-H has so many codes of two bytes with a CID."""
+    """The files of a folder; `count` codes of two bytes have a CID in its UniJIS-UTF16-H."""
 
     def __init__(self, folder, texts, path, count):
         self.folder, self.texts, self.path, self.count = folder, texts, path, count
 
     @functools.cached_property
     def bundle(self):
-        """A bundle of the predefined files, those that are missing being empty; written when it is first asked for."""
+        """A bundle of the predefined files, in which missing files are empty; written when it is first asked for."""
         self.path.write_bytes(binary_bundle([self.texts.get(name, b"") for name in KNOWN_NAMES]))
         return self.path
 

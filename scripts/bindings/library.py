@@ -8,9 +8,9 @@ from .checks import Failed, run
 TOP = Path(__file__).resolve().parent.parent.parent
 EXAMPLES = TOP / "examples"
 C_TESTS = TOP / "bindings" / "c" / "tests.c"
-# the calls that take memory and that no example makes
+# a program with calls that allocate memory and that no example makes
 C_MEMORY = TOP / "bindings" / "c" / "memory.c"
-# those of null, which the library of plain Rust alone looks for
+# the tests of null pointers, for which only the library of plain Rust checks
 NULL_TESTS = TOP / "bindings" / "plain-c" / "tests" / "nulls.c"
 CPP_TESTS = TOP / "bindings" / "cpp" / "tests.cc"
 
@@ -22,7 +22,7 @@ HELGRIND = ["valgrind", "--quiet", "--tool=helgrind", "--error-exitcode=9"]
 
 
 class Library:
-    """What scripts/install put under a folder."""
+    """The files that scripts/install has put under a folder."""
 
     def __init__(self, prefix):
         self.prefix = prefix
@@ -53,12 +53,12 @@ class Programs:
 
     @functools.cache
     def sanitized(self, source):
-        """The same, with the sanitizers for addresses and for undefined behaviour."""
+        """The program over the archive, with the sanitizers for addresses and for undefined behaviour."""
         return self.built(source, "sanitized", [*SANITIZERS, f"-I{self.library.include}", self.library.archive])
 
     @functools.cache
     def over_shared(self, source):
-        """The program over the shared library, as pkg-config says; it finds the library by LD_LIBRARY_PATH."""
+        """The program over the shared library, with the flags of pkg-config; LD_LIBRARY_PATH must name its folder."""
         return self.built(source, "shared", ["-O2", *self.library.pkg_config()])
 
     def built(self, source, kind, flags):

@@ -4,14 +4,14 @@ from .checks import Failed, needs, run
 from .known import DECLARED, MADE_OF, WRITTEN_FOR, declaring_file, to_unicode_file
 from .library import C_MEMORY, EXAMPLES, TOP
 
-# all that a program asks for afterwards
+# the last request to refuse if all later requests are refused
 ALL = 10**9
 # more requests than a program has
 MOST = 5000
 
 
 def refuser(work):
-    """The library that refuses requests, built."""
+    """Builds the library that refuses requests; gives its path."""
     path = work / "refuse-memory.so"
     ran = run("gcc", "-shared", "-fPIC", "-O2", "-o", path, TOP / "scripts" / "refuse-memory.c")
     if ran.status != 0:
@@ -28,7 +28,7 @@ def run_refusing(setting, first, last, command):
 
 
 def refuse_each(checks, setting, what, command, answer):
-    """Refuses the first, second, .. request, alone and with all after it, while there are so many."""
+    """Refuses the first, second, .. request, alone and with all later requests, up to the last request."""
     for first in range(1, MOST):
         for last in [first, ALL]:
             ran, is_refused = run_refusing(setting, first, last, command)
@@ -42,7 +42,7 @@ def refuse_each(checks, setting, what, command, answer):
 
 
 def check_end(checks, which, ran, answer):
-    """A program has its answer, or a message, the status 1 and no wrong line."""
+    """A program gives its answer, or a message with status 1 and no wrong line."""
     has_failed = ran.status == 1 and bool(ran.err.strip()) and answer.startswith(ran.out)
     expected = f"expected the output {answer!r}, or status 1 with a message and what the output begins with"
     checks.holds(which, has_failed or (ran.status, ran.out) == (0, answer), f"{expected}, found {ran}")

@@ -1,4 +1,5 @@
-"""The programs of README.md, docs/PYTHON.md and docs/RECIPES.md print what these show; and the reference pages."""
+"""Checks that the programs of README.md, docs/PYTHON.md and docs/RECIPES.md print what these pages show, and checks of
+the reference pages."""
 
 import shlex
 import sys
@@ -11,11 +12,11 @@ from .library import EXAMPLES, TOP
 from .suites import python_with
 
 OWN = TOP / "crates" / "cmap" / "data" / "japanese" / "Sample-RKSJ-H"
-# what a stream says itself; with a use of a file, and without one
+# the content of a stream, with and without the use of a file
 VERTICAL = "/WMode 1 def 1 begincidchar <8141> 7887 endcidchar\n"
 STREAMS = {"using": f"/Sample-RKSJ-H usecmap {VERTICAL}", "alone": VERTICAL}
 
-# what a page of the reference has
+# texts that the pages of the reference contain
 REFERENCE = {
     "c/hayro__cmap_8h.html": "Cuts a string into codes, one after another",
     "c/classhayro_1_1Map.html": "parse_with_base",
@@ -32,7 +33,7 @@ def shown_by(name):
 
 
 def file_of(shown):
-    """The file that a command line reads, which is its last word."""
+    """The file that a command line reads: its last word."""
     return TOP / shlex.split(shown.line)[-1]
 
 
@@ -53,7 +54,7 @@ def test_rust_readme(checks, setting):
 
 
 def test_python_readme(checks, setting):
-    """The PDF file that one example writes has the text that the other one prints."""
+    """One example writes a PDF file, and the other prints its text."""
     python, path = python_with("pikepdf"), setting.work / "office.pdf"
     if python is None:
         print("skipped: python readme, for lack of pikepdf (Debian's python3-pikepdf)", flush=True)
@@ -72,7 +73,7 @@ def test_python_page(checks, setting):
 
 
 def check_streams(checks, setting, program):
-    """A stream has its own CIDs, and those of its base."""
+    """A stream has its own CIDs and the CIDs of its base."""
     for name, text in STREAMS.items():
         path = setting.work / f"{name}.cmap"
         path.write_text(text)
@@ -92,13 +93,13 @@ def test_c_recipe(checks, setting):
 
 @needs("cargo")
 def test_rust_recipe(checks, setting):
-    """The same."""
+    """A stream over the CMap of its entry UseCMap, by the example of the crate."""
     check_streams(checks, setting, setting.crate.example("use_cmap"))
 
 
 @needs("doxygen", "cargo", "mandoc")
 def test_reference(checks, setting):
-    """The pages have what comments say of a call in each language, and no dead links."""
+    """The pages have the comments of a call in each language, and no dead links."""
     folder = setting.work / "reference"
     script = [sys.executable, TOP / "scripts" / "reference", "--library", setting.library.shared, folder]
     checks.ended("scripts/reference", run(*script, **setting.package.in_project()), "")

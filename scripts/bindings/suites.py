@@ -10,7 +10,7 @@ from .known import has_debian_files
 from .library import C_TESTS, CPP_TESTS, MEMCHECK, NULL_TESTS, TOP
 
 CRATE = TOP / "bindings" / "rust"
-# the package that runs the rows of data over the crate, and the program whose runs some of them are
+# the package that runs the rows of data over the crate, and the program that some rows run
 ROWS = TOP / "tests"
 QUERY = TOP / "crates" / "cmap_query" / "out" / "cmap_query"
 PACKAGE = TOP / "bindings" / "python"
@@ -50,7 +50,7 @@ class Package:
 
     @functools.cache
     def folder(self):
-        """Where pip has installed the package, with the library in it, which cargo builds where it is plain Rust."""
+        """Installs the package by pip, with the library in it (cargo builds plain Rust); gives the folder."""
         folder = self.work / "python"
         source, environment = PACKAGE, self.over_library()
         if self.library.is_plain:
@@ -74,11 +74,11 @@ class Package:
         return {"HAYRO_CMAP_LIBRARY": str(self.library.shared), "PYTHONIOENCODING": "utf-8"}
 
     def in_project(self):
-        """The variables by which any Python finds the package as it stands in the project, and this the library."""
+        """The variables by which Python finds the package in the project, and the package finds the library."""
         return {**self.over_library(), "PYTHONPATH": str(PACKAGE), "PYTHONDONTWRITEBYTECODE": "1"}
 
     def installed(self):
-        """The variables by which Python finds the package that pip has installed, and this the library in it."""
+        """The variables by which Python finds the installed package, and the package finds the library in itself."""
         return {"HAYRO_CMAP_LIBRARY": "", "PYTHONPATH": str(self.folder()), "PYTHONIOENCODING": "utf-8"}
 
 
@@ -107,7 +107,7 @@ def test_c_suite_under_memcheck(checks, setting):
 
 @needs("gcc")
 def test_c_nulls(checks, setting):
-    """Where a pointer is null, the library of plain Rust says that there is no answer; each call is asked."""
+    """Each call of the library of plain Rust gives no answer if a pointer is null that must not be."""
     if setting.library.is_plain:
         asked = NULL_TESTS.read_text()
         missing = [name for name in header.declarations() if not re.search(rf"{name}\([^;]*NULL", asked)]
@@ -143,7 +143,7 @@ def test_rust_suite(checks, setting):
 
 @needs("cargo")
 def test_rust_suite_of_rows(checks, setting):
-    """The rows of data by the calls of the crate; those of runs by the proved program, where it is built."""
+    """The rows of data by the calls of the crate, and rows of whole runs by the proved program if it is built."""
     environment = {**setting.crate.over_library(), "HAYRO_CMAP_BUNDLE": ""}
     if QUERY.exists() and not setting.library.is_plain:
         environment["CMAP_QUERY"] = str(QUERY)
@@ -154,7 +154,7 @@ def test_rust_suite_of_rows(checks, setting):
 
 @needs("cargo")
 def test_rust_bundles(checks, setting):
-    """A bundle that is missing is a warning where the feature asks for one, and one that is invalid an error."""
+    """With the feature for a bundle, a missing bundle is a warning, and an invalid bundle is an error."""
     build = ["check", "--features=embed-cmaps"]
     ran = setting.crate.cargo(*build, **setting.crate.over_library(), HAYRO_CMAP_BUNDLE="")
     checks.holds("no bundle", ran.status == 0 and "no CMap is embedded" in ran.err, ran)
@@ -164,7 +164,7 @@ def test_rust_bundles(checks, setting):
 
 @needs("cargo", "pkg-config")
 def test_rust_finds_the_library(checks, setting):
-    """By pkg-config; and where there is none, cargo says what to do."""
+    """cargo finds the library by pkg-config; without a library it prints what to do."""
     folder = str(setting.library.folder / "pkgconfig")
     ran = setting.crate.cargo("build", HAYRO_CMAP_BUNDLE="", PKG_CONFIG_PATH=folder)
     checks.holds("cargo build by pkg-config", ran.status == 0, ran)
@@ -218,7 +218,7 @@ def python_with(module):
 
 
 def check_suite(checks, setting, python, what, folder):
-    """Runs the tests of a folder, from within it. Those for which something else is missing are counted."""
+    """Runs the tests of a folder, from within it, and counts the skipped tests."""
     ran = run(python, "-m", "unittest", folder=PACKAGE / folder, **setting.package.in_project())
     found = re.search(r"^Ran ([1-9]\d*) tests", ran.err, re.M)
     checks.holds(f"unittest, {what}", ran.status == 0 and found, ran)

@@ -1,7 +1,7 @@
 """Bundles of the 65 predefined CMap files, made from their texts: as texts, or in the binary form.
 
-A writer for tests and measurements: it knows of texts what the files of poppler-data need.
-docs/FORMATS.md says how bundles and binary files are written."""
+The writer is for tests and measurements. Of the text format it reads only what the files of poppler-data need.
+docs/FORMATS.md describes bundles and binary files."""
 
 import heapq
 import re
@@ -9,7 +9,7 @@ import struct
 from collections import Counter, namedtuple
 from itertools import count, groupby
 
-# in the order of their texts, which gives each its index
+# the known names in alphabetical order, which gives each name its index
 KNOWN_NAMES = """
 83pv-RKSJ-H 90ms-RKSJ-H 90ms-RKSJ-V 90msp-RKSJ-H 90msp-RKSJ-V 90pv-RKSJ-H Add-RKSJ-H Add-RKSJ-V
 Adobe-CNS1-UCS2 Adobe-GB1-UCS2 Adobe-Japan1-UCS2 Adobe-Korea1-UCS2 B5pc-H B5pc-V CNS-EUC-H
@@ -28,7 +28,7 @@ CID, NOTDEF, TEXT, CODESPACE = "cid", "notdef", "text", "codespace"
 # codes of `width` bytes from start to end; `value` is the CID of the first, or its units
 Declaration = namedtuple("Declaration", "kind width start end value")
 
-# a segment of entries: its type, the declarations, and how many units each text has, if all the same
+# a segment of entries: its type, its declarations, and the number of units of each text, or None if the lengths differ
 Segment = namedtuple("Segment", "type declarations units")
 
 # how many codes a range of a binary file may have
@@ -48,7 +48,7 @@ def tokens_of(text):
 
 
 class File:
-    """What the text of a CMap file says."""
+    """The content of a CMap file, read from its text."""
 
     def __init__(self, text):
         self.values = {}
@@ -119,18 +119,18 @@ def units_of(text):
 
 
 def sized(front, payload):
-    """The bytes with their whole length after the front."""
+    """The bytes of a front and a payload, with the whole length between them."""
     return front + struct.pack(">I", len(front) + 4 + len(payload)) + payload
 
 
-# what a segment says, and its type: ranges and singles of CIDs by their width, of texts by their units
+# the types of segments: for ranges and single codes of CIDs by their width, for texts by their number of units
 CID_TYPES = {(width, single): 2 * width - (not single) for width in (1, 2, 3, 4) for single in (False, True)}
 TEXT_TYPES = {(1, True): 0x11, (2, True): 0x12, (3, True): 0x13, (4, True): 0x14, (1, False): 0x15, (2, False): 0x16}
 ANY_TEXTS = {False: 0x0F, True: 0x10}
 
 
 def type_of(declaration):
-    """The type of the segment that a declaration stands in, and how many units its text has there."""
+    """The type of the segment for a declaration, and the number of units if the type fixes it."""
     single = declaration.start == declaration.end
     if declaration.kind == CID:
         return CID_TYPES[declaration.width, single], None
@@ -159,7 +159,7 @@ def are_apart(declarations):
 
 
 def segments_of(declarations):
-    """The segments of CIDs of one width, or of texts: few where their order doesn't matter."""
+    """The segments of CIDs of one width, or of texts. Declarations are sorted if their order doesn't matter."""
     short = [it for declaration in declarations for it in in_short_ranges(declaration)]
     if are_apart(short):
         short.sort(key=lambda it: (type_of(it), it.start))
@@ -177,7 +177,7 @@ def segments_of(declarations):
 
 
 def deltas_of(segment):
-    """How many codes each entry leaves out after the one before."""
+    """The number of codes between each entry and the entry before."""
     after = 0
     for declaration in segment.declarations:
         yield declaration.start - after
@@ -185,12 +185,12 @@ def deltas_of(segment):
 
 
 def counts_of(segment):
-    """How many codes more than two each range has; nothing of single codes."""
+    """The number of codes of each range, less two; single codes are left out."""
     return [it.end - it.start - 1 for it in segment.declarations if it.end > it.start]
 
 
 class PrefixTable:
-    """Code words for symbols, short ones for those that are frequent."""
+    """Code words for symbols, short words for frequent symbols."""
 
     def __init__(self, frequencies):
         order = count()
@@ -219,7 +219,7 @@ class PrefixTable:
         return front + struct.pack(f">{len(self.symbols)}{form}", *self.symbols)
 
     def column(self, symbols):
-        """The words of the symbols in bits, after their length in bytes."""
+        """The bits of the symbols' words, after their length in bytes."""
         bits = "".join(self.words[symbol] for symbol in symbols)
         bits += "0" * (-len(bits) % 8)
         column = int(bits or "0", 2).to_bytes(len(bits) // 8, "big")
@@ -227,7 +227,7 @@ class PrefixTable:
 
 
 def raw_cids(declarations):
-    """The CID of each entry, 0 where it follows those of the entry before."""
+    """The CID of each entry, or 0 if the CID follows the CIDs of the entry before."""
     after = 0
     for declaration in declarations:
         yield 0 if declaration.value == after else declaration.value

@@ -1,5 +1,4 @@
-"""Cases of programs: files, command lines, and what has to come of them, as they are written in
-examples/command."""
+"""Cases of programs in examples/command: files, command lines, and their expected results."""
 
 import os
 import re
@@ -24,7 +23,7 @@ class Misspelled(Exception):
 
 @dataclass
 class File:
-    """The bytes of a file, and the places in them that are marked, in order; or what a link leads to; or a pipe."""
+    """A file, with its bytes and its marked places in order; or a link, with its target; or a pipe."""
 
     path: bytes
     target: bytes | None = None
@@ -34,7 +33,7 @@ class File:
     marks: list = field(default_factory=list)
 
     def add(self, text):
-        """Adds a text with escapes; `\\@` marks the place where it stands."""
+        """Adds a text with escapes; each `\\@` in the text marks its place."""
         first, *others = text.split("\\@")
         self.bytes += unescape(first)
         for part in others:
@@ -42,30 +41,30 @@ class File:
             self.bytes += unescape(part)
 
     def add_segment(self, kind, digits):
-        """Adds a segment of a binary file, and keeps the length in the file's head right."""
+        """Adds a segment of a binary file, and updates the length in the file's head."""
         payload = bytes.fromhex(digits)
         self.bytes += bytes.fromhex(kind) + (5 + len(payload)).to_bytes(4, "big") + payload
         self.bytes[6:10] = len(self.bytes).to_bytes(4, "big")
 
     def mark(self, number):
-        """The marked place of a number, the first one 1; without a number the only one."""
+        """The marked place of this number, counted from 1; without a number, the only marked place."""
         if number is None and len(self.marks) != 1:
             raise Misspelled(f"a file with {len(self.marks)} marks, of which none is named")
         return self.marks[int(number or 1) - 1]
 
     def place(self, mark):
-        """A place in the file, as the program says it."""
+        """A place in the file, as the program prints it."""
         is_binary = self.bytes.startswith(BINARY_HEAD[:5])
         return f"byte {mark}" if is_binary else f"byte {mark} (line {self.line(mark)})"
 
     def line(self, mark):
-        """One more than the line ends before a place."""
+        """The number of the line with this place."""
         return 1 + len(LINE_END.findall(bytes(self.bytes[:mark])))
 
 
 @dataclass
 class Case:
-    """A command line, and what has to come of it."""
+    """A command line and its expected results."""
 
     number: int
     program: str
@@ -101,7 +100,7 @@ def meaning(match):
 
 
 class Reader:
-    """Reads the lines of a file of cases: what stands there in order are files and cases."""
+    """Reads the lines of a file of cases: files and cases, in order."""
 
     def __init__(self, path):
         self.path = path
@@ -178,7 +177,7 @@ class Reader:
             self.marked = self.marks[file.path] = file
 
     def read_expected(self, word, rest):
-        """A line that says what goes into a case, or has to come of it."""
+        """Reads a line with the input of a case, or with an expected result."""
         case = self.open
         if word == "<":
             case.input += unescape(rest) + b"\n"
@@ -201,11 +200,11 @@ class Reader:
             raise Misspelled(f"no word of a case: {word}")
 
     def fill(self, line):
-        """A line with the marked places of files: of the last one, or of the one that is named."""
+        """Fills the marked places of files into a line: of the named file, or of the last file."""
         return PLACE.sub(lambda match: self.said(*match.groups()), line)
 
     def said(self, what, path, number):
-        """What is said of a marked place of a file."""
+        """The text for a marked place of a file."""
         file = self.marks[unescape(path)] if path else self.marked
         mark = file.mark(number)
         if what == "at":
@@ -244,7 +243,7 @@ def write(folder, file):
 
 
 def run(program, folder, words, given=b"", variables=None):
-    """Runs the program in a folder. It looks names up nowhere, unless a variable says where."""
+    """Runs the program in a folder. The program looks up names nowhere, unless a variable names the folders."""
     environment = {**os.environb, b"CMAP_PATH": b"", **(variables or {})}
     return subprocess.run(
         [program, *words], cwd=folder, input=given, capture_output=True, timeout=SECONDS, env=environment
@@ -264,7 +263,7 @@ def is_like(expected, found):
 
 
 def harmful(output):
-    """The characters of an output that would control a terminal, or that hide what stands there."""
+    """The characters of an output that would control a terminal or hide other characters."""
     text = set(output.decode(errors="backslashreplace")) - {"\n"}
     return sorted(it for it in text if unicodedata.category(it) in ("Cc", "Cf", "Zl", "Zp", "Co"))
 
@@ -296,7 +295,7 @@ def mode_faults(folder, path, mode):
 
 
 def differences(folder, file):
-    """What differs between a file that a case has to write and the one that is there."""
+    """The differences between the file that a case must write and the actual file."""
     path = Path(os.fsdecode(os.path.join(os.fsencode(folder), file.path)))
     got = path.read_bytes() if path.exists() else None
     if got != file.bytes:

@@ -1,4 +1,4 @@
-"""What public calls claim: their clauses, and the definitions that these rest on, in an order in which they can be read."""
+"""The claims of public calls: their clauses, and the definitions on which these rest, in an order for reading."""
 
 import re
 from dataclasses import dataclass, field
@@ -7,7 +7,7 @@ from .programs import CRATES
 
 EXPORTS = re.findall(r"pub extern \"C\" fn (\w+)", "\n".join(path.read_text() for path in sorted(CRATES.glob("cmap_c*/src/*.rt"))))
 
-# the calls of each claim that docs/PROVED.md gives the length of
+# the calls of each claim whose length docs/PROVED.md gives
 CLAIMS = {
     "headline": ["Bundle::parse", "CMap::parse", "CMap::lookup_cid_code", "CMap::lookup_bf_string", "CMap::metadata"],
     "c": EXPORTS,
@@ -22,7 +22,7 @@ CONSTANT = re.compile(r"\b[A-Z][A-Z0-9_]+\b")
 
 
 class Unclaimed(Exception):
-    """No public call has the name, or what it claims rests on the code."""
+    """No public call has the name, or its claim rests on the code."""
 
 
 @dataclass
@@ -49,7 +49,7 @@ class Module:
 
 
 def imports_of(text):
-    """What each name stands for that is imported: a module, and a name in it, or none where it is a module's."""
+    """The meaning of each imported name: a module and a name in it, or a module and None for the module itself."""
     found = {}
     for module, names, alias in USE.findall(text):
         for name in filter(None, map(str.strip, names.split(","))):
@@ -114,7 +114,7 @@ def modules():
 
 @dataclass
 class Call:
-    """A public call: its signature with its clauses, and what names in these stand for."""
+    """A public call: its signature with its clauses, and the meaning of the names in these."""
 
     name: str
     signature: str
@@ -122,7 +122,7 @@ class Call:
     views: list
 
     def clauses(self):
-        """The text of its clauses, and of the views of the types that it speaks of."""
+        """The text of its clauses, and of the views of the types in them."""
         start = re.search(r"^ *(?:requires|ensures)", self.signature, re.MULTILINE)
         return "\n".join([self.signature[start.start() :] if start else "", *self.views])
 
@@ -158,7 +158,7 @@ def call_of(name):
 
 
 class Claim:
-    """The clauses of calls, with all that they rest on."""
+    """The clauses of calls, with all definitions on which they rest."""
 
     def __init__(self, names):
         self.modules = modules()
@@ -169,7 +169,7 @@ class Claim:
             self.follow(call.clauses(), call.imports)
 
     def check_constants(self, name, clauses):
-        """A clause names no constant of the code, which could be any number."""
+        """Refuses clauses that name a constant of the code, since this could be any number."""
         known = {"SLOTS", *re.findall(r"\b[A-Z]\b", clauses)}
         for word in set(CONSTANT.findall(clauses)) - known:
             if word not in self.imported_words(name):
@@ -179,7 +179,7 @@ class Claim:
         return call_of(name).imports
 
     def follow(self, text, imports, module=None):
-        """Adds what the names of a text stand for."""
+        """Adds the definitions of the names in a text."""
         for word in NAME.findall(re.sub(r"--.*", "", text)):
             head, _, field_name = word.partition(".")
             if head in imports:
@@ -189,7 +189,7 @@ class Claim:
                 self.add(module.name, head)
 
     def add(self, place, name):
-        """Adds the definition of a name, and what it rests on."""
+        """Adds the definition of a name, and the definitions on which it rests."""
         module = self.modules.get(place)
         if module is None:
             return self.add_outside(place, name)
@@ -204,7 +204,7 @@ class Claim:
         return None
 
     def add_outside(self, place, name):
-        """A word of the toolchain's library, or a type of the code. A constant of the code is a hole."""
+        """Adds a word of the toolchain's library, or a type of the code. Refuses a constant of the code."""
         if ".specs.declared.TheConstants" in place:
             raise Unclaimed(f"a definition rests on the constant {name} of the code")
         parts = place.split(".")
@@ -214,7 +214,7 @@ class Claim:
             self.library.add((parts[-1], name))
 
     def order(self):
-        """The modules, each after those that it rests on."""
+        """The modules, each after the modules that it uses."""
         ordered = []
 
         def visit(place):
@@ -231,7 +231,7 @@ class Claim:
         return ordered
 
     def text_of(self, place):
-        """The definitions of a module that are reached, in its order."""
+        """The definitions of a module that the claim needs, in the order of the module."""
         module, around, found = self.modules[place], (), []
         for name, definition in module.definitions.items():
             if name in self.reached[place]:
@@ -241,16 +241,16 @@ class Claim:
         return "\n".join(found)
 
     def lines(self):
-        """How many lines of definitions a reader has to believe."""
+        """The number of lines of the definitions."""
         texts = (self.text_of(place) for place in self.reached)
         return sum(bool(line.strip()) for text in texts for line in text.split("\n"))
 
     def count(self):
-        """How many definitions there are."""
+        """The number of definitions."""
         return sum(map(len, self.reached.values()))
 
     def write(self):
-        """The whole text."""
+        """The parts of the whole text, in order."""
         for call in self.calls:
             yield from [call.signature, ""]
         for view in dict.fromkeys(view for call in self.calls for view in call.views):

@@ -1,5 +1,5 @@
-"""What codes stand for in the 65 predefined CMap files, asked over two bundles of them by the program `cmap`, and
-read from their texts here."""
+"""Compares the answers of the program `cmap` for codes over two bundles of the 65 predefined CMap files, and the CIDs
+that are read from their texts here."""
 
 import os
 import subprocess
@@ -13,12 +13,12 @@ ACCEPTED = 0
 # how many arguments a command line has at most
 MOST_ARGUMENTS = 1 << 15
 
-# how many queries were made, how many have an answer, how many CIDs were also read here, and what differs
+# the numbers of queries for each file, of answers, and of CIDs that were also read here, and the differences
 Compared = namedtuple("Compared", "asked answered read failures")
 
 
 def codes_of(texts):
-    """Queries for all codes of one and two bytes, and for those around the ends of longer ranges."""
+    """Queries for all codes of one and two bytes, and for codes around the ends of longer ranges."""
     codes = {(1, code) for code in range(1 << 8)} | {(2, code) for code in range(1 << 16)}
     for text in texts:
         for it in File(text).declarations:
@@ -30,13 +30,13 @@ def codes_of(texts):
 
 
 def rounds_of(texts):
-    """The queries that are made of each file, as many at once as a command line takes."""
+    """The queries for each file, in groups for one command line."""
     codes = codes_of(texts) + [f"bf:{code:04X}" for code in range(1 << 16)]
     return [codes[at : at + MOST_ARGUMENTS] for at in range(0, len(codes), MOST_ARGUMENTS)]
 
 
 class Reader:
-    """Reads the CIDs of codes from the texts, apart from the program: the last declaration of a code counts."""
+    """Reads the CIDs of codes from the texts, independently of the program: the last declaration of a code counts."""
 
     def __init__(self, texts):
         self.files = {name: File(text) for name, text in zip(KNOWN_NAMES, texts)}
@@ -44,8 +44,7 @@ class Reader:
 
     @staticmethod
     def cids_in(file):
-        """The CIDs that a file declares, by the length of a code and the code: a notdef counts where nothing else
-        does."""
+        """The CIDs that a file declares, by the length and the number of the code. A CID counts before a notdef."""
         cids = {}
         for kind in (NOTDEF, CID):
             for it in file.declarations:
@@ -65,11 +64,11 @@ class Reader:
         return None
 
     def has_texts(self, name):
-        """Whether a file declares texts, of which one character stands for a CID too."""
+        """Whether a file declares texts: a text of one character would also give a CID."""
         return any(it.kind == TEXT for it in self.files[name].declarations)
 
     def differing(self, name, queries, lines):
-        """How many CIDs were read, and what differs from the lines that answer these queries."""
+        """The number of CIDs that were read, and the differences from the lines that answer these queries."""
         if self.has_texts(name):
             return 0, []
         read, failures = 0, []
@@ -93,7 +92,7 @@ def lines_of(program, bundle, name, queries):
 
 
 def compare(program, texts, bundle, other):
-    """What codes stand for in each of the files, over one bundle and over the other."""
+    """Compares the answers for the codes of each file over both bundles."""
     rounds = rounds_of(texts)
     reader = Reader(texts)
 

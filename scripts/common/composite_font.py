@@ -5,11 +5,10 @@
     composite_font.py --pdftotext          the same strings, by pdftotext, which has to give the rows' texts
     composite_font.py --rows               the rows of strings.rows anew, as pdftotext gives them
 
-A row has the name of a CMap of the package poppler-data, a string in hexadecimal digits, and the text
-that pdftotext gives for it in a PDF whose font has that CMap as its encoding and no glyphs of its own. One
-of to_unicode.rows also has the file of a ToUnicode CMap, which the font has.
-It prints `N passed, M failed`, and its status is 1 where M isn't 0. pdftotext is in the package
-poppler-utils.
+A row has the name of a CMap of the package poppler-data, a string in hexadecimal digits, and the text that pdftotext
+gives for it in a PDF whose font has this CMap as its encoding and no glyphs of its own. A row of to_unicode.rows also
+names the file of the font's ToUnicode CMap. The script prints `N passed, M failed`, and its status is 1 if M isn't 0.
+pdftotext is in the package poppler-utils.
 """
 
 import argparse
@@ -120,7 +119,7 @@ def text_by_program(program, row):
 
 
 def failures_of(text_of):
-    """How many rows there are, and those whose text is another one."""
+    """The number of rows, and the rows with another text."""
     asked = [row for row in rows() if isinstance(row, Row)] + rows_with_files()
     failures = []
     for row in asked:

@@ -1,4 +1,4 @@
-"""Debian packages of what scripts/install puts under /usr, made by dpkg-deb."""
+"""Makes Debian packages with dpkg-deb from the files that scripts/install puts under /usr."""
 
 import gzip
 import hashlib
@@ -22,7 +22,7 @@ SONAME = f"libhayro_cmap.so.{UPSTREAM.split('.')[0]}"
 TRIPLET = "x86_64-linux-gnu"
 PYTHON = "usr/lib/python3/dist-packages"
 BIN, LIBRARY, DEV, PYTHON3 = "hayro-cmap", "libhayro-cmap1", "libhayro-cmap-dev", "python3-hayro-cmap"
-# where the paths go that scripts/install writes; the first pattern that fits counts
+# the package and the place for each path that scripts/install writes; the first matching pattern counts
 DOCS = "usr/share/doc/hayro_cmap"
 PLACES = [
     (r"usr/bin/.*", BIN, r"\g<0>"),
@@ -55,13 +55,13 @@ class Tree:
         target.chmod(mode)
 
     def target(self, path):
-        """Where the file of a path is written."""
+        """The place to which the file of a path is written."""
         target = self.root / path
         target.parent.mkdir(parents=True, exist_ok=True)
         return target
 
     def files(self):
-        """The files and the links, but for those about the package."""
+        """The files and the links, without the files about the package."""
         return [path for path in sorted(self.root.rglob("*")) if not path.is_dir() and self.about not in path.parents]
 
 
@@ -82,14 +82,14 @@ def stanzas():
 
 
 def libc_of(paths):
-    """The dependency on the C library, by the newest version of a symbol that files need."""
+    """The dependency on the system's C library, with the newest version of a symbol that the files need."""
     read = subprocess.run(["readelf", "-V", *paths], check=True, capture_output=True, text=True).stdout
     newest = max(tuple(map(int, it.split("."))) for it in re.findall(r"GLIBC_([\d.]+)", read))
     return f"libc6 (>= {'.'.join(map(str, newest))})"
 
 
 def spread(installed, trees):
-    """Puts what is installed into the packages."""
+    """Distributes the installed files over the packages."""
     for path in sorted(installed.rglob("*")):
         if path.is_dir() and not path.is_symlink():
             continue
@@ -101,7 +101,7 @@ def spread(installed, trees):
 
 
 def spread_python(wheel, tree):
-    """Puts what is in a wheel into the package of Python, but for what pip alone needs."""
+    """Puts the files of a wheel into the package of Python, without the files for pip alone."""
     with zipfile.ZipFile(wheel) as archive:
         for name in archive.namelist():
             if not re.search(r"dist-info/(RECORD$|licenses/|sboms/)", name):
@@ -112,7 +112,7 @@ def spread_python(wheel, tree):
 
 
 def finish_library(tree):
-    """Adds what other packages and the loader need to know of the shared library."""
+    """Adds the data about the shared library that other packages and the loader need."""
     shared = tree.root / "usr" / "lib" / TRIPLET / f"libhayro_cmap.so.{UPSTREAM}"
     shared.chmod(0o644)
     soname, _, number = SONAME.rpartition(".so.")
@@ -124,7 +124,7 @@ def finish_library(tree):
 
 
 def add_documents(tree, installed):
-    """Adds the licences, the bill of materials and the changelog; `installed` has what the package has compiled in."""
+    """Adds the licences, the bill of materials and the changelog; `installed` has the bill of the contained crates."""
     folder = f"usr/share/doc/{tree.name}"
     bill, contained = materials.bill([], f"{released():%Y-%m-%dT%H:%M:%SZ}"), []
     if installed:
@@ -139,7 +139,7 @@ def add_documents(tree, installed):
 
 
 def copyright_of(contained):
-    """The licences of a package with these crates of the kit in it."""
+    """The licences of a package that contains these crates of the kit."""
     comment = "hayro_cmap.spdx.json beside this file is the bill of materials."
     if contained:
         comment += (" These crates of the kit of Rattle are compiled in, whose licences, where the kit states them, are"
@@ -149,7 +149,7 @@ def copyright_of(contained):
 
 
 def kit_licences(folder):
-    """The licences of what is compiled in from the kit, in one text."""
+    """The licences of the contained crates of the kit, in one text."""
     text = (folder / "README").read_text().replace("in its folder here", "below")
     for path in sorted(folder.glob("*/*")):
         text += f"\n{path.parent.name}: {path.name}\n\n{path.read_text()}"
@@ -157,7 +157,7 @@ def kit_licences(folder):
 
 
 def strip(tree):
-    """Takes out of programs and libraries what nobody links to, and packs the pages of the manual."""
+    """Strips programs and libraries, and compresses the pages of the manual."""
     for path in tree.files():
         if path.is_symlink():
             continue
@@ -184,7 +184,7 @@ def write_control(tree, stanza):
 
 
 def build(tree, folder, architecture):
-    """Makes the package of a tree: its path."""
+    """Makes the package of a tree; gives its path."""
     time = int(released().timestamp())
     for path in [*tree.root.rglob("*"), tree.root]:
         if path.is_dir() and not path.is_symlink():
@@ -197,7 +197,7 @@ def build(tree, folder, architecture):
 
 
 def write_wheel(folder):
-    """Writes a wheel without the library: its path."""
+    """Writes a wheel without the library; gives its path."""
     call = "import build_backend, sys; print(build_backend.build_wheel(sys.argv[1]))"
     environment = {name: value for name, value in os.environ.items() if name != "HAYRO_CMAP_LIBRARY"}
     ran = subprocess.run([sys.executable, "-c", call, folder], cwd=TOP / "bindings" / "python", env=environment,
@@ -206,8 +206,8 @@ def write_wheel(folder):
 
 
 def write_packages(folder, installed, library, work):
-    """Makes the packages of what scripts/install put below `installed`, and alone of the library below `library`: their
-    paths."""
+    """Makes the packages from what scripts/install put below `installed`, and from the library alone below `library`;
+    gives their paths."""
     trees = {name: Tree(name, work / name) for name in stanzas()}
     spread(installed, trees)
     spread_python(write_wheel(work), trees[PYTHON3])

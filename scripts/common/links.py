@@ -4,7 +4,7 @@ import os
 import re
 from pathlib import Path
 
-# the words of a link, the path of a file if it isn't the page itself, and the heading with its mark
+# the words of a link, the path of a file unless the link is within the page, and the heading with its `#`
 LINK = re.compile(r"\[([^\]]*)\]\(([^)#\s]*)(#[^)\s]*)?\)")
 HEADING = re.compile(r"^#+ (.+)$", re.MULTILINE)
 ELSEWHERE = re.compile(r"[a-z]+:")
@@ -16,7 +16,7 @@ def anchor(heading):
 
 
 def dead_links(path):
-    """What is wrong with the links of a page: each leads to a file, and to a heading where it names one."""
+    """The links of a page that don't lead to a file, or to the heading that they name."""
     for _, name, heading in LINK.findall(path.read_text()):
         if ELSEWHERE.match(name):
             continue
@@ -28,14 +28,15 @@ def dead_links(path):
 
 
 def dead_links_under(folder):
-    """The same of all pages under a folder."""
+    """The dead links of all pages under a folder."""
     return [f"{path.name}: {fault}" for path in sorted(folder.rglob("*.md")) for fault in dead_links(path)]
 
 
 def installed_text(page, places, top):
-    """The text of a page as it is installed. `places` has where files of the project are installed, the page too.
+    """The text of a page as it is installed. `places` gives the installed paths of files, also of the page.
 
-    Links lead there. Of a link to another file the words stay; where they are its name, its path below `top`.
+    Links lead to these paths. A link to another file becomes its words, or the file's path below `top` if the words are
+    the name of the file.
     """
 
     def linked(found):

@@ -1,4 +1,4 @@
-"""The bill of materials of what is installed, in SPDX 2.3: the project and the crates that are compiled in."""
+"""The bill of materials of the installed files, in SPDX 2.3: the project and the crates that are compiled in."""
 
 import hashlib
 import json
@@ -7,7 +7,7 @@ from pathlib import Path
 TOP = Path(__file__).resolve().parents[2]
 VERSION = (TOP / "VERSION").read_text().strip()
 OWN_LICENCE = "MIT OR Apache-2.0"
-# of plain Rust, which has a table of the Unicode Character Database
+# the licence of plain Rust, which has a table of the Unicode Character Database
 PLAIN_LICENCE = f"({OWN_LICENCE}) AND Unicode-3.0"
 UNSTATED = "NOASSERTION"
 # the licences of crates, by the names of their files
@@ -16,7 +16,7 @@ LICENCES = {
     ("LICENSE-APACHE", "LICENSE-MIT"): "MIT OR Apache-2.0",
     ("LICENSE-UNICODE",): "Unicode-3.0",
 }
-# those that the names don't say
+# the licences of crates whose files don't show them
 OF_CRATES = {name: "MIT" for name in ("fast_float", "itoa", "simdutf8", "strsim")} | {"ryu": "Apache-2.0 AND MIT"}
 
 
@@ -45,12 +45,12 @@ def of_kit(crates, kit):
 
 
 def names_of(bill):
-    """The names of what is compiled in, by the text of a bill."""
+    """The names of the contained crates, from the text of a bill."""
     return [it["name"] for it in json.loads(bill)["packages"][1:]]
 
 
 def bill(others, created, licence=OWN_LICENCE):
-    """The text of the bill: `others` are the entries of what is compiled in."""
+    """The text of the bill; `others` are the entries of the contained crates."""
     own = package("hayro_cmap", VERSION, licence)
     contained = [
         {"spdxElementId": own["SPDXID"], "relationshipType": "CONTAINS", "relatedSpdxElement": it["SPDXID"]}

@@ -21,7 +21,7 @@ class Unreadable(Exception):
 
 
 def cmaps_of(path, keys=("/ToUnicode", "/Encoding")):
-    """The bytes of the streams that fonts of a PDF file have under these keys, each font's."""
+    """The bytes of the streams under these keys of each font of a PDF file."""
     import pikepdf
 
     try:

@@ -8,7 +8,7 @@ CRATES = TOP / "crates"
 
 
 def and_below(crate):
-    """A crate and all those of the repository that it stands on, as crates.txt has them."""
+    """A crate and all crates of the repository below it, as crates.txt lists them."""
     lines = [line.partition(":") for line in (TOP / "crates.txt").read_text().splitlines()]
     below = {name.split()[0]: names.split() for name, colon, names in lines if colon}
     found = [crate]
@@ -18,7 +18,7 @@ def and_below(crate):
 
 
 def program_of(crate, words=()):
-    """The program of a crate, which is proved and built where it is missing or old."""
+    """The program of a crate, which is proved and built if it is missing or old."""
     folder = CRATES / crate
     program = folder / "out" / crate
     sources = [path for name in and_below(crate) for path in (CRATES / name).glob("src/**/*.rt")]

@@ -1,4 +1,4 @@
-"""Command lines that pages show, with what they print."""
+"""The command lines that pages show, with their output."""
 
 import re
 from dataclasses import dataclass
@@ -8,13 +8,13 @@ SHOWN = re.compile(r"^    \$ (.*)\n((?:    (?!\$ ).*\n)*)", re.MULTILINE)
 
 @dataclass
 class Shown:
-    """A command line, and what stands below it."""
+    """A command line, and the output that the page shows below it."""
 
     line: str
     printed: str
 
     def is_printed(self, output):
-        """Whether an output is what stands below; `...` as its last line stands for anything."""
+        """Whether an output is the shown output; a last line `...` stands for any rest."""
         if self.printed.endswith("...\n"):
             return output.startswith(self.printed.removesuffix("...\n"))
         return output == self.printed

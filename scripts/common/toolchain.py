@@ -20,7 +20,7 @@ class Toolchain:
         sys.path.insert(0, str(self.folder / "bin"))
         import rtlib
 
-        # it sets the handler of a signal, which only the main thread may
+        # this sets the handler of a signal, which is allowed in the main thread alone
         rtlib.guarded()
         self.rtlib = rtlib
         self.crates = {crate.name: crate for crate in rtlib.crates_below(str(TOP))}
@@ -32,7 +32,7 @@ class Toolchain:
         return crate.call(self.rtlib.RATTLE, "build", *shared, *words, "-o", target)
 
     def compiler(self):
-        """The words by which code is made of what is proved."""
+        """The options that make code from a proved crate."""
         return ["--toolchain", f"{self.folder}/toolchain", "--backend", "llvm"]
 
     def link(self, crate, target, code):

@@ -1,4 +1,4 @@
-"""Where the warnings of `cmap check --lint` are listed: each list has all of them, by the names of the source."""
+"""The lists of the warnings of `cmap check --lint`: each list must have all warnings that the source names."""
 
 import re
 
@@ -7,7 +7,7 @@ from .programs import TOP
 # the order and the names of the warnings
 SOURCE = "crates/cmap_lint/src/warning.rt"
 
-# what stands around the name of a warning in a file that lists them
+# the pattern of a warning's name in each file that lists the warnings
 LISTS = {
     "docs/COMMAND.md": "`{}`",
     "completions/_cmap": r"(?<![-\w]){}(?![-\w])",
@@ -26,7 +26,7 @@ def names_and_numbers():
 
 
 def missing_warnings():
-    """What each list lacks, a sentence each."""
+    """The missing warnings of each list, with a sentence for each."""
     warnings = names_and_numbers()
     for path, form in LISTS.items():
         text = (TOP / path).read_text()

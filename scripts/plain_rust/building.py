@@ -1,4 +1,4 @@
-"""How cargo builds the C library and the command of plain Rust, and what is compiled into them."""
+"""Builds the C library and the command of plain Rust with cargo, and lists the crates that are compiled into them."""
 
 import json
 import re
@@ -12,20 +12,20 @@ from common.programs import TOP
 from .workspace import C_LIBRARY, write_workspace
 
 ARCHIVE, SHARED = "libhayro_cmap.a", "libhayro_cmap.so"
-# what of Rust's standard library is compiled in
+# the crates of Rust's standard library that are compiled in
 RUST = ["alloc", "compiler_builtins", "core", "std"]
 LICENCES = ("COPYING", "COPYRIGHT", "LICENSE", "UNLICENSE")
 
 
 class Workspace:
-    """The workspace with these members in a folder, and what cargo builds of it for a target, else for this system."""
+    """The workspace with these members in a folder. cargo builds it for a target, by default for this system."""
 
     def __init__(self, work, members, target=None):
         self.work, self.folder, self.members, self.target = work, work / "workspace", members, target
         write_workspace(self.folder, members)
 
     def build(self):
-        """Builds the members; the folder of what is built. A library alone needs nothing from a network."""
+        """Builds the members; gives the folder of the built files. The library alone needs no network."""
         words = ["--release", "--target-dir", self.work / "made"]
         words += [word for name in self.members for word in ("--package", name)]
         words += ["--target", self.target] if self.target else []
@@ -35,16 +35,16 @@ class Workspace:
         return self.work / "made" / (self.target or "") / "release"
 
     def run(self, *words, folder=None):
-        """Runs a program in a folder, or in the one above the workspace."""
+        """Runs a program in a folder, by default in the folder above the workspace."""
         subprocess.run(words, cwd=folder or self.work, check=True)
 
     def tool(self, name):
-        """A program of binutils, for the target where there is one of its own."""
+        """A program of binutils, in the target's own version if there is one."""
         prefix = re.sub("-unknown|-pc", "", self.target) + "-" if self.target else ""
         return prefix + name if shutil.which(prefix + name) else name
 
     def link_libraries(self, made):
-        """Makes the libraries of what is built, without what no program needs; the archive shows the calls alone."""
+        """Makes the libraries from the built files, without unneeded symbols; the archive exports the calls alone."""
         header = (TOP / "include" / "hayro_cmap.h").read_text()
         wanted = [f"--undefined={name}" for name in re.findall(r"^\w+ (hayro_cmap_\w+)\(", header, re.M)]
         self.run(self.tool("ld"), "-r", "-o", "all.o", *wanted, made / ARCHIVE)
@@ -54,7 +54,7 @@ class Workspace:
         self.run(self.tool("strip"), "--strip-unneeded", "-o", SHARED, made / SHARED)
 
     def crates(self):
-        """The crates of others in the members, as `cargo metadata` tells them."""
+        """The crates of others on which the members depend, as `cargo metadata` lists them."""
         words = ["cargo", "metadata", "--format-version=1", "--offline", "--manifest-path", self.folder / "Cargo.toml"]
         ran = subprocess.run(words, check=True, capture_output=True, text=True)
         return [found for found in json.loads(ran.stdout)["packages"] if found["source"]]

@@ -1,4 +1,4 @@
-"""The crate of the C library in plain Rust: which files it has, and where they come from."""
+"""The crate of the C library in plain Rust: its files and their sources."""
 
 import re
 import shutil
@@ -13,9 +13,9 @@ BY_HAND = TOP / "bindings" / "plain-c"
 WITH_CALLS = ["cmap_c", "cmap_c_encoder", "cmap_c_maps", "cmap_c_writer"]
 HANDLES = "cmap_handles"
 VERSION = (TOP / "VERSION").read_text().strip()
-# what hayro_cmap_version gives
+# the result of hayro_cmap_version
 PLAIN_VERSION = f"{VERSION}+plain"
-# what `fallible` has here beside that of the reader
+# the lines that the module `fallible` has here in addition to the reader's module
 ADDED = """
 #[allow(unsafe_code)]
 pub mod sync;
@@ -25,7 +25,7 @@ pub use crate::given::Span;
 
 
 def write_c_library(out):
-    """The files by hand, the module `fallible` with what handles need beside it, the sources, and the calls."""
+    """Writes the files by hand, the module `fallible` with additions for handles, the sources, and the calls."""
     shutil.copytree(BY_HAND, out, ignore=shutil.ignore_patterns("target", "tests", "Cargo.lock"))
     copy_fallible(out, ADDED)
     copy_licenses(out)
@@ -40,7 +40,7 @@ def crates_of_c_library():
 
 
 def write_version(out):
-    """The version, which says that the library is in plain Rust."""
+    """Writes the version, which shows that the library is in plain Rust."""
     path = out / "src" / "reader" / "cmap_c" / "version.rs"
     before = path.read_text()
     after = before.replace(f'b"{VERSION}"', f'b"{PLAIN_VERSION}"')
@@ -50,7 +50,7 @@ def write_version(out):
 
 
 def write_exports(out):
-    """The root of the modules, and the calls for C."""
+    """Writes the root of the modules, and the calls for C."""
     (out / "src" / "reader.rs").write_text("".join(f"pub(crate) mod {name};\n" for name in crates_of_c_library()))
     for crate in WITH_CALLS:
         root = out / "src" / "reader" / f"{crate}.rs"

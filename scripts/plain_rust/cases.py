@@ -1,6 +1,6 @@
-"""What the eraser makes of sources, and what it refuses: cases for scripts/test-plain-rust."""
+"""Cases for scripts/test-plain-rust: sources that are erased, and sources that are refused."""
 
-# what it shows, a source of the crate `runs`, and what is left
+# what a case shows, a source of the crate `runs`, and the erased source
 ERASED = [
     ("clauses and the comments among them", """
 /// Adds one.
@@ -249,7 +249,7 @@ const BYTE: u8 = b'"';
 """),
 ]
 
-# the same of a program
+# what a case shows, a source of a program, and the erased source
 ERASED_PROGRAM = [
     ("the system", """
 use std::env::{self, VarError};
@@ -294,7 +294,7 @@ fn say(rt: &HostRuntime, done: usize) -> Result<(), Failure> {
 """),
 ]
 
-# what it shows, a source, the line of the fault, and what is said
+# what a case shows, a source, the line of the fault, and the message
 REFUSED = [
     ("the system in a library", "fn f(rt: &HostRuntime) {}\n", 1, "an unknown construct: HostRuntime"),
     ("the files of the system in a library", "use std::fs;\n", 1, "an unknown path: std::fs"),
@@ -326,7 +326,7 @@ REFUSED = [
     ("a bracket that isn't closed", "#[inline(always]\nfn f() {}\n", 1, "a bracket isn't closed"),
 ]
 
-# what it shows, a text, and what it is where `f` is marked `inline`
+# what a case shows, a text, and the text with the mark `inline` on `f`
 INLINES = [
     ("a function without attributes", "fn g() {}\n\nfn f() {}\n", "fn g() {}\n\n#[inline(always)]\nfn f() {}\n"),
     ("a method that says otherwise", "    #[cold]\n    #[inline(never)]\n    pub(super) fn f() {}\n",
@@ -335,7 +335,7 @@ INLINES = [
     ("two of them", "fn f() {}\n\npub fn f() {}\n", "2 functions have the name f"),
 ]
 
-# what it shows, a source, and what C calls
+# what a case shows, a source, and the function that C calls
 CALLS = [
     ("numbers and a handle", """
 #[unsafe(no_mangle)]
@@ -405,7 +405,7 @@ pub unsafe extern "C" fn hayro_cmap_read(
 }
 """),
 ]
-# what it shows, a source, and what is said
+# what a case shows, a source, and the message
 REFUSED_CALLS = [
     ("a struct that C doesn't know", """
 #[unsafe(no_mangle)]

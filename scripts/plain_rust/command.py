@@ -1,4 +1,4 @@
-"""The package of the command in plain Rust: which files it has, and where they come from."""
+"""The package of the command in plain Rust: its files and their sources."""
 
 import shutil
 
@@ -8,18 +8,18 @@ from .crate import OF_KIT, after_docs, copy_fallible, copy_licenses, erase_crate
 
 BY_HAND = TOP / "bindings" / "plain-command"
 COMMAND = "cmap"
-# the crates of the kit whose interface is by hand
+# the crates of the kit whose interface is written by hand
 KIT = ["clap", "hex"]
-# what `fallible` has here beside that of the reader
+# the lines that the module `fallible` has here in addition to the reader's module
 ADDED = "\npub mod rc;\n"
-# the modules by hand
+# the modules that are written by hand
 MODULES = ["fallible", "host", "kit", "sources"]
-# proofs read some arguments alone, the library has more than the command, and the style is that of the sources
+# only proofs read some arguments, the library has more than the command needs, and the sources have their own style
 ALLOWED = "#![allow(clippy::all, dead_code, unused_imports, unused_labels, unused_variables)]\n"
 
 
 def cases_of_command():
-    """The files of its cases."""
+    """The files with the cases of the command."""
     return sorted(path for path in (TOP / "examples" / "command").glob("*.cases") if path.stem != "bench")
 
 

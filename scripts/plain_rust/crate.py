@@ -1,4 +1,4 @@
-"""The crate of the reader in plain Rust: which files it has, and where they come from."""
+"""The crate of the reader in plain Rust: its files and their sources."""
 
 import re
 import shutil
@@ -9,25 +9,25 @@ from .erasing import erased
 from .source import Unknown
 
 BY_HAND = TOP / "bindings" / "plain-rust"
-# the bindings over the C library have the same interface: types, and calls of others; tests and an example of them
+# the bindings over the C library, which have the same interface, and from which sources, tests and examples are copied
 SHARED = TOP / "bindings" / "rust"
 SHARED_SOURCES = [
     *("based", "builder", "collection", "encode_error", "extractor", "finding", "metadata"),
     *("opening", "options", "piece", "predefined", "reason"),
 ]
-# that of Unicode is for tables
+# the licences; LICENSE-UNICODE is for tables
 LICENSES = ["LICENSE-APACHE", "LICENSE-MIT", "LICENSE-UNICODE"]
-# the crates of the kit whose interface is by hand
+# the crates of the kit whose interface is written by hand
 OF_KIT = {name: f"crate::fallible::{name}" for name in ("itoa", "ucd_normal")}
 README = "README.md"
-# the crates on which all others of the reader and of the writer stand
+# the crates that together use all crates of the reader
 READER = ["hayro_cmap", "cmap_encode", "cmap_unicode", "cmap_flatten", "cmap_lint", "cmap_text_writer", "cmap_tidy"]
-# tests: the rows of data, and those of inner modules; the rows of one kind need the library of a program
+# the tests by rows of data and the tests of inner modules; rows for a program need the library of its queries
 TESTS = TOP / "tests"
 QUERIES = "cmap_queries"
-# crates of programs alone that tests of modules need
+# crates outside the reader that tests of modules need
 TESTED = ["cmap_diff", "cmap_maker", "cmap_writer"]
-# functions of lookups that Rust inlines only where they say so; other attributes of the kind are replaced
+# functions of lookups that Rust inlines only with an attribute; this replaces other such attributes
 INLINED = {
     "cmap_c_maps/src/cids.rt": ["hayro_cmap_cid", "hayro_cmap_cid_strict"],
     "cmap_layers/src/lookup.rt": ["strict_cid", "text", "find_bf"],
@@ -45,7 +45,7 @@ def crates_of_reader():
 
 
 def with_inlined(text, names):
-    """The text with an attribute before each of these functions."""
+    """The text with the attribute `inline(always)` before each of these functions."""
     for name in names:
         function = rf"^( *)(?:#\[(?:cold|inline\(\w+\))\]\n *)*((?:pub(?:\(\w+\))? )?fn {name}\b)"
         text, count = re.subn(function, r"\1#[inline(always)]\n\1\2", text, flags=re.M)
@@ -55,7 +55,7 @@ def with_inlined(text, names):
 
 
 def erased_file(path, paths):
-    """The text of a source file as Rust; only where it is about the pointers of C may it have unsafe code."""
+    """The text of a source file as Rust. Only the files about the pointers of C may have unsafe code."""
     name = str(path.relative_to(CRATES))
     if name not in POINTERS:
         return with_inlined(erased(path.relative_to(TOP), path.read_text(), paths), INLINED.get(name, []))
@@ -63,12 +63,12 @@ def erased_file(path, paths):
 
 
 def after_docs(added, text):
-    """The text of a file with lines after the comments on the whole file."""
+    """The text of a file, with lines added after the comments on the whole file."""
     return re.sub(r"\A((?://![^\n]*\n)*)\n*", lambda docs: docs[1] + "\n" * bool(docs[1]) + added, text, count=1)
 
 
 def erase_crate(crate, folder, root, paths):
-    """Writes the sources of a crate into a folder, its root as `root`; what is there by hand stays."""
+    """Writes the sources of a crate into a folder, with its root as the file `root`; existing files stay."""
     for path in sorted((CRATES / crate / "src").rglob("*.rt")):
         inner = path.relative_to(CRATES / crate / "src").with_suffix(".rs")
         made = root if inner.name in ("lib.rs", "main.rs") and inner.parent.name == "" else folder / inner
@@ -78,7 +78,7 @@ def erase_crate(crate, folder, root, paths):
 
 
 def write_reader(out, crates):
-    """The sources of crates, a module for each."""
+    """Writes the sources of crates, with a module for each."""
     folder = out / "src" / "reader"
     paths = {crate: f"crate::reader::{crate}" for crate in crates}
     for crate in paths:
@@ -87,7 +87,7 @@ def write_reader(out, crates):
 
 
 def write_rows(out):
-    """The rows of data, and what runs them as tests."""
+    """Writes the rows of data, and the code that runs them as tests."""
     folder = out / "tests" / "rows"
     shutil.copytree(TESTS / "rows", folder, ignore=shutil.ignore_patterns("over_c.rs", "process.rs"), dirs_exist_ok=True)
     paths = {"crate": f"crate::{QUERIES}", "hayro_cmap": "hayro_cmap::reader", "std": "hayro_cmap::fallible"}
@@ -95,7 +95,7 @@ def write_rows(out):
 
 
 def write_units(out):
-    """The tests of modules, and the crates that they need beside the reader."""
+    """Writes the tests of modules, and the crates that they need in addition to the reader."""
     folder = out / "src" / "units"
     shutil.copytree(TESTS / "units", folder)
     paths = {**{crate: f"crate::reader::{crate}" for crate in crates_of_reader()},
@@ -106,7 +106,7 @@ def write_units(out):
 
 
 def write_library(out):
-    """The files by hand, those of the bindings over the C library, and the sources."""
+    """Writes the files by hand, the shared files of the bindings over the C library, and the sources."""
     shutil.copytree(BY_HAND, out, ignore=shutil.ignore_patterns("target", "Cargo.lock", "compare"))
     copy_licenses(out)
     shutil.copy(SHARED / README, out / README)
@@ -120,12 +120,12 @@ def write_library(out):
 
 
 def copy_fallible(out, added):
-    """The module `fallible` of another crate, with lines of its own at its end."""
+    """Copies the module `fallible` into another crate, with lines added at its end."""
     shutil.copytree(BY_HAND / "src" / "fallible", out / "src" / "fallible", dirs_exist_ok=True)
     (out / "src" / "fallible.rs").write_text((BY_HAND / "src" / "fallible.rs").read_text() + added)
 
 
 def copy_licenses(out):
-    """The licences of the project."""
+    """Copies the licences of the project."""
     for name in LICENSES:
         shutil.copy(TOP / name, out / name)

@@ -1,15 +1,15 @@
-"""Erases contracts and ghost code from a source file: what is left is Rust.
+"""Erases contracts and ghost code from a source file, so that Rust is left.
 
-Each rule looks at the tokens around a word, never at types. It knows the forms that the sources have, and stops at any
-other one. A call that Rust lacks or means otherwise doesn't compile: the module `fallible`, by hand, has those that the
-sources use.
+Each rule looks at the tokens around a word, never at types. It knows the forms in the sources, and stops at any other
+form. A call that Rust lacks, or that has another meaning in Rust, doesn't compile: the module `fallible`, written by
+hand, has the calls that the sources use.
 """
 
 from .source import Source
 
-# the system, which programs alone have
+# the system, which only programs have
 HOST = "HostRuntime"
-# what no rule has erased, or what Rust means otherwise
+# words that no rule has erased, or that have another meaning in Rust
 REFUSED = ["Drop", HOST, "Model", "async", "await", "cycle", "dyn", "ensures", "extern", "ghost", "invariant",
            "macro_rules", "prove", "requires", "tactic", "unsafe"]
 ATTRIBUTES = ["cold", "default", "derive", "inline"]
@@ -18,26 +18,26 @@ EXPORTED = ["#", "[", "unsafe", "(", "no_mangle", ")", "]", "pub", "extern"]
 MACROS = ["format_args", "matches", "unreachable", "value_parser", "write", "writeln"]
 # macros that are methods of the system
 PRINTING = ["eprint", "eprintln"]
-# modules of std that are in core, and those that are by hand, with the names that are there
+# modules of std that are in core, and modules written by hand, with the names in them
 CORE = ["cell", "fmt", "marker", "mem", "ops", "ptr", "str"]
 BY_HAND = {"alloc": ["AllocError", "AllocFailed", "Global"],
            "collections": ["BTreeMap", "BTreeSet", "BinaryHeap", "VecDeque"], "rc": ["RcSlice"], "sync": ["Arc"]}
-# the modules of the system, by hand for programs alone, and those of Rust's std that are taken as they are
+# the modules of the system, written by hand for programs alone, and the modules of Rust's std that are used as they are
 HOSTED = ["env", "fs"]
 PLAIN = ["io", "process"]
 PRELUDE = ["Box", "String", "Vec"]
-# methods with arguments that are by hand: the trait, and the name there
+# methods with arguments that are written by hand, with their traits and their names there
 METHODS = {"collect": ("CollectIn", "collect_in"), "split_off": ("TakeFront", "take_front"),
            "to_string": ("Printed", "to_string_in"), "try_map": ("TryEach", "try_each")}
-# and without
+# such methods without arguments
 BARE_METHODS = {"split_off_first": ("TakeFront", "take_one")}
-# what a field for C is that is a slice in the sources, and its path below that of `std`
+# the type of a field for C that is a slice in the sources; it is in the module that stands for `std`
 SPAN = "Span"
 
 
 def erased(path, text, paths, may=()):
-    """The text of a source file as Rust. `paths` says where a crate's items are in Rust, those of `crate` and `std` too,
-    and of a program those of `host`; `may` are words that are refused elsewhere, as `unsafe`."""
+    """The text of a source file as Rust. `paths` gives the paths in Rust of crates, also of `crate` and `std`, and of
+    `host` for a program; `may` has words that are refused elsewhere, such as `unsafe`."""
     source = Source(path, text)
     for rule in (erase_models, erase_ghosts, erase_clauses, erase_exports, erase_attributes, erase_drops,
                  erase_drop_bounds, erase_writers, erase_imports, plain_lists, plain_fields, plain_texts, plain_main):
@@ -51,7 +51,7 @@ def erased(path, text, paths, may=()):
 
 
 def end_of_ghost(source, at):
-    """The end of `ghost use ..;`, `ghost name: { .. };` or `ghost name = { .. };`, of a field with its comma."""
+    """The end of `ghost use ..;`, `ghost name: { .. };` or `ghost name = { .. };`; the comma belongs to a field."""
     if source.word(at + 1) == "use":
         return source.find(at, ";") + 1
     if source.tokens[at + 1].kind != "word" or source.word(at + 2) not in (":", "=") or source.word(at + 3) != "{":
@@ -65,7 +65,7 @@ def end_of_ghost(source, at):
 
 
 def erase_models(source):
-    """`impl Model for T { .. }`, all of whose members are ghosts."""
+    """Erases `impl Model for T { .. }`, all of whose members are ghosts."""
     for at in source.indices("Model"):
         if source.word(at + 1) != "for":
             continue
@@ -79,14 +79,14 @@ def erase_models(source):
 
 
 def erase_ghosts(source):
-    """Ghost imports, members of traits and impls, and fields."""
+    """Erases ghost imports, ghost members of traits and impls, and ghost fields."""
     for at in source.indices("ghost"):
         start = at - 1 if source.word(at - 1) == "pub" else at
         source.erase_item(start, end_of_ghost(source, at))
 
 
 def erase_clauses(source):
-    """The clauses of a function, between its signature and its body, with the comments among them."""
+    """Erases the clauses of a function between its signature and its body, with the comments among them."""
     for at in source.indices("fn"):
         start = end = source.find(at, "requires", "ensures", "{", ";", "}", ")", "]", ",")
         while source.word(end) in (",", ")", "]"):
@@ -112,7 +112,7 @@ def join_body(source, start, end):
 
 
 def erase_exports(source):
-    """A call for C is a function of Rust: what C calls is made beside it, by `exports`."""
+    """Makes a call for C a function of Rust; `exports` makes the function that C calls."""
     for at in source.indices("#"):
         if source.words(at, *EXPORTED):
             source.erase(at, at + 7)
@@ -120,7 +120,7 @@ def erase_exports(source):
 
 
 def erase_attributes(source):
-    """The attributes for the prover; `Drop` among the derives."""
+    """Erases the attributes for the prover, and `Drop` among the derives."""
     for at in source.indices("#"):
         is_inner = source.word(at + 1) == "!"
         name = source.word(at + 2 + is_inner)
@@ -136,7 +136,7 @@ def erase_attributes(source):
 
 
 def erase_names(source, bracket, name):
-    """A name of a list between brackets, with a comma; where it is there."""
+    """Erases a name with its comma from a list between brackets, if the list has the name."""
     for at in range(bracket + 1, source.closing(bracket)):
         if source.word(at) != name:
             continue
@@ -150,7 +150,7 @@ def erase_names(source, bracket, name):
 
 
 def erase_drops(source):
-    """`impl Drop for T { fn drop(self) { let T { a: _, b: _ } = self; } }`: Rust drops fields by itself."""
+    """Erases `impl Drop for T { fn drop(self) { let T { a: _, b: _ } = self; } }`: Rust drops fields by itself."""
     for at in source.indices("Drop"):
         if not source.words(at, "Drop", "for"):
             continue
@@ -167,7 +167,7 @@ def erase_drops(source):
 
 
 def erase_drop_bounds(source):
-    """`T: Drop`, `T: Drop + U`, `T: U + Drop`: in Rust each value may be dropped."""
+    """Erases the bounds `T: Drop`, `T: Drop + U`, `T: U + Drop`: in Rust each value may be dropped."""
     for at in source.indices("Drop"):
         if source.word(at - 1) not in (":", "+"):
             source.refuse(at, "a `Drop` that is no bound")
@@ -180,7 +180,7 @@ def erase_drop_bounds(source):
 
 
 def erase_writers(source):
-    """`fn fmt<W: fmt::Write>(.., f: &mut fmt::Formatter<W>)`: a formatter of Rust has no parameter."""
+    """Erases `W` in `fn fmt<W: fmt::Write>(.., f: &mut fmt::Formatter<W>)`: a formatter of Rust has no parameter."""
     for at in source.indices("Formatter"):
         if source.word(at + 1) != "<":
             continue
@@ -194,7 +194,7 @@ def erase_writers(source):
 
 
 def erase_imports(source):
-    """Imports that only what was erased has named. A `Write` of `std::io` has methods, so its import stays."""
+    """Erases imports that only erased code used. `Write` of `std::io` has methods, so its import stays."""
     for name, module in (("Model", "marker"), ("Write", "fmt")):
         found = source.indices(name)
         start = source.find_back(found[0], "use", ";", "}") if len(found) == 1 else 0
@@ -211,7 +211,7 @@ def erase_imports(source):
 
 
 def plain_lists(source):
-    """`vec![in alloc; item; count]` is a call."""
+    """Replaces `vec![in alloc; item; count]` by a call."""
     for at in source.indices("vec"):
         if not source.words(at + 1, "!", "[", "in"):
             continue
@@ -225,7 +225,7 @@ def plain_lists(source):
 
 
 def plain_fields(source):
-    """A field of bytes of a struct for C, which C hands in as a pointer and a length: Rust's slice need not be that."""
+    """Replaces slices of bytes in structs for C: C passes a pointer and a length; Rust fixes no layout of slices."""
     for at in source.indices("#"):
         if not source.words(at, *LAYOUT):
             continue
@@ -244,19 +244,19 @@ def plain_fields(source):
 
 
 def refuse_slices(source, start):
-    """Stops at another slice in a struct for C, whose fields begin at an index: its layout is Rust's alone."""
+    """Stops at any other slice in a struct for C, whose fields begin at an index: Rust fixes no layout of slices."""
     for at in range(start, source.closing(start)):
         if source.word(at) == "[" and source.word(at - 1) != ":" and not is_bytes(source, at - 2):
             source.refuse(at, "a slice in a struct for C that isn't one of bytes")
 
 
 def is_bytes(source, at):
-    """Whether the type `&'a [u8]` stands there."""
+    """Whether the tokens from an index on are the type `&'a [u8]`."""
     return source.word(at) == "&" and source.tokens[at + 1].kind == "lifetime" and source.words(at + 2, "[", "u8", "]")
 
 
 def plain_texts(source):
-    """`format!(in alloc; ..)` is a call, and `eprintln!(rt; ..)` a method."""
+    """Replaces `format!(in alloc; ..)` by a call, and `eprintln!(rt; ..)` by a method."""
     for at in source.indices("format", *PRINTING):
         if not source.words(at + 1, "!", "("):
             continue
@@ -276,7 +276,7 @@ def plain_texts(source):
 
 
 def plain_main(source):
-    """`fn main(rt: HostRuntime)`: in Rust `main` asks for the system."""
+    """Replaces the parameter of `fn main(rt: HostRuntime)`: in Rust `main` asks for the system."""
     for at in source.indices("main"):
         if not source.words(at - 1, "fn", "main", "(", "rt", ":", HOST, ")"):
             continue
@@ -288,7 +288,7 @@ def plain_main(source):
 
 
 def refuse_unknown(source, may):
-    """Stops at what isn't Rust, and at what Rust may mean otherwise."""
+    """Stops at constructs that aren't Rust, or that may have another meaning in Rust."""
     for at, token in enumerate(source.tokens):
         if token.kind == "text" or token.text in may:
             continue
@@ -301,14 +301,14 @@ def refuse_unknown(source, may):
 
 
 def plain_paths(source, paths):
-    """The paths of crates."""
+    """Replaces the paths of crates."""
     for at in source.indices(*(name for name in paths if name != "std")):
         if source.word(at + 1) == "::" and source.word(at - 1) != "::":
             source.tokens[at].text = paths[source.word(at)]
 
 
 def plain_std(source, by_hand, host):
-    """`std::fmt` is `core::fmt`; what takes memory is by hand, and of a program what asks the system."""
+    """Replaces paths of `std` by paths of `core`, or of modules by hand, which allocate memory or ask the system."""
     for at in source.indices("std"):
         if source.word(at + 1) != "::":
             continue
@@ -325,14 +325,14 @@ def plain_std(source, by_hand, host):
 
 
 def names_at(source, at):
-    """A name, or those between braces."""
+    """The name at an index, or the names between braces."""
     if source.word(at) != "{":
         return [source.word(at)]
     return [source.word(i) for i in range(at + 1, source.closing(at)) if source.tokens[i].kind == "word"]
 
 
 def plain_methods(source):
-    """Gives methods their names by hand; their traits."""
+    """Renames methods that are written by hand; gives their traits."""
     traits = set()
     for at in source.indices("."):
         is_call = source.word(at + 2) == "("
@@ -344,7 +344,7 @@ def plain_methods(source):
 
 
 def add_imports(source, traits, by_hand, host):
-    """Imports what the prelude has and that of Rust's `core` hasn't, and the traits of methods."""
+    """Imports names that the prelude of Rust's `core` lacks, and the traits of methods."""
     words = {source.word(at) for at in range(len(source.tokens))
              if source.word(at - 1) != "::" and source.word(at + 1) != "("}
     if host and HOST in words:

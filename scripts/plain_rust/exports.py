@@ -1,4 +1,4 @@
-"""The calls for C of the crates: functions that take C's pointers, and call those that are erased."""
+"""The calls for C of the crates: functions that take C's pointers, and call the functions of the erased sources."""
 
 import re
 
@@ -7,16 +7,16 @@ from common.programs import CRATES
 from .erasing import EXPORTED, LAYOUT
 from .source import Source, Unknown
 
-# what a call gives where a pointer is null that must not be; some numbers aren't that of a status
+# the result of a call if a pointer is null that must not be; for some calls the number isn't a status
 NOTHING = {"u32": "ABSENT", "usize": "0", "bool": "false", "": ""}
 NOTHING_OF = {"hayro_cmap_writing_mode": "NO_MODE", "hayro_cmap_layer_writing_mode": "NO_MODE", "hayro_cmap_read_as": "0"}
-# lookups of one code, which are made in place only where they are usual
+# lookups of one code, which are made inline only in the usual case
 LOOKUPS = {"hayro_cmap_cid", "hayro_cmap_cid_strict"}
 LOOKED_UP = """\
     if !lookup::is_usual(map, byte_len) {{
         return lookup::{name}(map, code, byte_len, cid);
     }}"""
-# what C hands in as it is
+# the types that C passes as they are
 VALUES = ["bool", "i32", "u16", "u32", "u64", "u8", "usize"]
 HEAD = """\
 //! The calls of `include/hayro_cmap.h`. Each checks for null, and calls the function of the same name.
@@ -55,7 +55,7 @@ def parameters_of(source, at):
 
 
 def in_place(kind, structs):
-    """A type that C knows, with the module of its struct."""
+    """The type with the module of its struct; stops at a type that C doesn't know."""
     name = kind.partition("<")[0]
     if name not in structs and kind not in VALUES:
         raise Unknown(f"an unknown type of a call for C: {kind}")
@@ -63,7 +63,7 @@ def in_place(kind, structs):
 
 
 class Parameter:
-    """A parameter of a call: what C hands in, what is made of it, and what may be missing."""
+    """A parameter of a call: the parameters of C, the check that makes a reference from them, and the argument."""
 
     def __init__(self, name, kind, structs):
         self.name, self.given, self.made = name, [], None
@@ -80,7 +80,7 @@ class Parameter:
 
 
 def export_of(source, at, path, structs):
-    """What C calls for the function whose attribute stands at an index."""
+    """The text of the function that C calls, for the function whose attribute is at an index."""
     name = source.word(at + 11)
     first = source.find(at + 7, "(")
     end = source.closing(first)

@@ -13,10 +13,10 @@ TOKEN = re.compile(
     re.X | re.S,
 )
 BRACKETS = {"(": ")", "[": "]", "{": "}"}
-# the lines of comments right above a token; those on a whole file stay
+# the lines of comments right above a token; the comments on a whole file stay
 NOTES = re.compile(r"(?:(?:^|(?<=\n))[ \t]*//(?!!)[^\n]*\n)+(?P<indent>[ \t]*)\Z")
 
-# lines of imports, and the front of a path that goes before others
+# lines of imports, and the prefixes of imports that come before others
 IMPORTS = re.compile(r"(?:^use [^;]+;\n)+", re.M)
 FRONTS = ["use self::", "use super::", "use crate::"]
 # the comments on a whole file
@@ -56,7 +56,7 @@ class Source:
         self.path, self.tokens = path, tokens_of(text)
 
     def refuse(self, at, what):
-        """Stops at a token."""
+        """Stops with the line of a token and a message."""
         raise Unknown(f"{self.path}:{self.tokens[at].line}: {what}")
 
     def word(self, at):
@@ -65,15 +65,15 @@ class Source:
         return self.tokens[at].text if within else ""
 
     def words(self, at, *texts):
-        """Whether these tokens stand there, one after another."""
+        """Whether these tokens follow one another from an index on."""
         return all(self.word(at + i) == text for i, text in enumerate(texts))
 
     def indices(self, *texts):
-        """Where one of these tokens stands, the last one first, so that a rule may erase what follows."""
+        """The indices of these tokens, the last one first, so that a rule may erase what follows."""
         return [at for at in reversed(range(len(self.tokens))) if self.word(at) in texts]
 
     def closing(self, at):
-        """Where the bracket at an index is closed."""
+        """The index at which the bracket at an index is closed."""
         ends = []
         for i in range(at, len(self.tokens)):
             if self.word(i) in BRACKETS:
@@ -85,7 +85,7 @@ class Source:
         return self.refuse(at, "a bracket isn't closed")
 
     def find(self, at, *texts):
-        """The next of these tokens outside of brackets, from an index on."""
+        """The index of the next of these tokens outside of brackets, from an index on."""
         while self.word(at) not in texts:
             if self.tokens[at].kind == "end":
                 self.refuse(at, f"the file ends before one of {' '.join(texts)}")
@@ -93,7 +93,7 @@ class Source:
         return at
 
     def find_back(self, at, *texts):
-        """The last of these tokens before an index."""
+        """The index of the last of these tokens up to an index."""
         start = at
         while self.word(at) not in texts:
             at -= 1
@@ -102,7 +102,7 @@ class Source:
         return at
 
     def erase(self, first, end):
-        """Erases the tokens from one on and before another, which keeps the place of the first."""
+        """Erases the tokens from `first` to before `end`; the white space before `first` stays."""
         self.tokens[end].lead = self.tokens[first].lead
         del self.tokens[first:end]
 
@@ -113,7 +113,7 @@ class Source:
         del self.tokens[first:end]
 
     def replace(self, first, end, *texts):
-        """Puts words and marks in the place of the tokens from one on and before another."""
+        """Replaces the tokens from `first` to before `end` by words and marks."""
         before = self.tokens[first]
         made = [Token("word" if text[0].isalpha() else "mark", text, "", before.line) for text in texts]
         made[0].lead = before.lead
@@ -128,7 +128,7 @@ class Source:
         self.tokens.insert(at, Token("word", text, front, self.tokens[at].line))
 
     def text(self):
-        """The text of what is left, without the empty lines that erased items leave, its imports in order."""
+        """The text of the remaining tokens, without the empty lines of erased items, with its imports in order."""
         made, before = [], "{"
         for token in self.tokens:
             made += [tidy_lead(token.lead, before, token.text), token.text]
@@ -152,7 +152,7 @@ def tidy_lead(lead, before, after):
 
 
 def in_order(imports):
-    """Imports as rustfmt puts them."""
+    """The imports in the order of rustfmt."""
     lines = re.findall(r"use [^;]+;\n", imports[0])
     ranks = {line: [line.startswith(front) for front in FRONTS] for line in lines}
     return "".join(sorted(lines, key=lambda line: ([not is_there for is_there in ranks[line]], line)))

@@ -1,4 +1,4 @@
-"""The workspace of plain Rust: the crate of the reader, and below it those of the C library and of the command."""
+"""The workspace of plain Rust: the crate of the reader, and below it the crates of the C library and of the command."""
 
 import filecmp
 import shutil
@@ -14,10 +14,10 @@ from .source import Unknown
 # the members below the root, each in a folder of its name
 C_LIBRARY, COMMAND = "hayro-cmap-c", "cmap"
 MEMBERS = {C_LIBRARY: write_c_library, COMMAND: write_command}
-# which crates of others the command was tested with
+# the versions of other crates with which the command was tested
 LOCK = COMMAND_BY_HAND / "Cargo.lock"
-# how members are built: the library for its speed, the command by all processors. Code without `std` can't unwind, and
-# without LTO it names what unwinds
+# the library is built for speed, the command by all processors; code without `std` can't unwind, and without LTO it
+# refers to the code that unwinds
 PROFILES = f"""
 [profile.dev]
 panic = "abort"
@@ -29,7 +29,7 @@ panic = "abort"
 [profile.release.package.{C_LIBRARY}]
 codegen-units = 1
 """
-# proofs give `usize` 64 bits: where it has 32, a sum that overflows ends the program
+# `usize` has 64 bits in proofs; if it has 32, a sum that overflows ends the program
 CONFIGURATION = """\
 [target.'cfg(target_pointer_width = "32")']
 rustflags = ["-Coverflow-checks=on"]
@@ -46,7 +46,7 @@ def write_workspace(out, members=tuple(MEMBERS)):
 
 
 def renew_workspace(out, members):
-    """Makes the workspace in a folder that may have it: a file that is as before stays, so that cargo builds the rest."""
+    """Makes the workspace anew in a folder; unchanged files stay, so that cargo builds only the others."""
     with tempfile.TemporaryDirectory() as work:
         made = Path(work) / "made"
         write_workspace(made, members)
@@ -66,7 +66,7 @@ def write_alone(out, name):
 
 
 def write_all(out, writers, members):
-    """Writes crates into a new folder and the folders of these names below it; nothing where a construct is unknown."""
+    """Writes crates into a new folder and folders of these names below it; removes all if a construct is unknown."""
     try:
         for name, write in writers.items():
             write(out / name)

@@ -13,7 +13,7 @@ def of_212(code: bytes) -> Optional[bytes]:
     return code if len(code) == 3 else None
 
 
-#: What is taken of the code of a codec.
+#: The functions that take a code of a CMap from the code of a codec.
 PARTS: Dict[str, Callable[[bytes], Optional[bytes]]] = {"94": in_94, "212": of_212, "212-94": lambda code: in_94(code[1:])}
 #: The codec of a CMap without its writing mode, and the part of it.
 CODECS = {
@@ -27,7 +27,8 @@ CODECS = {
 }
 #: The CMaps, without writing modes, of character sets with forms of JIS C 6226-1978 that its later editions replaced.
 OF_1978 = {"78", "78-EUC", "78-RKSJ", "78ms-RKSJ", "Add", "Add-RKSJ", "Ext", "Ext-RKSJ", "NWP"}
-#: Where `big5` and `cp950` have the kana and Cyrillic letters of Unicode's old BIG5.TXT, and CMaps what vendors put there.
+#: The codes at which `big5` and `cp950` have kana and Cyrillic letters of Unicode's old BIG5.TXT, and CMaps those of
+#: vendors.
 BIG5_TXT = range(0xC6A1, 0xC8FF)
 UNICODE = {"UCS2": "utf-16-be", "UTF16": "utf-16-be", "UTF32": "utf-32-be", "UTF8": "utf-8"}
 

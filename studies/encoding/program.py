@@ -1,4 +1,4 @@
-"""The strings that `cmap encode` gives for texts, by the CMap resources of a folder."""
+"""The strings that `cmap encode` gives for texts, with the CMap resources of a folder."""
 
 import os
 import subprocess

@@ -1,4 +1,4 @@
--- What a run over many files counts.
+-- The counts of a run over many files.
 use Rattle.std.specs.Prelude.{◌≡◌, ◌⊎◌, Bool, true, false, ℕ, ◌<◌}
 use Rattle.cmap_escape.specs.Counts.{counted, number_seen}
 use Rattle.cmap_files.specs.Statuses as statuses
@@ -22,14 +22,14 @@ abbrev pub one_more : Bool → ℕ → ℕ
 one_more true number = counted number 1
 one_more false number = number
 
--- the counts after a file that is refused or not, and of which a warning is denied or not
+-- the counts after a file that is refused or not, and that has a denied warning or not
 abbrev pub with_file : Bool → Bool → Counts → Counts
 with_file is_refused is_denied counts = record { checked = counted counts.checked 1; refused = one_more is_refused counts.refused; denied = one_more is_denied counts.denied; unreadable = counts.unreadable }
 
 abbrev pub with_unreadable : Counts → Counts
 with_unreadable counts = record { checked = counts.checked; refused = counts.refused; denied = counts.denied; unreadable = counted counts.unreadable 1 }
 
--- failed where a path can't be read, else refused where a file is refused or a warning denied, else accepted
+-- the status is failed if a path can't be read, else refused if a file is refused or a warning is denied, else accepted
 abbrev pub IsStatus : Counts → ℕ → Type 0
 IsStatus counts status = ((0 < counts.unreadable) × (status ≡ statuses.failed))
     ⊎ ((counts.unreadable ≡ 0) × ((0 < counts.refused) ⊎ (0 < counts.denied)) × (status ≡ statuses.refused))

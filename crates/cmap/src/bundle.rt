@@ -5,7 +5,7 @@ use crate::command_line::flags::{NAME, OUTPUT, VERIFY};
 use clap::ArgMatches;
 use cmap_bundle::command::BundleOptions;
 
-/// What the arguments of `bundle` ask for. `clap` refuses them without a path for the bundle.
+/// The parsed arguments of `bundle`. `clap` refuses arguments without a path for the bundle.
 pub(crate) fn bundle_options<'m, 'w>(arguments: &'m ArgMatches<'w>) -> BundleOptions<'m, 'w> {
     BundleOptions {
         output: OUTPUT.text(arguments).unwrap_or(""),

@@ -1,4 +1,4 @@
-//! `cmap check`: which files are refused, and what looks wrong in the others.
+//! `cmap check`: the faults of refused files, and the warnings about accepted files.
 
 mod files;
 mod printed;
@@ -19,7 +19,7 @@ use cmap_files::paths::PathList;
 use cmap_sources::bases::Bases;
 use cmap_sources::reading::{Faults, Form, MOST_FAULTS, Manner};
 
-/// What the arguments of `check` ask for, and where files are looked up by their names.
+/// The parsed arguments of `check`, and the places where files are looked up by their names.
 #[derive(Clone, Copy)]
 pub(crate) struct Checking<'m, 'w> {
     options: CheckOptions<'m, 'w>,
@@ -44,7 +44,7 @@ impl<'m, 'w> Checking<'m, 'w> {
         }
     }
 
-    /// Does what the arguments ask for, and gives the status.
+    /// Runs `check`, and returns the exit status.
     pub(crate) fn run(&self, rt: &HostRuntime, bases: &mut Bases<'_>) -> Result<u8, Failure> {
         check(rt, &self.options, bases)
     }

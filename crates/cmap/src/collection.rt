@@ -9,16 +9,17 @@ use cmap_unicode::{collection_name, unicode_name};
 use hayro_cmap::{CMap, Layers, WritingMode};
 use std::alloc::{AllocError, Global};
 
-/// What comes after the name of a collection in that of its CMap to Unicode.
+/// The suffix after the name of a collection in the name of its CMap to Unicode.
 const UCS2: &str = "-UCS2";
 
-/// How the name of a CMap begins whose codes are Unicode.
+/// The prefix of the names of CMaps whose codes are Unicode.
 const UNI: &[u8] = b"Uni";
 
-/// What the collection of a ToUnicode CMap ends with, whose codes have no CIDs.
+/// The suffix of the collection of a ToUnicode CMap. The codes of a ToUnicode CMap have no CIDs.
 const UNICODE: &str = "-UCS";
 
-/// The name of the character collection of an encoding, as `Adobe-Japan1`: of the first of its layers that has one.
+/// The name of the character collection of an encoding, such as `Adobe-Japan1`: the collection of the first layer that
+/// has one.
 pub(crate) fn declared_collection(
     alloc: Global,
     encoding: &Layers,

@@ -15,13 +15,13 @@ use std::alloc::{AllocError, Global};
 /// The id of files and folders.
 const FILE: &str = "FILE";
 
-/// The id of the file that another one is compared with.
+/// The id of the file with which another file is compared.
 const OTHER: &str = "OTHER";
 
 /// The id of other arguments, after a file.
 const ARGUMENT: &str = "ARGUMENT";
 
-/// What the command line says of a subcommand.
+/// The name, the help and the arguments of a subcommand.
 struct Form {
     name: &'static str,
     about: &'static str,
@@ -29,7 +29,7 @@ struct Form {
     flags: &'static [Flag],
     /// Its first arguments, each one file.
     files: &'static [FileArgument],
-    /// Its other arguments. `list`, `write`, `repair` and `make` have none.
+    /// Its other arguments. `list`, `diff`, `write`, `repair` and `make` have none.
     arguments: Option<Arguments>,
 }
 
@@ -50,14 +50,14 @@ const CMAP_FILE: FileArgument = FileArgument {
     help: "A CMap file, by its path or its name; - is the standard input",
 };
 
-/// The file that `diff` compares with another one.
+/// The second file of `diff`, with which the first file is compared.
 const OTHER_FILE: FileArgument = FileArgument {
     id: OTHER,
     value_name: "OTHER",
     help: "The CMap file that it is compared with",
 };
 
-/// The file of which `make` makes one.
+/// The table from which `make` makes a file.
 const TABLE: FileArgument = FileArgument {
     id: FILE,
     value_name: "TABLE",
@@ -122,7 +122,7 @@ const TEXTS: Arguments = Arguments {
     help: "Texts; - reads one from each line of the standard input",
 };
 
-/// The subcommands that say what files are.
+/// The subcommands about whole files.
 const OF_FILES: &[Form] = &[
     Form {
         name: "info",
@@ -312,7 +312,7 @@ pub(crate) fn command<'a>(alloc: Global) -> Result<Command<'a>, AllocError> {
     add_writing(alloc, command)
 }
 
-// A list of subcommands takes many steps to check, so each has a function of its own.
+// A list of subcommands takes many steps to check, so each list has its own function.
 fn add_of_files<'a>(alloc: Global, command: Command<'a>) -> Result<Command<'a>, AllocError> {
     add_forms(alloc, command, OF_FILES)
 }
@@ -407,12 +407,12 @@ impl FileArgument {
     }
 }
 
-/// The files among the arguments. For `check` and `bundle` also the folders.
+/// The files among the arguments; for `check` and `bundle`, also the folders.
 pub(crate) fn files_of<'m, 'w>(arguments: &'m ArgMatches<'w>) -> &'m [&'w str] {
     values_of(arguments, FILE)
 }
 
-/// The first file. `clap` refuses arguments without the file of a subcommand that has one.
+/// The first file. `clap` refuses arguments without a file if the subcommand has a file argument.
 pub(crate) fn file_of<'w>(arguments: &ArgMatches<'w>) -> &'w str {
     files_of(arguments)
         .first()
@@ -420,12 +420,13 @@ pub(crate) fn file_of<'w>(arguments: &ArgMatches<'w>) -> &'w str {
         .unwrap_or(STANDARD_INPUT)
 }
 
-/// The file that the first one is compared with, by `diff` alone. `clap` refuses `diff` without it.
+/// The file with which `diff` compares the first file. Only `diff` has this argument, and `clap`
+/// refuses `diff` without it.
 pub(crate) fn other_of<'w>(arguments: &ArgMatches<'w>) -> Option<&'w str> {
     arguments.get_str(OTHER)
 }
 
-/// The arguments after the file: strings, codes, or what `find` looks for.
+/// The arguments after the file: strings, texts, codes, or the conditions of `find`.
 pub(crate) fn arguments_of<'m, 'w>(arguments: &'m ArgMatches<'w>) -> &'m [&'w str] {
     values_of(arguments, ARGUMENT)
 }

@@ -1,4 +1,4 @@
-//! `cmap decode`: the codes of strings, and what they stand for.
+//! `cmap decode`: the codes of strings, with their CIDs and texts.
 
 use crate::font::{StringOptions, font_and_strings};
 use cmap_files::failure::Failure;
@@ -7,7 +7,7 @@ use cmap_report::decode::{push_codes, push_json};
 use cmap_sources::bases::Bases;
 use cmap_unicode::Extractor;
 
-/// Prints the codes of each string, and gives the status.
+/// Prints the codes of each string, and returns the exit status.
 pub(crate) fn decode(
     rt: &HostRuntime,
     options: &StringOptions<'_, '_>,

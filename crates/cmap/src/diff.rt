@@ -15,7 +15,7 @@ use cmap_sources::reading::Manner;
 use hayro_cmap::CMap;
 use std::alloc::{AllocError, Global};
 
-/// What the arguments of `diff` ask for.
+/// The parsed arguments of `diff`.
 #[derive(Clone, Copy)]
 pub(crate) struct DiffOptions<'m, 'w> {
     left: &'w str,
@@ -37,8 +37,8 @@ impl<'m, 'w> DiffOptions<'m, 'w> {
     }
 }
 
-/// Prints what two files state and what codes have in them, where they differ, and gives the status. A file that is
-/// refused is a failure, unlike with other subcommands, since status 1 says that the files differ.
+/// Prints the differences between two files in metadata and in the values of codes, and returns the exit status.
+/// Unlike with other subcommands, a refused file is a failure, since status 1 means that the files differ.
 pub(crate) fn diff(
     rt: &HostRuntime,
     options: &DiffOptions<'_, '_>,
@@ -74,7 +74,7 @@ fn printed(alloc: Global, left: &CMap, right: &CMap, json: bool) -> Result<Strin
     Ok(printed)
 }
 
-/// Adds what the files state.
+/// Adds the differences in metadata.
 fn push_statements(
     alloc: Global,
     printed: &mut String,
@@ -91,7 +91,7 @@ fn push_statements(
     Ok(())
 }
 
-/// Adds what codes have.
+/// Adds the differences in the values of codes.
 fn push_lines(
     alloc: Global,
     printed: &mut String,

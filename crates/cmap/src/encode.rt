@@ -11,11 +11,11 @@ use cmap_files::status::{ACCEPTED, REFUSED};
 use cmap_report::encode::{Asked, push_pieces, push_string_json, push_string_line, string_of};
 use cmap_sources::bases::Bases;
 
-/// What the arguments of `encode` ask for.
+/// The parsed arguments of `encode`.
 #[derive(Clone, Copy)]
 pub(crate) struct EncodeOptions<'m, 'w> {
     pub(crate) of_texts: StringOptions<'m, 'w>,
-    /// What stands for a character that can't be shown, in hexadecimal digits.
+    /// The bytes that stand for a character that can't be shown, in hexadecimal digits.
     missing: Option<&'w str>,
     /// Whether codes have to be read as the pieces for which they stand.
     is_exact: bool,
@@ -34,7 +34,7 @@ impl<'m, 'w> EncodeOptions<'m, 'w> {
     }
 }
 
-/// Prints the string of each text. The status says whether each text has one.
+/// Prints the string of each text. The status states whether each text has a string.
 pub(crate) fn encode(
     rt: &HostRuntime,
     options: &EncodeOptions<'_, '_>,
@@ -70,7 +70,7 @@ fn missing_of(
     }
 }
 
-/// Refuses such bytes that would change how the codes after them are read.
+/// Refuses bytes for missing characters that would change how the codes after them are read.
 fn check_missing(
     rt: &HostRuntime,
     options: &EncodeOptions<'_, '_>,
@@ -85,7 +85,7 @@ fn check_missing(
     }
 }
 
-/// What is needed for the string of a text.
+/// The encoder and the options for printing the strings of texts.
 #[derive(Drop)]
 struct Printer {
     encoder: Encoder,
@@ -108,7 +108,7 @@ impl Printer {
         Ok(status)
     }
 
-    /// Prints the string of a text, and gives whether it shows the whole text.
+    /// Prints the string of a text. The result states whether the string shows the whole text.
     fn print_string(&self, rt: &HostRuntime, text: &str) -> Result<bool, Failure> {
         let asked = Asked {
             missing: self.missing.as_deref(),
@@ -130,7 +130,7 @@ impl Printer {
     }
 }
 
-/// Reports how much of a text strings show.
+/// Reports the offset past which no string shows a text.
 fn report_stop(rt: &HostRuntime, text: &str, offset: usize) -> Result<bool, Failure> {
     let mut shown = String::new(rt.alloc());
     push_path(&mut shown, text)?;

@@ -10,7 +10,8 @@ use cmap_sources::bases::Bases;
 use cmap_unicode::Extractor;
 use std::alloc::{AllocError, Global};
 
-/// Prints the codes that each argument asks for. The status says whether there are codes for each.
+/// Prints the codes that each argument asks for. The status states whether there are codes for each
+/// argument.
 pub(crate) fn find(
     rt: &HostRuntime,
     options: &StringOptions<'_, '_>,
@@ -31,7 +32,7 @@ pub(crate) fn find(
     Ok(if are_found { ACCEPTED } else { REFUSED })
 }
 
-/// Adds the lines of all arguments, and gives whether there are codes for each.
+/// Adds the lines of all arguments. The result states whether there are codes for each argument.
 fn push_all(
     alloc: Global,
     lines: &mut String,
@@ -50,7 +51,7 @@ fn push_all(
     Ok(are_found)
 }
 
-/// What the arguments ask for, each with its argument.
+/// The conditions of the arguments, each with its argument.
 fn wanted_of<'w>(
     rt: &HostRuntime,
     arguments: &[&'w str],

@@ -16,16 +16,16 @@ use cmap_sources::reading::Manner;
 use cmap_unicode::{Extractor, simple_encoding};
 use hayro_cmap::{CMap, Layers};
 
-/// What the arguments of `find`, `decode`, `text` and `encode` ask for.
+/// The parsed arguments of `find`, `decode`, `text` and `encode`.
 #[derive(Clone, Copy)]
 pub(crate) struct StringOptions<'m, 'w> {
     file: &'w str,
     to_unicode: Option<&'w str>,
-    /// The character collection of the font's CIDs, in the place of the one that the file names.
+    /// The character collection of the font's CIDs, in place of the collection that the file names.
     collection: Option<&'w str>,
     /// Whether the file is the ToUnicode CMap of a simple font.
     is_simple: bool,
-    /// Strings in hexadecimal digits; of `encode`, texts; of `find`, `cid:N` and `text:TEXT`.
+    /// Strings in hexadecimal digits; for `encode`, texts; for `find`, `cid:N` and `text:TEXT`.
     pub(crate) strings: &'m [&'w str],
     pub(crate) sources: Sources<'m, 'w>,
     manner: Manner,
@@ -49,7 +49,7 @@ impl<'m, 'w> StringOptions<'m, 'w> {
         }
     }
 
-    /// The same of `decode` and `text`, which may show texts in the characters that are usually written.
+    /// The parsed arguments of `decode` and `text`, which may show texts in the characters that are usually written.
     pub(crate) fn of_shown(arguments: &'m ArgMatches<'w>) -> StringOptions<'m, 'w> {
         let mut options = StringOptions::of(arguments);
         if FOLD.is_given(arguments) {
@@ -62,20 +62,20 @@ impl<'m, 'w> StringOptions<'m, 'w> {
 /// The CMaps of a font.
 #[derive(Drop)]
 pub(crate) struct Font {
-    /// Its encoding; of a simple font, its ToUnicode CMap.
+    /// The encoding of the font; for a simple font, its ToUnicode CMap.
     file: CMap,
     /// The codes of a simple font.
     one_byte: Option<Layers>,
-    /// Its ToUnicode CMap, if that is another file.
+    /// The ToUnicode CMap of the font, if it is another file.
     to_unicode: Option<CMap>,
-    /// The name of the character collection of its CIDs.
+    /// The name of the character collection of the font's CIDs.
     collection: Option<String>,
-    /// From the CIDs of the collection to Unicode.
+    /// The CMap from the CIDs of the collection to Unicode.
     texts: Option<CMap>,
 }
 
 impl Font {
-    /// Its codes, with their CIDs.
+    /// The codes of the font, with their CIDs.
     fn encoding(&self) -> &Layers {
         match &self.one_byte {
             Some(codes) => codes,
@@ -83,7 +83,7 @@ impl Font {
         }
     }
 
-    /// Reads strings by these CMaps. Without a ToUnicode CMap, the encoding gives the texts.
+    /// The extractor that reads strings by these CMaps. Without a ToUnicode CMap, the encoding gives the texts.
     pub(crate) fn extractor(&self) -> Extractor<'_> {
         let to_unicode = match &self.to_unicode {
             Some(map) => map,
@@ -100,7 +100,8 @@ impl Font {
         }
     }
 
-    /// The CMap of its collection from Unicode, if a file has its name. An encoding whose codes are Unicode needs none.
+    /// The CMap from Unicode of the font's collection, if a file has its name. An encoding whose codes are Unicode
+    /// needs no such CMap.
     pub(crate) fn from_unicode(
         &self,
         rt: &HostRuntime,
@@ -120,8 +121,8 @@ impl Font {
         )
     }
 
-    /// The layers that choose the glyphs of characters: those of the encoding itself if its codes are Unicode, or else
-    /// those of this map.
+    /// The layers that choose the glyphs of characters: the layers of this map, or of the encoding itself if its codes
+    /// are Unicode.
     pub(crate) fn glyphs<'m>(&'m self, from_unicode: &'m Option<CMap>) -> Option<&'m Layers> {
         let encoding = self.encoding();
         match from_unicode {
@@ -131,7 +132,7 @@ impl Font {
         }
     }
 
-    /// Reports that no file has the CMap of the collection to Unicode, if none has. That may be why a code has no text.
+    /// Reports if no file has the CMap of the collection to Unicode. A code may have no text for this reason.
     pub(crate) fn report_missing(
         &self,
         rt: &HostRuntime,
@@ -144,7 +145,7 @@ impl Font {
         report_message(rt, unknown_name(rt, name.as_str(), bases))
     }
 
-    /// The same where the arguments name the collection.
+    /// Reports if no file has the CMap to Unicode of a collection that the arguments name.
     pub(crate) fn report_unknown(
         &self,
         rt: &HostRuntime,
@@ -180,7 +181,7 @@ pub(crate) fn font_and_texts(
     Ok((font, texts))
 }
 
-/// The CMaps that the arguments ask for, with that of the collection if it is found.
+/// The CMaps that the arguments ask for, with the CMap of the collection to Unicode if it is found.
 pub(crate) fn font_of(
     rt: &HostRuntime,
     options: &StringOptions<'_, '_>,

@@ -1,4 +1,4 @@
-//! `cmap info`: what files say.
+//! `cmap info`: the metadata and the numbers of declarations of files.
 
 use crate::command_line::files_of;
 use crate::command_line::flags::JSON;
@@ -15,10 +15,10 @@ use cmap_sources::uses::uses_by_layer;
 use hayro_cmap::CMap;
 use std::alloc::{AllocError, Global};
 
-/// What the arguments of `info` ask for.
+/// The parsed arguments of `info`.
 #[derive(Clone, Copy)]
 pub(crate) struct InfoOptions<'m, 'w> {
-    /// The files. If there are none, the bundle is meant.
+    /// The files. Without files, the contents of the bundle are printed.
     files: &'m [&'w str],
     pub(crate) sources: Sources<'m, 'w>,
     manner: Manner,
@@ -36,7 +36,8 @@ impl<'m, 'w> InfoOptions<'m, 'w> {
     }
 }
 
-/// Prints what each file says, or what the bundle holds, and gives the status.
+/// Prints the information about each file, or the contents of the bundle, and returns the exit
+/// status.
 pub(crate) fn info(
     rt: &HostRuntime,
     options: &InfoOptions<'_, '_>,
@@ -49,7 +50,7 @@ pub(crate) fn info(
     }
 }
 
-/// Prints what the bundle holds. `clap` refuses `info` without a file and without a bundle.
+/// Prints the contents of the bundle. `clap` refuses `info` without a file and without a bundle.
 fn info_of_bundle(
     rt: &HostRuntime,
     options: &InfoOptions<'_, '_>,
@@ -62,7 +63,7 @@ fn info_of_bundle(
     Ok(ACCEPTED)
 }
 
-/// Prints what each file says.
+/// Prints the information about each file.
 fn info_of_files(
     rt: &HostRuntime,
     options: &InfoOptions<'_, '_>,
@@ -78,7 +79,7 @@ fn info_of_files(
     Ok(status)
 }
 
-/// Prints what a file says.
+/// Prints the information about a file.
 fn info_of(
     rt: &HostRuntime,
     path: &str,
@@ -111,7 +112,7 @@ fn print_info(
     Ok(ACCEPTED)
 }
 
-/// What a file says, whose map this is.
+/// The lines about a file with this map.
 fn lines_of(
     alloc: Global,
     input: Input<'_>,

@@ -1,4 +1,4 @@
-//! `cmap list`: what a file and those that it is based on declare.
+//! `cmap list`: the declarations of a file and of the files that it is based on.
 
 use crate::command_line::file_of;
 use crate::command_line::flags::{EFFECTIVE, JSON};
@@ -16,14 +16,14 @@ use cmap_sources::reading::Manner;
 use hayro_cmap::{CMap, Layer};
 use std::alloc::{AllocError, Global};
 
-/// What the arguments of `list` ask for.
+/// The parsed arguments of `list`.
 #[derive(Clone, Copy)]
 pub(crate) struct ListOptions<'m, 'w> {
     file: &'w str,
     pub(crate) sources: Sources<'m, 'w>,
     manner: Manner,
     json: bool,
-    /// Whether to print what codes have over all layers, in place of what each layer declares.
+    /// Whether the values of codes over all layers are printed, in place of the declarations of each layer.
     is_effective: bool,
 }
 
@@ -39,7 +39,7 @@ impl<'m, 'w> ListOptions<'m, 'w> {
     }
 }
 
-/// Prints each declaration, layer by layer, or what codes have over all layers, and gives the status.
+/// Prints each declaration, layer by layer, or the values of codes over all layers, and returns the exit status.
 pub(crate) fn list(
     rt: &HostRuntime,
     options: &ListOptions<'_, '_>,
@@ -63,7 +63,7 @@ fn lines_of(
     }
 }
 
-/// What codes have over all layers.
+/// The values of codes over all layers.
 fn effective(alloc: Global, map: &CMap, json: bool) -> Result<String, AllocError> {
     let mut printed = String::new(alloc);
     if !json {
@@ -74,7 +74,7 @@ fn effective(alloc: Global, map: &CMap, json: bool) -> Result<String, AllocError
     Ok(printed)
 }
 
-/// The declarations. Each layer but the top one has its number over them, and each its metadata.
+/// The declarations of each layer after its metadata. Each layer except the top layer has its number above them.
 fn declared(alloc: Global, map: &CMap, json: bool) -> Result<String, AllocError> {
     let mut printed = String::new(alloc);
     let layers = lines_by_layer(alloc, map)?;
@@ -88,7 +88,7 @@ fn declared(alloc: Global, map: &CMap, json: bool) -> Result<String, AllocError>
     Ok(printed)
 }
 
-/// Adds the number of a layer, but of the top one, and its metadata.
+/// Adds the number of a layer, except for the top layer, and its metadata.
 fn push_heading(
     printed: &mut String,
     number: usize,

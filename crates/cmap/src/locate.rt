@@ -15,7 +15,7 @@ use cmap_sources::bases::Bases;
 use cmap_sources::maps::unknown_name;
 use std::alloc::{AllocError, Global};
 
-/// What the arguments of `where` ask for.
+/// The parsed arguments of `where`.
 #[derive(Clone, Copy)]
 pub(crate) struct LocateOptions<'m, 'w> {
     names: &'m [&'w str],
@@ -33,7 +33,7 @@ impl<'m, 'w> LocateOptions<'m, 'w> {
     }
 }
 
-/// Prints the path of the file that each argument stands for, and gives the status.
+/// Prints the path of the file that each argument stands for, and returns the exit status.
 pub(crate) fn locate(
     rt: &HostRuntime,
     options: &LocateOptions<'_, '_>,
@@ -52,7 +52,7 @@ pub(crate) fn locate(
     Ok(status)
 }
 
-/// The path of the file that an argument stands for. For a file of the bundle it is the path of the bundle.
+/// The path of the file that an argument stands for. The path of a file in the bundle is the path of the bundle.
 fn path_of(
     rt: &HostRuntime,
     argument: &str,

@@ -14,7 +14,7 @@ use cmap_sources::reading::Manner;
 use hayro_cmap::CMap;
 use std::alloc::{AllocError, Global};
 
-/// What the arguments of `lookup` ask for.
+/// The parsed arguments of `lookup`.
 #[derive(Clone, Copy)]
 pub(crate) struct LookupOptions<'m, 'w> {
     file: &'w str,
@@ -37,7 +37,7 @@ impl<'m, 'w> LookupOptions<'m, 'w> {
     }
 }
 
-/// Prints the answer to each query, and gives the status.
+/// Prints the answer to each query, and returns the exit status.
 pub(crate) fn lookup(
     rt: &HostRuntime,
     options: &LookupOptions<'_, '_>,

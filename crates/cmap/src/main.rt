@@ -1,4 +1,4 @@
-//! The command `cmap`: what is in a CMap file, where it is wrong, and what a string says.
+//! The command `cmap`: the contents and the faults of CMap files, and the texts of strings.
 #![tactic(auto)]
 
 mod bundle;
@@ -55,7 +55,7 @@ fn run(rt: &HostRuntime) -> Result<u8, Failure> {
     }
 }
 
-/// Does what the arguments ask for, and gives the status.
+/// Runs the subcommand of the arguments, and returns the exit status.
 fn run_arguments(rt: &HostRuntime, matches: &ArgMatches<'_>) -> Result<u8, Failure> {
     let Some((name, arguments)) = matches.subcommand() else {
         return Ok(FAILED);
@@ -86,7 +86,7 @@ fn run_subcommand(
     }
 }
 
-/// Runs the subcommand with a bundle, or without one.
+/// Runs the subcommand with a bundle, or without a bundle.
 fn run_with(
     rt: &HostRuntime,
     subcommand: &Subcommand<'_, '_>,
@@ -97,7 +97,7 @@ fn run_with(
     run_over(rt, subcommand, sources, &mut bases)
 }
 
-/// Adds the folders to the bases, and runs the subcommand over them.
+/// Adds the folders to the bases, and runs the subcommand over the bases.
 fn run_over(
     rt: &HostRuntime,
     subcommand: &Subcommand<'_, '_>,

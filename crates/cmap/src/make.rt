@@ -5,7 +5,7 @@ use crate::command_line::flags::{CMAP_NAME, COLLECTION, TEXT_OUTPUT, USE, VERTIC
 use clap::ArgMatches;
 use cmap_rewrite::make::MakeOptions;
 
-/// What the arguments of `make` ask for. `clap` refuses them without a path for the file.
+/// The parsed arguments of `make`. `clap` refuses arguments without a path for the file.
 pub(crate) fn make_options<'m, 'w>(arguments: &'m ArgMatches<'w>) -> MakeOptions<'m, 'w> {
     MakeOptions {
         table: file_of(arguments),

@@ -12,7 +12,7 @@ use cmap_files::inputs::STANDARD_INPUT;
 use cmap_sources::bases::Bases;
 use cmap_sources::reading::{Faults, Form, MOST_FAULTS, Manner};
 
-/// Where files are looked up by their names.
+/// The places where files are looked up by their names.
 #[derive(Clone, Copy)]
 pub(crate) struct Sources<'m, 'w> {
     /// The folders of `--base`.
@@ -32,7 +32,7 @@ impl<'m, 'w> Sources<'m, 'w> {
         }
     }
 
-    /// Nowhere, for a subcommand that looks up no names.
+    /// No places, for a subcommand that looks up no names.
     pub(crate) fn nowhere() -> Sources<'m, 'w> {
         Sources {
             bases: &[],
@@ -41,7 +41,7 @@ impl<'m, 'w> Sources<'m, 'w> {
         }
     }
 
-    /// Adds the folders to the bases.
+    /// Adds the folders of these sources to the bases.
     pub(crate) fn add_folders(
         &self,
         rt: &HostRuntime,
@@ -54,7 +54,7 @@ impl<'m, 'w> Sources<'m, 'w> {
     }
 }
 
-/// How files are read, by all subcommands but `check`.
+/// The way in which all subcommands but `check` read files.
 pub(crate) fn manner_of(arguments: &ArgMatches<'_>) -> Manner {
     Manner {
         budget: BUDGET.number(arguments),
@@ -86,7 +86,7 @@ pub(crate) fn asks_twice_for_standard_input(arguments: &ArgMatches<'_>) -> bool 
     count.get() > 1
 }
 
-/// Adds how many arguments ask for the standard input, which are spelled so.
+/// Counts the arguments that ask for the standard input by this spelling.
 fn add_asking(count: &mut Count, arguments: &[&str], spelled: &str) {
     for argument in arguments {
         if *argument == spelled {
@@ -95,7 +95,7 @@ fn add_asking(count: &mut Count, arguments: &[&str], spelled: &str) {
     }
 }
 
-/// Adds how many arguments `NAME=FILE` ask for the standard input.
+/// Counts the arguments `NAME=FILE` that ask for the standard input.
 fn add_named(count: &mut Count, arguments: &[&str]) {
     for argument in arguments {
         if let Some((_, STANDARD_INPUT)) = argument.split_once('=') {

@@ -10,8 +10,8 @@ use cmap_rewrite::command::{Change, RewriteOptions, rewrite};
 use cmap_sources::bases::Bases;
 use cmap_sources::reading::{Faults, Form, MOST_FAULTS, Manner};
 
-/// What the arguments ask for, and where files are looked up by their names. `clap` refuses them without a path for
-/// the text.
+/// The parsed arguments, and the places where files are looked up by their names. `clap` refuses arguments without a
+/// path for the text.
 #[derive(Clone, Copy)]
 pub(crate) struct Rewriting<'m, 'w> {
     options: RewriteOptions<'m, 'w>,
@@ -19,7 +19,7 @@ pub(crate) struct Rewriting<'m, 'w> {
 }
 
 impl<'m, 'w> Rewriting<'m, 'w> {
-    /// Of `write`.
+    /// The parsed arguments of `write`.
     pub(crate) fn writing(arguments: &'m ArgMatches<'w>) -> Rewriting<'m, 'w> {
         Rewriting {
             options: RewriteOptions {
@@ -45,7 +45,7 @@ impl<'m, 'w> Rewriting<'m, 'w> {
         }
     }
 
-    /// Of `repair`.
+    /// The parsed arguments of `repair`.
     pub(crate) fn repairing(arguments: &'m ArgMatches<'w>) -> Rewriting<'m, 'w> {
         Rewriting {
             options: RewriteOptions {
@@ -67,7 +67,7 @@ impl<'m, 'w> Rewriting<'m, 'w> {
         }
     }
 
-    /// Does what the arguments ask for, and gives the status.
+    /// Runs `write` or `repair`, and returns the exit status.
     pub(crate) fn run(&self, rt: &HostRuntime, bases: &mut Bases<'_>) -> Result<u8, Failure> {
         let strings = listed_strings(rt, self.options.codes)?;
         rewrite(rt, &self.options, &strings, bases)

@@ -8,10 +8,10 @@ use std::str;
 /// The argument of `--codes` that stands for the strings of the standard input.
 pub(crate) const LISTED_STANDARD_INPUT: &str = "@-";
 
-/// What is wrong with a text.
+/// The message about a text that isn't UTF-8.
 pub(crate) const NOT_UTF8: &str = "not UTF-8";
 
-/// The strings of the arguments; `-` stands for those of the standard input.
+/// The strings of the arguments; `-` stands for the strings on the standard input.
 pub(crate) fn strings_of(rt: &HostRuntime, arguments: &[&str]) -> Result<Vec<Vec<u8>>, Failure> {
     let mut strings = Vec::new(rt.alloc());
     for argument in arguments {
@@ -24,7 +24,7 @@ pub(crate) fn strings_of(rt: &HostRuntime, arguments: &[&str]) -> Result<Vec<Vec
     Ok(strings)
 }
 
-/// The strings of `--codes`; `@LIST` stands for those of a file.
+/// The strings of `--codes`; `@LIST` stands for the strings in a file.
 pub(crate) fn listed_strings(
     rt: &HostRuntime,
     arguments: &[&str],
@@ -66,7 +66,7 @@ fn add_lines(rt: &HostRuntime, path: &str, texts: &mut Vec<String>) -> Result<()
     Ok(())
 }
 
-/// Adds the strings of a file, between which white space stands.
+/// Adds the strings of a file, which are separated by white space.
 fn add_list(rt: &HostRuntime, path: &str, strings: &mut Vec<Vec<u8>>) -> Result<(), Failure> {
     let bytes = needed(rt, path)?;
     let Ok(text) = str::from_utf8(&bytes) else {
@@ -78,7 +78,7 @@ fn add_list(rt: &HostRuntime, path: &str, strings: &mut Vec<Vec<u8>>) -> Result<
     Ok(())
 }
 
-/// The bytes that hexadecimal digits spell, two for each.
+/// The bytes that hexadecimal digits spell, two digits for each byte.
 pub(crate) fn spelled(rt: &HostRuntime, digits: &str) -> Result<Vec<u8>, Failure> {
     let mut string = vec![in rt.alloc(); 0; digits.len() / 2]?;
     match hex::decode_to_slice(digits.as_bytes(), &mut string) {

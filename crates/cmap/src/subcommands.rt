@@ -1,4 +1,4 @@
-//! The subcommands: the one that the arguments name, and how it is run.
+//! The subcommand that the arguments name, and its run.
 
 use crate::bundle::bundle_options;
 use crate::check::Checking;
@@ -21,7 +21,7 @@ use cmap_files::failure::Failure;
 use cmap_rewrite::make::{MakeOptions, make};
 use cmap_sources::bases::Bases;
 
-/// A subcommand, with what its arguments ask for.
+/// A subcommand with its parsed arguments.
 #[derive(Clone, Copy)]
 pub(crate) enum Subcommand<'m, 'w> {
     Info(InfoOptions<'m, 'w>),
@@ -61,7 +61,7 @@ impl<'m, 'w> Subcommand<'m, 'w> {
         })
     }
 
-    /// Where files are looked up by their names. `make` and `bundle` look up none.
+    /// The places where files are looked up by their names. `make` and `bundle` look up no names.
     pub(crate) fn sources(&self) -> Sources<'m, 'w> {
         match self {
             Subcommand::Info(options) => options.sources,
@@ -79,7 +79,7 @@ impl<'m, 'w> Subcommand<'m, 'w> {
         }
     }
 
-    /// Does what the arguments ask for, and gives the status.
+    /// Runs the subcommand, and returns the exit status.
     pub(crate) fn run(&self, rt: &HostRuntime, bases: &mut Bases<'_>) -> Result<u8, Failure> {
         match self {
             Subcommand::Info(options) => info(rt, options, bases),

@@ -7,7 +7,7 @@ use cmap_report::decode::{push_text_json, push_text_line};
 use cmap_sources::bases::Bases;
 use cmap_unicode::Extractor;
 
-/// Prints the text of each string. The status says whether each code has a text.
+/// Prints the text of each string. The status states whether each code has a text.
 pub(crate) fn text(
     rt: &HostRuntime,
     options: &StringOptions<'_, '_>,

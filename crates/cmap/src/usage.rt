@@ -5,7 +5,7 @@ use clap::Error;
 use cmap_files::failure::Failure;
 use cmap_files::path_text::push_path;
 
-/// Prints the help, the version, or the error of the arguments with the usage, and gives the status.
+/// Prints the help, the version, or the error of the arguments with the usage, and returns the exit status.
 pub(crate) fn print_usage(
     rt: &HostRuntime,
     arguments: &[String],
@@ -17,7 +17,8 @@ pub(crate) fn print_usage(
     }
 }
 
-/// The error of the arguments with their line ends marked, so that none ends a line of the message.
+/// The error of the arguments with their line ends marked, so that no line end of an argument ends a line of the
+/// message.
 fn error_of_marked(rt: &HostRuntime, arguments: &[String]) -> Result<Option<Error>, Failure> {
     let mut marked = Vec::new(rt.alloc());
     for argument in arguments {
@@ -27,7 +28,7 @@ fn error_of_marked(rt: &HostRuntime, arguments: &[String]) -> Result<Option<Erro
     Ok(command.try_get_matches_from(marked.as_slice()).err())
 }
 
-/// The argument with its line ends marked, as bytes are that aren't UTF-8.
+/// The argument with its line ends marked in the same way as bytes that aren't UTF-8.
 fn without_line_ends(rt: &HostRuntime, argument: &str) -> Result<String, Failure> {
     let mut marked = String::new(rt.alloc());
     for character in argument.chars() {

@@ -11,8 +11,8 @@ use hayro_cmap::CMapName;
 #[derive(Drop)]
 pub struct Candidate {
     pub path: String,
-    /// The name that it is given, or else its file name if that is a known name. Without either, its
-    /// `CMapName` counts.
+    /// The name that an argument gives the file, or else the file name if it is a known name. Without either, the
+    /// `CMapName` of the file counts.
     pub name: Option<String>,
     pub bytes: Vec<u8>,
 }
@@ -21,13 +21,13 @@ pub struct Candidate {
 #[derive(Drop)]
 pub struct Candidates {
     pub files: Vec<Candidate>,
-    /// How many files of folders have none of the known names. They aren't read.
+    /// The number of files in folders that have none of the known names. These files aren't read.
     pub passed_over: Count,
-    /// How many paths in folders aren't UTF-8. Each is reported.
+    /// The number of paths in folders that aren't UTF-8. Each path is reported.
     pub left_out: Count,
 }
 
-/// The files of arguments `NAME=FILE`, and then those of paths.
+/// The files of the arguments `NAME=FILE`, followed by the files of the paths.
 pub fn candidates_of(
     rt: &HostRuntime,
     named: &[&str],
@@ -81,7 +81,7 @@ impl Candidates {
         Ok(())
     }
 
-    /// Leaves out what has a path that isn't UTF-8, and reports it: it may be a folder.
+    /// Leaves out a path that isn't UTF-8, and reports the path, which may lead to a folder.
     fn leave_out(&mut self, rt: &HostRuntime, path: &str) -> Result<(), Failure> {
         self.left_out.add_one();
         report_left_out(rt, path, "its path isn't UTF-8")
@@ -118,7 +118,7 @@ fn known_file_name(path: &str) -> Option<&str> {
     is_known(name.as_bytes()).then_some(name)
 }
 
-/// Whether a name is one of those that have a place in a bundle.
+/// Whether a bundle has a place for a file of this name.
 pub(crate) fn is_known(name: &[u8]) -> bool {
     CMapName::from_bytes(name).index().is_some()
 }

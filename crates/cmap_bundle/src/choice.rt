@@ -19,12 +19,12 @@ use std::alloc::AllocError;
 #[derive(Drop)]
 pub struct Chosen<'c> {
     pub candidate: &'c Candidate,
-    /// What it says.
+    /// The contents of the file.
     pub file: File<'c>,
 }
 
 impl<'c> Chosen<'c> {
-    /// Its name as text: the one that it is given, or else its `CMapName`. Without either it is empty.
+    /// The bytes of the file's name: the given name, or else the `CMapName`. Without either, the name is empty.
     pub fn name(&self) -> &[u8] {
         match &self.candidate.name {
             Some(name) => name.as_bytes(),
@@ -35,21 +35,21 @@ impl<'c> Chosen<'c> {
         }
     }
 
-    /// Its name.
+    /// The name of the file.
     pub fn cmap_name(&self) -> CMapName<'_> {
         CMapName::from_bytes(self.name())
     }
 }
 
-/// The files that are put in the bundle, in order. No two have one name.
+/// The files that are put in the bundle, in order. No two files have the same name.
 #[derive(Drop)]
 pub struct Choice<'c> {
     pub files: Vec<Chosen<'c>>,
-    /// How many files are left out, those of the candidates among them. Each is reported.
+    /// The number of files that are left out, including the candidates' `left_out`. Each file is reported.
     pub left_out: Count,
 }
 
-/// Chooses the files that are put in the bundle, and reports why each other one is left out.
+/// Chooses the files that are put in the bundle, and reports why each other file is left out.
 pub fn choose<'c>(rt: &HostRuntime, candidates: &'c Candidates) -> Result<Choice<'c>, Failure> {
     let mut choice = Choice {
         files: Vec::new(rt.alloc()),
@@ -101,7 +101,7 @@ impl<'c> Choice<'c> {
         self.leave_out(rt, chosen.candidate, reason.as_str())
     }
 
-    /// Leaves out a file, since that of this path has its name.
+    /// Leaves out a file, since the file of this path has the same name.
     fn leave_out_again(
         &mut self,
         rt: &HostRuntime,
@@ -144,7 +144,7 @@ impl<'c> Choice<'c> {
     }
 }
 
-/// Adds why a file of this unknown name is left out.
+/// Adds the reason why a file of this unknown name is left out.
 fn push_unknown(reason: &mut String, name: &[u8]) -> Result<(), AllocError> {
     if name.is_empty() {
         return reason.push_str("neither its file name nor a CMapName is one of the known names");
@@ -153,7 +153,7 @@ fn push_unknown(reason: &mut String, name: &[u8]) -> Result<(), AllocError> {
     reason.push_str(" is none of the known names")
 }
 
-/// Adds why a file of this name is left out: that of this path has the name.
+/// Adds the reason why a file of this name is left out: the file of this path has the name already.
 fn push_already(reason: &mut String, name: &[u8], path: &str) -> Result<(), AllocError> {
     reason.push_str("the bundle has ")?;
     push_name(reason, name)?;

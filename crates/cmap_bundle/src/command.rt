@@ -11,7 +11,7 @@ use cmap_files::inputs::{STANDARD_INPUT, needed};
 use cmap_files::status::{ACCEPTED, REFUSED};
 use hayro_cmap::Bundle;
 
-/// What the arguments of `bundle` ask for.
+/// The parsed arguments of `cmap bundle`.
 #[derive(Clone, Copy)]
 pub struct BundleOptions<'m, 'w> {
     /// The path of the bundle.
@@ -24,7 +24,7 @@ pub struct BundleOptions<'m, 'w> {
     pub is_compared: bool,
 }
 
-/// Makes a bundle, and gives the status.
+/// Makes a bundle, and returns the exit status.
 pub fn bundle(rt: &HostRuntime, options: &BundleOptions<'_, '_>) -> Result<u8, Failure> {
     let output = options.output;
     if output == STANDARD_INPUT {
@@ -67,7 +67,7 @@ fn print_summary(
     Ok(rt.println(line.as_str())?)
 }
 
-/// Puts a bundle of these bytes in its place. If it is to be compared, it has to say what the files say.
+/// Writes a bundle of these bytes to its path. With `is_compared`, the bundle has to declare the same as the files.
 fn put(
     rt: &HostRuntime,
     output: &str,
@@ -85,7 +85,7 @@ fn put(
     beside.put_in_place(rt)
 }
 
-/// Compares what the bundle says with the files. What differs goes to the standard error.
+/// Compares the contents of the bundle with the files. The differences go to the standard error.
 fn compare(
     rt: &HostRuntime,
     output: &str,

@@ -1,4 +1,4 @@
-//! What a bundle holds.
+//! The contents of a bundle.
 
 use cmap_binary::is_marked_binary;
 use cmap_escape::escape::{escaped_name, escaped_names, push_name};
@@ -16,12 +16,12 @@ use std::alloc::{AllocError, Global};
 pub struct Held<'b> {
     pub name: &'static [u8],
     pub bytes: &'b [u8],
-    /// The names that it uses, in order.
+    /// The names that the file uses, in order.
     pub uses: Vec<&'b [u8]>,
 }
 
 impl<'b> Held<'b> {
-    /// Whether it is in the binary form, and not a text.
+    /// Whether the file is in the binary form, and not a text.
     pub fn is_binary(&self) -> bool {
         is_marked_binary(self.bytes)
     }
@@ -59,12 +59,12 @@ fn uses_of<'b>(
     Ok(layers.pop().unwrap_or(Vec::new(alloc)))
 }
 
-/// How many of the known names have no file.
+/// The number of known names without a file.
 pub fn absent_of(files: &[Held<'_>]) -> usize {
     KNOWN_COUNT.saturating_sub(files.len())
 }
 
-/// Prints what the bundle of this path holds.
+/// Prints the contents of the bundle of this path.
 pub fn print_contents(
     rt: &HostRuntime,
     path: &str,
@@ -81,7 +81,7 @@ pub fn print_contents(
     Ok(rt.print(lines.as_str())?)
 }
 
-/// Adds a line for each file of a bundle, and how many names have none.
+/// Adds a line for each file of a bundle, and the number of names without a file.
 fn push_contents(alloc: Global, out: &mut String, files: &[Held<'_>]) -> Result<(), AllocError> {
     for file in files {
         push_held(alloc, out, file)?;
@@ -94,7 +94,7 @@ fn push_contents(alloc: Global, out: &mut String, files: &[Held<'_>]) -> Result<
     )
 }
 
-/// Adds the line of a file: its name, its bytes, its form and the names that it uses.
+/// Adds the line of a file: the name, the number of bytes, the form, and the names that the file uses.
 fn push_held(alloc: Global, out: &mut String, file: &Held<'_>) -> Result<(), AllocError> {
     let Held { name, bytes, uses } = file;
     let name = escaped_name(alloc, name)?;

@@ -1,4 +1,4 @@
-//! Differences between a bundle and a file that it was made of.
+//! Differences between a bundle and a file that it was made from.
 
 use cmap_escape::digits::push_code;
 use hayro_cmap::{Cid, CodeLength};
@@ -9,22 +9,23 @@ use std::alloc::AllocError;
 pub enum Difference {
     /// The bundle has no file of the name.
     Absent,
-    /// The faults of the files that it uses.
+    /// The faults of the files that the file uses.
     Faults,
     Name,
     Collection,
     WritingMode,
     Codespaces,
-    /// The names of the files that it uses.
+    /// The names of the files that the file uses.
     Uses,
-    /// The CID of a code of this length, as the file has it and as the bundle does.
+    /// The CID of a code of this length, with the CID in the file and the CID in the bundle.
     Cid {
         code: u32,
         len: CodeLength,
         of_file: Option<Cid>,
         of_bundle: Option<Cid>,
     },
-    /// The CID that is declared for a code of this length, where a lookup gives the same.
+    /// The declared CID of a code of this length, where a lookup gives the same CID in the file and
+    /// in the bundle.
     DeclaredCid {
         code: u32,
         len: CodeLength,
@@ -33,7 +34,7 @@ pub enum Difference {
     Text(u32),
 }
 
-/// Adds what differs.
+/// Adds the words for a difference.
 pub fn push_difference(out: &mut String, difference: Difference) -> Result<(), AllocError> {
     match difference {
         Difference::Absent => out.push_str("the bundle has no file of this name"),

@@ -1,5 +1,5 @@
-//! `cmap bundle`, and what a bundle holds: the files that are put in it, how it is written, and whether it says what
-//! they say.
+//! `cmap bundle`, and the contents of a bundle: the choice of the files, the making of the bundle, and its comparison
+//! with the files.
 #![tactic(auto)]
 
 pub mod candidates;

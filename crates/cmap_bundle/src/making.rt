@@ -34,7 +34,7 @@ fn sources_of<'f, 'c>(
     Ok(sources)
 }
 
-/// Why a bundle can't hold a file, or can't be written.
+/// The line that states why a bundle can't contain a file, or can't be written.
 fn line_of(
     alloc: Global,
     files: &[Chosen<'_>],

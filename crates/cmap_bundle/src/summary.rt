@@ -5,8 +5,8 @@ use cmap_escape::escape::{push_name, push_text};
 use hayro_cmap::Bundle;
 use std::alloc::{AllocError, Global};
 
-/// Adds how many files a bundle of these bytes has and how many bytes, which of the files are texts, how many
-/// names have none, and how many files of folders were passed over.
+/// Adds the numbers of files and bytes of a bundle of these bytes, the names of the files that are texts, the number
+/// of names without a file, and the number of files in folders that were passed over.
 pub fn push_summary(
     alloc: Global,
     out: &mut String,
@@ -41,14 +41,14 @@ fn push_numbers(
     )
 }
 
-/// Adds how many files and bytes there are, and which of the files are texts.
+/// Adds the numbers of files and bytes, and the names of the files that are texts.
 fn push_files(out: &mut String, files: &[Held<'_>], bytes: usize) -> Result<(), AllocError> {
     push_count(out, ": ", files.len(), "file", "files")?;
     push_count(out, ", ", bytes, "byte", "bytes")?;
     push_texts(out, files)
 }
 
-/// Adds how many there are of something, unless there is nothing.
+/// Adds a count with its unit, unless the count is 0.
 fn push_any(out: &mut String, count: usize, one: &str, more: &str) -> Result<(), AllocError> {
     match count {
         0 => Ok(()),
@@ -56,7 +56,7 @@ fn push_any(out: &mut String, count: usize, one: &str, more: &str) -> Result<(),
     }
 }
 
-/// Adds which of the files are texts, unless none is.
+/// Adds the names of the files that are texts, if there are any.
 fn push_texts(out: &mut String, files: &[Held<'_>]) -> Result<(), AllocError> {
     let mut separator = "; as texts: ";
     for file in files {

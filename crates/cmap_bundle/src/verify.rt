@@ -1,4 +1,4 @@
-//! Whether a bundle says what its files say, code by code.
+//! The comparison of a bundle with the files that it was made from, code by code.
 
 use crate::choice::Chosen;
 use crate::difference::{Difference, push_difference};
@@ -11,7 +11,7 @@ use hayro_cmap::{
 };
 use std::alloc::{AllocError, Global};
 
-/// The map of a file as it was given, and the map of the bundle's file of its name.
+/// The map of a given file, and the map of the bundle's file of the same name.
 #[derive(Clone, Copy)]
 struct Pair<'p> {
     of_file: &'p CMap,
@@ -76,7 +76,7 @@ fn difference_of(
     difference_from(alloc, &of_file, bundle, bytes)
 }
 
-/// The first difference between a file and that of the bundle.
+/// The first difference between a file and the bundle's file of the same name.
 fn difference_from(
     alloc: Global,
     of_file: &SalvagedMap<'_>,
@@ -125,8 +125,8 @@ impl Pair<'_> {
         }
     }
 
-    /// The first CID of a code of a length that differs: of all codes of one and two bytes, and of longer ones
-    /// around the ends of declarations.
+    /// The first CID that differs among the codes of a length. All codes of one and two bytes are compared, and longer
+    /// codes only around the ends of declarations.
     fn of_cids(&self, len: CodeLength) -> Option<Difference> {
         match len {
             CodeLength::One | CodeLength::Two => {
@@ -144,7 +144,7 @@ impl Pair<'_> {
         }
     }
 
-    /// The first CID of these codes that differs, as a lookup gives it or as it is declared.
+    /// The first CID of these codes that differs, either by a lookup or as declared.
     fn of_codes(&self, len: CodeLength, codes: Range) -> Option<Difference> {
         for code in codes.start..=codes.end {
             let of_file = self.of_file.lookup_cid_code(code, len.count());
@@ -198,7 +198,8 @@ impl Pair<'_> {
         None
     }
 
-    /// The first text that differs: of all codes up to FFFF, and around the ends of declarations.
+    /// The first text that differs. All codes up to FFFF are compared, and further codes only around the ends of
+    /// declarations.
     fn of_texts(&self, alloc: Global) -> Result<Option<Difference>, AllocError> {
         let first = Range {
             start: 0,
@@ -255,7 +256,8 @@ impl Pair<'_> {
     }
 }
 
-/// A code with the one before it and the one after it. The first and the last code lack one of these.
+/// The range of a code with its predecessor and its successor. The first code has no predecessor, and the last code
+/// has no successor.
 fn around(code: u32) -> Range {
     Range {
         start: code.saturating_sub(1),

@@ -6,8 +6,8 @@ use Rattle.cmap_values.specs.declared.fault.Reason.{Reason}
 use Rattle.cmap_values.specs.declared.fault.Reason.TheVariants as reason
 use Rattle.cmap_values.specs.declared.fault.Segment.{Segment}
 use Rattle.cmap_values.specs.declared.fault.Segment.TheVariants as segment
-use Rattle.cmap_chains.specs.declared.refusal.Cause.{Cause}
-use Rattle.cmap_chains.specs.declared.refusal.Cause.TheVariants as cause
+use Rattle.cmap_load.specs.declared.refusal.Cause.{Cause}
+use Rattle.cmap_load.specs.declared.refusal.Cause.TheVariants as cause
 use Rattle.cmap_c.specs.Faults.{HasNumbers, cause_numbered, numbers_of, possible_cause, possible_reason, reason_number, segment_number, segment_numbered, segment_of}
 use Rattle.cmap_c.specs.declared.fault.FaultNumbers.{FaultNumbers}
 

@@ -4,9 +4,9 @@ use Rattle.cmap_values.specs.Outcomes.{RefusesWith}
 use Rattle.cmap_values.specs.declared.fault.Fault.{Fault}
 use Rattle.cmap_values.specs.declared.fault.Fault.TheVariants as fault
 use Rattle.cmap_layers.specs.Layers.{Layer}
-use Rattle.cmap_chains.specs.declared.refusal.Cause.{Cause}
-use Rattle.cmap_chains.specs.declared.refusal.Cause.TheVariants as cause
-use Rattle.cmap_chains.specs.declared.refusal.Refusal.{Refusal}
+use Rattle.cmap_load.specs.declared.refusal.Cause.{Cause}
+use Rattle.cmap_load.specs.declared.refusal.Cause.TheVariants as cause
+use Rattle.cmap_load.specs.declared.refusal.Refusal.{Refusal}
 use Rattle.cmap_c.specs.Endings.{Ends}
 use Rattle.cmap_c.specs.Faults.{ending_of, status_of}
 use Rattle.cmap_handles.specs.Statuses.{number}

@@ -10,9 +10,9 @@ use Rattle.cmap_values.specs.declared.fault.Reason.{Reason}
 use Rattle.cmap_values.specs.declared.fault.Reason.TheVariants as reason
 use Rattle.cmap_values.specs.declared.fault.Segment.{Segment}
 use Rattle.cmap_values.specs.declared.fault.Segment.TheVariants as segment
-use Rattle.cmap_chains.specs.declared.refusal.Cause.{Cause}
-use Rattle.cmap_chains.specs.declared.refusal.Cause.TheVariants as cause
-use Rattle.cmap_chains.specs.declared.refusal.Refusal.{Refusal}
+use Rattle.cmap_load.specs.declared.refusal.Cause.{Cause}
+use Rattle.cmap_load.specs.declared.refusal.Cause.TheVariants as cause
+use Rattle.cmap_load.specs.declared.refusal.Refusal.{Refusal}
 use Rattle.cmap_handles.specs.Rooms.{IsPut}
 use Rattle.cmap_handles.specs.Statuses.{number}
 use Rattle.cmap_c.specs.declared.fault.FaultNumbers.{FaultNumbers}
@@ -71,7 +71,7 @@ segment_of reason.SegmentLength = 0
 segment_of reason.SegmentType = 0
 segment_of reason.CidTooLarge = 0
 
--- the numbers of a cause: its own, that of its reason, that of the segment, and the offset; only a malformed file has the last three
+-- the numbers of a cause: the number of the cause, the number of the reason, the number of the segment, and the offset; the last three are 0 unless the file is malformed
 abbrev pub numbers_of : Cause → ℕ × ℕ × ℕ × ℕ
 numbers_of (cause.Malformed stop) = (1, reason_number stop.reason, segment_of stop.reason, stop.offset)
 numbers_of cause.NoFile = (2, 0, 0, 0)
@@ -88,7 +88,7 @@ status_of cause.OverBudget = OverBudget
 abbrev pub HasNumbers : FaultNumbers → Cause → Type 0
 HasNumbers fault cause = (fault.cause, fault.reason, fault.segment, fault.offset) ≡ numbers_of cause
 
--- how many names there are, at most 16, and how many bytes each has, with zeros after them
+-- the fault has the number of names, at most 16, and the length of each name in bytes, followed by zeros
 abbrev pub HasNames : FaultNumbers → List (List ℕ) → Type 0
 HasNames fault names = (length names ≤ 16) × (fault.names ≡ length names) × (fault.name_lens ≡ map length names ++ replicate (16 - length names) 0)
 
@@ -107,11 +107,11 @@ fault_numbers names cause = record {
 abbrev pub IsToldOf : List (List ℕ) → Cause → Told → Type 0
 IsToldOf names cause told = (told.cause ≡ cause) × HasNumbers told.fault cause × HasNames told.fault names × (told.names.items ≡ concat names)
 
--- it is told of names and a cause with this property
+-- C is told of names and a cause with this property
 abbrev pub IsToldWith : (List (List ℕ) → Cause → Type 0) → Told → Type 0
 IsToldWith leads told = (names : List (List ℕ)) × leads names told.cause × IsToldOf names told.cause told
 
--- C has a cause and names with this property: the numbers of the cause, the lengths of the names, and the names one after another in its room, if they have room
+-- C has a cause and names with this property: the numbers of the cause, the lengths of the names, and the names one after another in the buffer, if they fit
 pub record IsExplained (leads : List (List ℕ) → Cause → Type 0) (fault : FaultNumbers) (old new : List ℕ) (needed status : ℕ) : Type 0 where
   pub path : List (List ℕ)
   pub cause : Cause
@@ -128,7 +128,7 @@ abbrev pub IsToldFrom : Fault Refusal → Fault Told → Type 0
 IsToldFrom (fault.Refused refusal) told = RefusesWith (IsToldOf (names_seen refusal.names.items) refusal.cause) told
 IsToldFrom fault.Memory told = told ≡ fault.Memory
 
--- how a call ends for which a file is refused, or memory runs out
+-- how a call ends if a file is refused or memory runs out
 abbrev pub ending_of : Fault Refusal → Status
 ending_of (fault.Refused refusal) = status_of refusal.cause
 ending_of fault.Memory = NoMemory

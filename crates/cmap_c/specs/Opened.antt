@@ -2,11 +2,11 @@
 use Rattle.std.specs.Prelude.{ℕ, List, Option, option_map}
 use Rattle.cmap_packed.specs.Bundles.{Bundle}
 use Rattle.cmap_layers.specs.Layers.{Layer}
-use Rattle.cmap_chains.specs.Opened as opened
+use Rattle.cmap_load.specs.Opened as opened
 use Rattle.cmap_c.specs.NamedFiles.{answers}
 use Rattle.cmap_c.specs.declared.files.BaseFile.{BaseFile}
 
--- what is said of a name over these files and those of the bundle
+-- statements about a name over these files and the files of the bundle
 module _ (bundle : Option Bundle) (files : List BaseFile) (name : List ℕ) where
   unfoldable pub IsMapNamed : List Layer → Type 0
   IsMapNamed = opened.IsMapNamed (option_map (λ b. b.tables) bundle) (answers bundle files) name

@@ -1,10 +1,10 @@
--- What C gets of a file that is read past its faults: a map, the faults as far as they have room, and the names that lead to each.
+-- What C gets of a file that is read past its faults: a map, as many faults as fit, and the names that lead to each fault.
 use Rattle.std.specs.Prelude.{◌≡◌, ℕ, ◌⊎◌, List, ◌++◌, Option, Some, drop, length, map, option_map, take}
 use Rattle.std.specs.List.{concat}
 use Rattle.cmap_packed.specs.Bundles.{Bundle, PrefixTables}
 use Rattle.cmap_layers.specs.Layers.{Layer}
-use Rattle.cmap_chains.specs.Maps.{ExceedsBudget, HasNoMap}
-use Rattle.cmap_chains.specs.Salvage.{BeginsWithFault, GivesMap, NamedFault, SalvagesMap}
+use Rattle.cmap_load.specs.Maps.{ExceedsBudget, HasNoMap}
+use Rattle.cmap_load.specs.Salvage.{BeginsWithFault, GivesMap, NamedFault, SalvagesMap}
 use Rattle.cmap_c.specs.Faults.{fault_numbers}
 use Rattle.cmap_c.specs.NamedFiles.{answers}
 use Rattle.cmap_handles.specs.Rooms.{IsPut}
@@ -13,13 +13,13 @@ use Rattle.cmap_c.specs.declared.files.BaseFile.{BaseFile}
 use Rattle.cmap_c.specs.declared.salvage.Salvaged.{Salvaged}
 use Rattle.cmap_c.specs.declared.salvage.ShownFaults.{ShownFaults}
 
--- what is read of a file: of one that has a map, for which the budget suffices, that map and no fault; of another, the first fault is one for which it is refused
+-- the layers and faults that are read of a file: a file with a map for which the budget suffices gives this map and no fault; for any other file, the first fault is one for which the file is refused
 pub record IsSalvage (tables : Option PrefixTables) (answers : List ℕ → Option (List ℕ) → Type 0) (bytes : List ℕ) (budget : Option ℕ) (layers : List Layer) (faults : List NamedFault) : Type 0 where
   pub says : SalvagesMap tables answers bytes budget layers faults
   pub right : GivesMap tables answers bytes budget layers faults
   pub wrong : HasNoMap tables answers bytes ⊎ ExceedsBudget tables answers bytes budget → BeginsWithFault tables answers bytes budget faults
 
--- the same of a file over these files and those of the bundle
+-- the layers and faults that are read of a file over these files and the files of the bundle
 unfoldable pub IsSalvageOver : Option Bundle → List BaseFile → List ℕ → Option ℕ → List Layer → List NamedFault → Type 0
 IsSalvageOver bundle files bytes budget = IsSalvage (option_map (λ b. b.tables) bundle) (answers bundle files) bytes budget
 
@@ -27,11 +27,11 @@ IsSalvageOver bundle files bytes budget = IsSalvage (option_map (λ b. b.tables)
 abbrev pub numbers_of_all : List NamedFault → List FaultNumbers
 numbers_of_all faults = map (λ fault. fault_numbers fault.names fault.cause) faults
 
--- the names that lead to each fault, one after another, those of the first fault first
+-- the names that lead to each fault, one after another, beginning with the names of the first fault
 abbrev pub names_joined : List NamedFault → List ℕ
 names_joined faults = concat (map (λ fault. concat fault.names) faults)
 
--- C has a map and faults of which this holds: the faults stand at the head of its room, as many as have room, and the names of all of them in another one, if they have room
+-- C has a map and faults with this property: as many faults as fit stand at the start of a buffer, and the names of all faults in another buffer, if they fit
 pub record IsSalvaged (says : List Layer → List NamedFault → Type 0) (map : Option (List Layer)) (old new : List FaultNumbers) (found : ℕ) (old_names new_names : List ℕ) (needed : ℕ) : Type 0 where
   pub layers : List Layer
   pub faults : List NamedFault

@@ -3,12 +3,12 @@
 ghost use Rattle.std.specs.Prelude.{◌≡◌, ◌⊎◌, None, IsSomeAnd, MatchOption};
 ghost use Rattle.cmap_packed.specs.Bundles.{IsBundle};
 ghost use Rattle.cmap_values.specs.Only.{IsOnly, HoldsOfNone};
-ghost use Rattle.cmap_chains.specs.Answers.{embedded};
+ghost use Rattle.cmap_load.specs.Answers.{embedded};
 ghost use Rattle.cmap_handles.specs.Rooms.{IsPut};
 ghost use Rattle.cmap_handles.specs.Statuses.{number};
 ghost use Rattle.cmap_handles.specs.declared.status.Status.TheVariants.{Absent, Done, NoMemory, NotABundle};
 
-use cmap_chains::named_files::BundleFiles;
+use cmap_load::named_files::BundleFiles;
 use cmap_handles::bundle::BundleHandle;
 use cmap_handles::room::put_found;
 use cmap_handles::shared::Shared;
@@ -16,7 +16,7 @@ use cmap_handles::status::Status;
 use cmap_packed::OwnedBundle;
 use std::alloc::Global;
 
-/// The bundle that the bytes are. A bundle that the handle has is freed.
+/// Opens the bundle with these bytes. The bundle that the handle held is freed.
 #[unsafe(no_mangle)]
 pub extern "C" fn hayro_cmap_bundle_open(
     bundle: &mut BundleHandle,
@@ -38,7 +38,8 @@ pub extern "C" fn hayro_cmap_bundle_open(
     }
 }
 
-/// Gives an `other` handle the same bundle; without one, `other` is empty. A bundle that it has is freed.
+/// Lets the handle `other` share the bundle of a handle. `other` is emptied if there is no bundle. The bundle that
+/// `other` held is freed.
 #[unsafe(no_mangle)]
 pub extern "C" fn hayro_cmap_bundle_share(
     bundle: &mut BundleHandle,
@@ -56,7 +57,7 @@ pub extern "C" fn hayro_cmap_bundle_share(
     }
 }
 
-/// The bytes of the bundle's file of this name.
+/// Writes the bytes of the bundle's file of this name to the buffer `room`, and their number to `needed`.
 #[unsafe(no_mangle)]
 pub extern "C" fn hayro_cmap_bundle_file(
     bundle: &mut BundleHandle,

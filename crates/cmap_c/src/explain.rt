@@ -1,4 +1,4 @@
-//! Maps of files, or why there is none, for C.
+//! Maps of files, or the reason why there is no map, for C.
 
 ghost use Rattle.std.specs.Prelude.{◌≡◌, ◌⊎◌, ◌≤◌, None, IsSomeAnd};
 ghost use Rattle.std.specs.Option.{option_copied};
@@ -12,7 +12,7 @@ use crate::fault::{FaultNumbers, Told, status_of};
 use crate::files::BaseFile;
 use crate::keep::keep_read;
 use crate::parse::{limit, tables_of};
-use cmap_chains::named_files::NamedFiles;
+use cmap_load::named_files::NamedFiles;
 use cmap_handles::bundle::BundleHandle;
 use cmap_handles::handle::MapHandle;
 use cmap_handles::room::put;
@@ -23,8 +23,9 @@ use cmap_packed::OwnedBundle;
 use cmap_values::fault::Fault;
 use std::alloc::Global;
 
-/// The map of the file `data`, as `hayro_cmap_parse_over` gives it, or why there is none: what is
-/// wrong, and the names that lead to the file at fault, one after another.
+/// The map of the file `data`, as `hayro_cmap_parse_over` gives it, or the reason why there is no
+/// map: `fault` states what is wrong, and the names that lead to the file at fault go to the buffer
+/// `room` one after another.
 #[unsafe(no_mangle)]
 pub extern "C" fn hayro_cmap_explain(
     map: &mut MapHandle,
@@ -59,7 +60,7 @@ pub extern "C" fn hayro_cmap_explain(
     keep_read(map, alloc, tell(explained, fault, room, needed))
 }
 
-/// The map, or how the call ends without one, with the fault for C.
+/// The map, or the status of the call without a map, with the fault for C.
 fn tell(
     explained: Result<Layers, Fault<Told>>,
     fault: &mut FaultNumbers,
@@ -79,7 +80,8 @@ fn tell(
     }
 }
 
-/// The map of a file over these files and those of a bundle, if there is one; or why there is none.
+/// The map of a file over these files and the files of a bundle, if there is a bundle; or the
+/// reason why there is no map.
 fn explain_owned(
     alloc: Global,
     budget: Option<u64>,

@@ -5,7 +5,7 @@ ghost use Rattle.cmap_values.specs.NamesSeen.{names_seen};
 ghost use Rattle.cmap_values.specs.Outcomes.{Finds, RefusesWith};
 ghost use Rattle.cmap_c.specs.Faults.{HasNames, HasNumbers, IsToldFrom, ending_of, fault_numbers, numbers_of, possible_cause, possible_reason, reason_number, segment_number, segment_numbered, segment_of, status_of};
 
-use cmap_chains::{Cause, Refusal};
+use cmap_load::{Cause, Refusal};
 use cmap_handles::names::joined;
 use cmap_handles::room::fill;
 use cmap_handles::status::Status;
@@ -21,20 +21,20 @@ const MOST_NAMES: usize = 16;
 pub struct FaultNumbers {
     /// What is wrong with the file at fault.
     pub(crate) cause: u32,
-    /// Of a malformed file, what is wrong where reading stopped; else 0.
+    /// What is wrong where reading of a malformed file stopped; else 0.
     pub(crate) reason: u16,
     /// The segment that the reason names, or 0.
     pub(crate) segment: u16,
-    /// Of a malformed file, where reading stopped, in bytes; else 0.
+    /// The offset in bytes where reading of a malformed file stopped; else 0.
     pub(crate) offset: usize,
-    /// How many names lead to the file at fault. The top file itself has none.
+    /// The number of names that lead to the file at fault; 0 for the top file.
     pub(crate) names: usize,
-    /// How many bytes each of them has; the others are 0.
+    /// The length in bytes of each of these names; the other entries are 0.
     pub(crate) name_lens: [usize; MOST_NAMES],
 }
 
 impl FaultNumbers {
-    /// Those of a file at the end of these names.
+    /// The numbers of a fault in the file that these names lead to.
     pub(crate) fn of(names: &[&[u8]], cause: Cause) -> FaultNumbers
         requires { length names.now ≤ 16 }
         ensures numbers { HasNumbers result cause }
@@ -94,7 +94,7 @@ pub(crate) struct Told {
 }
 
 impl Told {
-    /// A refusal, as C gets it, or that memory ran out.
+    /// A refusal, as C gets it, or the failure of memory.
     pub(crate) fn of(alloc: Global, fault: Fault<Refusal<'_>>) -> Fault<Told>
         requires { RefusesWith (λ refusal. length refusal.names.items ≤ 16) fault }
         ensures { IsToldFrom fault.entry result }
@@ -113,7 +113,7 @@ impl Told {
     }
 }
 
-/// How a call ends that finds no map.
+/// The status of a call that finds no map.
 pub(crate) fn status_of(cause: Cause) -> Status
     ensures { result ≡ status_of cause }
 {
@@ -123,7 +123,7 @@ pub(crate) fn status_of(cause: Cause) -> Status
     }
 }
 
-/// How a call ends for which a file is refused, or memory runs out.
+/// The status of a call for which a file is refused or memory runs out.
 pub(crate) fn ending_of(fault: Fault<Refusal<'_>>) -> Status
     ensures { result ≡ ending_of fault.entry }
 {
@@ -133,7 +133,7 @@ pub(crate) fn ending_of(fault: Fault<Refusal<'_>>) -> Status
     }
 }
 
-/// The numbers of a cause, of its reason and of the segment that this names, and the offset.
+/// The numbers of a cause, of its reason and of the segment that the reason names, and the offset.
 fn numbers_of(cause: Cause) -> (u32, u16, u16, usize)
     ensures { result ≡ numbers_of cause }
 {
@@ -200,7 +200,8 @@ fn segment_number(segment: Segment) -> u16
     }
 }
 
-/// The one reason that may have these numbers, its own and that of its segment.
+/// The one reason that may have these numbers: the number of a reason and the number of its
+/// segment.
 fn possible_reason(reason: u16, segment: u16) -> Option<Reason>
     ensures { result ≡ possible_reason reason segment }
 {

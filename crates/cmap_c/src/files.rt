@@ -1,8 +1,8 @@
-//! Files that C hands in, by their names.
+//! Files that C passes, by their names.
 
-use cmap_chains::named_files::NamedFile;
+use cmap_load::named_files::NamedFile;
 
-/// A file that others use, and its name.
+/// A file that other files use, and its name.
 #[repr(C)]
 #[derive(Clone, Copy)]
 pub struct BaseFile<'a> {

@@ -2,18 +2,17 @@
 
 ghost use Rattle.std.specs.Prelude.{◌≡◌, ◌⊎◌, None, Some, [], ◌∷◌, codes, true, false};
 ghost use Rattle.cmap_values.specs.Files as files;
-ghost use Rattle.cmap_chains.specs.Identity.{identity_layer};
+ghost use Rattle.cmap_load.specs.Identity.{identity_layer};
 ghost use Rattle.cmap_handles.specs.Statuses.{number};
 ghost use Rattle.cmap_handles.specs.declared.status.Status.TheVariants.{Done, NoMemory};
 
-use cmap_chains::{identity_h, identity_v};
+use cmap_load::{identity_h, identity_v};
 use cmap_handles::handle::MapHandle;
 use cmap_handles::shared::Shared;
 use cmap_handles::status::Status;
 use std::alloc::Global;
 
-/// The predefined CMap Identity-H, or Identity-V where it is `vertical`. A map that the handle has is
-/// freed.
+/// Makes the predefined CMap Identity-H, or Identity-V if `vertical` is set. The map that the handle held is freed.
 #[unsafe(no_mangle)]
 pub extern "C" fn hayro_cmap_identity(map: &mut MapHandle, alloc: Global, vertical: bool) -> u32
     ensures horizontal { result ≡ number Done → vertical ≡ false → map.new.slot.map

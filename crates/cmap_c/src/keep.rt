@@ -9,7 +9,8 @@ use cmap_handles::status::Status;
 use cmap_layers::layers::Layers;
 use std::alloc::Global;
 
-/// Gives an empty handle the map that was read, if there is one, and says how the call ends.
+/// Gives an empty handle the map that was read, if there is one. The result is the number of the
+/// status.
 pub(crate) fn keep_read(handle: &mut MapHandle, alloc: Global, read: Result<Layers, Status>) -> u32
     requires { handle.old.slot.map ≡ None }
     ensures { IsKept read result handle.new.slot.map }

@@ -1,4 +1,4 @@
-//! Files that are read, for C, and for what calls C: functions of `include/hayro_cmap.h`.
+//! Files that are read, for C and for languages that call C: functions of `include/hayro_cmap.h`.
 #![tactic(auto)]
 
 mod bundle;

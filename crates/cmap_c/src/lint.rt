@@ -1,4 +1,4 @@
-//! What looks wrong in a file that has a map, for C.
+//! Warnings about a file that has a map, for C.
 
 ghost use Rattle.std.specs.Prelude.{◌≡◌, ◌≢◌, ◌⊎◌, ℕ, List, MatchOption};
 ghost use Rattle.cmap_handles.specs.Rooms.{IsPut};
@@ -21,28 +21,29 @@ use std::alloc::{AllocError, Global};
 #[repr(C)]
 #[derive(Clone, Copy)]
 pub struct FindingNumbers {
-    /// How many codes, declarations, sections or strings the warning concerns; 1 where it concerns the file.
+    /// The number of codes, declarations, sections or strings that the warning concerns; 1 if the warning concerns the
+    /// file.
     pub(crate) count: u64,
-    /// How many of the shown codes it concerns.
+    /// The number of shown codes that the warning concerns.
     pub(crate) shown: usize,
     /// The offset of the first section or string, in bytes; else 0.
     pub(crate) offset: usize,
     /// The warning.
     pub(crate) warning: u32,
-    /// Which of the other numbers say where the first of what it concerns is.
+    /// The kind of the first place that the warning concerns, which determines the numbers that give the place.
     pub(crate) place: u32,
-    /// The first code, or the first one of the first declaration; else 0.
+    /// The first code, or the first code of the first declaration; else 0.
     pub(crate) first: u32,
-    /// The same code, or the last one of the first declaration; else 0.
+    /// The same code, or the last code of the first declaration; else 0.
     pub(crate) last: u32,
-    /// How many bytes these codes have, or 0.
+    /// The number of bytes of these codes, or 0.
     pub(crate) byte_len: u32,
     /// The lowest of the shown codes, or 0.
     pub(crate) first_shown: u32,
 }
 
-/// What looks wrong in the file of a map: the warnings of `cmap check --lint`, but for the one about the name of the
-/// file. Without bytes there is no `text`, and no warning about how one is written.
+/// Writes the warnings about the file of a map: the warnings of `cmap check --lint`, except for the warning about the
+/// name of the file. Without bytes there is no `text`, and no warning about how a text is written.
 #[unsafe(no_mangle)]
 pub extern "C" fn hayro_cmap_lint(
     map: &mut MapHandle,
@@ -70,7 +71,7 @@ pub extern "C" fn hayro_cmap_lint(
     }
 }
 
-/// The name of a warning, as `cmap check --lint` reports it.
+/// Writes the name of a warning, as `cmap check --lint` reports it.
 #[unsafe(no_mangle)]
 pub extern "C" fn hayro_cmap_warning_name(warning: u32, room: &mut [u8], needed: &mut usize) -> u32
     ensures name { ((result ≡ number Done) ⊎ (result ≡ number NoRoom))
@@ -109,7 +110,7 @@ fn numbers_of_findings<'m>(
 }
 
 impl FindingNumbers {
-    /// Those of a finding.
+    /// The numbers of a finding.
     fn of(finding: &Finding<'_>) -> FindingNumbers {
         let (first, last, byte_len) = codes_at(finding.first);
         FindingNumbers {
@@ -137,7 +138,7 @@ fn number_of(place: Place<'_>) -> u32 {
     }
 }
 
-/// The first and the last code of a place, and how many bytes they have; zeros where it has none.
+/// The first and the last code of a place, and the number of their bytes; zeros if the place has no codes.
 fn codes_at(place: Place<'_>) -> (u32, u32, u8) {
     match place {
         Place::Code { byte_len, code } => (code, code, byte_len),

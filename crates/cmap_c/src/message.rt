@@ -2,7 +2,7 @@
 
 ghost use Rattle.std.specs.Prelude.{◌≡◌, ◌⊎◌, ℕ, List};
 ghost use Rattle.cmap_values.specs.Only.{IsOnly, HoldsOfNone};
-ghost use Rattle.cmap_chains.specs.declared.refusal.Cause.{Cause};
+ghost use Rattle.cmap_load.specs.declared.refusal.Cause.{Cause};
 ghost use Rattle.cmap_c.specs.Faults.{HasNumbers};
 ghost use Rattle.cmap_handles.specs.Rooms.{IsPut};
 ghost use Rattle.cmap_handles.specs.Statuses.{number};
@@ -13,7 +13,7 @@ use cmap_handles::room::put;
 use cmap_handles::status::Status;
 use std::alloc::Global;
 
-/// What is wrong, in English: the text of the cause that has these numbers.
+/// Writes what is wrong, in English: the text of the cause that has these numbers.
 #[unsafe(no_mangle)]
 pub extern "C" fn hayro_cmap_message(
     fault: &FaultNumbers,

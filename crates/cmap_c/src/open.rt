@@ -12,7 +12,7 @@ use crate::fault::ending_of;
 use crate::files::BaseFile;
 use crate::keep::keep_read;
 use crate::parse::{limit, tables_of};
-use cmap_chains::named_files::NamedFiles;
+use cmap_load::named_files::NamedFiles;
 use cmap_handles::bundle::BundleHandle;
 use cmap_handles::handle::MapHandle;
 use cmap_handles::status::Status;
@@ -21,9 +21,9 @@ use cmap_load::open_layers;
 use cmap_packed::OwnedBundle;
 use std::alloc::Global;
 
-/// The map of the file of this name: the first of `files` with the name, else that of the bundle. Where
-/// neither has one, Identity-H and Identity-V are made. A `budget` of 2^64 - 1 is no budget. A map that
-/// the handle has is freed.
+/// The map of the file of this name: the first of `files` with the name, else the bundle's file with the name. If
+/// neither has a file, Identity-H and Identity-V are made. A `budget` of 2^64 - 1 stands for no budget. The map that
+/// the handle held is freed.
 #[unsafe(no_mangle)]
 pub extern "C" fn hayro_cmap_open(
     map: &mut MapHandle,
@@ -52,7 +52,7 @@ pub extern "C" fn hayro_cmap_open(
     keep_read(map, alloc, opened)
 }
 
-/// The map of the file of this name, over these files and those of a bundle, if there is one.
+/// The map of the file of this name, over these files and the files of a bundle, if there is a bundle.
 fn open_owned(
     alloc: Global,
     budget: Option<u64>,

@@ -13,7 +13,7 @@ ghost use Rattle.cmap_handles.specs.declared.status.Status.TheVariants.{Done, Re
 use crate::fault::ending_of;
 use crate::files::BaseFile;
 use crate::keep::keep_read;
-use cmap_chains::named_files::{BundleFiles, NamedFiles};
+use cmap_load::named_files::{BundleFiles, NamedFiles};
 use cmap_handles::bundle::BundleHandle;
 use cmap_handles::handle::MapHandle;
 use cmap_handles::status::Status;
@@ -22,9 +22,9 @@ use cmap_load::read_layers;
 use cmap_packed::{Bundle, OwnedBundle};
 use std::alloc::Global;
 
-/// The map of the file `data`, over files by their names: the first of `files` with the name, else
-/// that of the bundle. Without bytes there is no bundle, and a `budget` of 2^64 - 1 is no budget. A map
-/// that the handle has is freed.
+/// The map of the file `data`, over files by their names: the first of `files` with the name, else the bundle's file
+/// with the name. Without bytes there is no bundle, and a `budget` of 2^64 - 1 stands for no budget. The map that the
+/// handle held is freed.
 #[unsafe(no_mangle)]
 pub extern "C" fn hayro_cmap_parse<'a>(
     map: &mut MapHandle,
@@ -51,8 +51,8 @@ pub extern "C" fn hayro_cmap_parse<'a>(
     keep_read(map, alloc, parse(alloc, limit(budget), data, bundle, files))
 }
 
-/// The map of the file `data`, as `hayro_cmap_parse` gives it, over a bundle that is open already, or
-/// over none where its handle is empty.
+/// The map of the file `data`, as `hayro_cmap_parse` gives it, over a bundle that is open already, or over no bundle
+/// if the handle `bundle` is empty.
 #[unsafe(no_mangle)]
 pub extern "C" fn hayro_cmap_parse_over(
     map: &mut MapHandle,
@@ -90,7 +90,8 @@ pub(crate) fn limit(budget: u64) -> Option<u64>
     }
 }
 
-/// The map of a file over these files and those of a bundle; of no bytes, over these files alone.
+/// The map of a file over these files and the files of the bundle with these bytes. Without bytes, the map is over
+/// these files alone.
 fn parse<'a>(
     alloc: Global,
     budget: Option<u64>,
@@ -116,7 +117,7 @@ fn parse<'a>(
     }
 }
 
-/// The map of a file over these files and those of a bundle, if there is one.
+/// The map of a file over these files and the files of a bundle, if there is a bundle.
 fn parse_owned(
     alloc: Global,
     budget: Option<u64>,
@@ -129,7 +130,7 @@ fn parse_owned(
     parse_from(alloc, budget, data, tables_of(bundle), files, bundle)
 }
 
-/// The tables of a bundle, as one without files.
+/// The tables of a bundle, as a bundle without files.
 pub(crate) fn tables_of(bundle: Option<&OwnedBundle>) -> Option<&Bundle<'static>>
     ensures { tables_given result
         ≡ option_map (λ b. b.tables) (option_copied bundle.entry) }
@@ -140,8 +141,8 @@ pub(crate) fn tables_of(bundle: Option<&OwnedBundle>) -> Option<&Bundle<'static>
     }
 }
 
-/// The map of a file over these files and those of a bundle, if there is one; binary files are read by
-/// the `tables`.
+/// The map of a file over these files and the files of a bundle, if there is a bundle. Binary files are read by the
+/// `tables`.
 fn parse_from<B: BundleFiles>(
     alloc: Global,
     budget: Option<u64>,

@@ -8,11 +8,11 @@ ghost use Rattle.cmap_lint.specs.declared.read_as.ReadAs.{ReadAs};
 ghost use Rattle.cmap_c.specs.Readings.{IsReading};
 
 use crate::fault::FaultNumbers;
-use cmap_chains::Cause;
+use cmap_load::Cause;
 use cmap_lint::read_as::ReadAs;
 
-/// What the part at a fault of a text is read as, by its number, if the bytes before the fault show it; else 0. The
-/// text is the file at fault, and read past its faults.
+/// The number for what the part at a fault of a text is read as, if the bytes before the fault show it; else 0. `text`
+/// is the file at fault, and is read past its faults.
 #[unsafe(no_mangle)]
 pub extern "C" fn hayro_cmap_read_as(fault: &FaultNumbers, text: &[u8]) -> u32
     ensures { ((result ≡ 0) × HoldsOfNone (IsReading fault.now text.now))

@@ -3,7 +3,7 @@
 ghost use Rattle.std.specs.Prelude.{◌≡◌, ◌⊎◌, ◌≤◌, None, IfOk, length};
 ghost use Rattle.std.specs.List.{All};
 ghost use Rattle.std.specs.Option.{option_copied};
-ghost use Rattle.cmap_chains.specs.SalvageSeen.{faults_seen};
+ghost use Rattle.cmap_load.specs.SalvageSeen.{faults_seen};
 ghost use Rattle.cmap_c.specs.NamedFiles.{budget_of};
 ghost use Rattle.cmap_c.specs.Salvaged.{AreFaultsShown, IsSalvageOver, IsSalvaged, IsSalvagedWith};
 ghost use Rattle.cmap_handles.specs.Statuses.{number};
@@ -12,8 +12,8 @@ ghost use Rattle.cmap_handles.specs.declared.status.Status.TheVariants.{Done, No
 use crate::fault::FaultNumbers;
 use crate::files::BaseFile;
 use crate::parse::{limit, tables_of};
-use cmap_chains::named_files::NamedFiles;
-use cmap_chains::{Refusal, SalvagedLayers, salvaged_layers};
+use cmap_load::named_files::NamedFiles;
+use cmap_load::{Refusal, SalvagedLayers, salvaged_layers};
 use cmap_handles::bundle::BundleHandle;
 use cmap_handles::handle::MapHandle;
 use cmap_handles::names::push_names;
@@ -25,11 +25,11 @@ use cmap_packed::OwnedBundle;
 use cmap_values::memory::both;
 use std::alloc::{AllocError, Global};
 
-/// The map of the file `data` over files as `hayro_cmap_parse_over` takes them, where each is read past
-/// its faults; and the faults, as many as have room. The names that lead to the files at fault come one
-/// after another, those of the first fault first, where all have room.
+/// The map of the file `data` over files as for `hayro_cmap_parse_over`, where each file is read past its faults; and
+/// the faults, as many as fit in `faults`. The names that lead to the files at fault go to the buffer `room` one after
+/// another, beginning with the names of the first fault, if all names fit.
 ///
-/// Of a file that has a map, for which the budget suffices, it is that map, and there is no fault.
+/// A file that has a map for which the budget suffices gives that map and no fault.
 #[unsafe(no_mangle)]
 pub extern "C" fn hayro_cmap_salvage(
     map: &mut MapHandle,
@@ -85,7 +85,7 @@ impl Salvaged {
 #[derive(Drop)]
 pub(crate) struct ShownFaults {
     pub(crate) faults: Vec<FaultNumbers>,
-    /// The names of all of them, one after another.
+    /// The names of all faults, one after another.
     pub(crate) names: Vec<u8>,
 }
 
@@ -107,7 +107,7 @@ impl ShownFaults {
     }
 }
 
-/// What is read of a file over these files and those of a bundle, if there is one.
+/// The map and the faults of a file over these files and the files of a bundle, if there is a bundle.
 fn salvage_owned(
     alloc: Global,
     budget: Option<u64>,

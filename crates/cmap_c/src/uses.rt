@@ -9,15 +9,15 @@ ghost use Rattle.cmap_handles.specs.Statuses.{number};
 ghost use Rattle.cmap_handles.specs.declared.status.Status.TheVariants.{Refused, NoMemory, Done, NoRoom};
 
 use crate::parse::tables_of;
-use cmap_chains::uses;
+use cmap_load::uses;
 use cmap_handles::bundle::BundleHandle;
 use cmap_handles::names::joined;
 use cmap_handles::room::{fill, put};
 use cmap_handles::status::Status;
 use std::alloc::Global;
 
-/// The names of the files that the file `data` uses, in the order of the uses: their lengths, and their
-/// bytes one after another. A binary file is read by the tables of the bundle.
+/// Writes the names of the files that the file `data` uses, in the order of the uses: the lengths of the names, and
+/// their bytes one after another. A binary file is read by the tables of the bundle.
 #[unsafe(no_mangle)]
 pub extern "C" fn hayro_cmap_uses(
     alloc: Global,
@@ -47,7 +47,7 @@ pub extern "C" fn hayro_cmap_uses(
     }
 }
 
-/// Writes the lengths of the names and their bytes, where both have room, and how many they are.
+/// Writes the lengths of the names and their bytes, if both fit, and the numbers of names and of bytes.
 fn put_names(
     alloc: Global,
     used: &[&[u8]],

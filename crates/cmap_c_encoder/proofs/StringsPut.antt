@@ -3,7 +3,7 @@ use Rattle.std.proofs.Common.{◌≡◌, ℕ, Bool, List, Option, None, Some, Re
 use Rattle.std.specs.Prelude.{IfOk, String, encode_utf8_all}
 use Rattle.std.specs.String.{string_bytes, string_vec}
 use Rattle.std.specs.Result.{MatchResult}
-use Rattle.std.specs.Global.{Vec}
+use Rattle.std.specs.Global.{Global, Vec}
 use Rattle.std.specs.Str.{IsUtf8, IsValidUpTo, chars}
 use Rattle.std.specs.declared.alloc.AllocError.{AllocError}
 use Rattle.cmap_values.specs.Outcomes.{Outcome}
@@ -64,7 +64,7 @@ lossy_put maps missing text (Err (fault.Refused refused)) old new old_needed nee
 lossy_put maps missing text (Err fault.Memory) old new old_needed needed old_offset offset status is ends = inr (inr ends.0.0, ends.1, ends.2)
 
 -- the same of a text in the characters that are usually written
-pub folded_known : (text given : List ℕ) (made : Result String AllocError) → given ≡ text → IsUtf8 text → IfOk made (λ shown. string_bytes shown ≡ encode_utf8_all (folded (chars given)))
+pub folded_known : (text given : List ℕ) (made : Result (String Global) AllocError) → given ≡ text → IsUtf8 text → IfOk made (λ shown. string_bytes shown ≡ encode_utf8_all (folded (chars given)))
     → IfOk made (λ shown. IsFolded text (string_vec shown).items)
 folded_known text given (Ok shown) same utf8 is = (utf8, is ∙ ap (λ t. encode_utf8_all (folded (chars t))) same)
 folded_known text given (Err e) same utf8 is = tt

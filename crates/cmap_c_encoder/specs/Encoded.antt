@@ -18,7 +18,7 @@ use Rattle.cmap_encode.specs.declared.encoder.Encoder.{Encoder}
 use Rattle.cmap_encode.specs.declared.encoder.Unencodable.{Unencodable}
 use Rattle.cmap_encode.specs.declared.pieces.Piece.{Piece}
 
--- an encoder of the font with this map from Unicode is there, or memory ran out and there is none
+-- there is an encoder of the font with this map from Unicode, or memory ran out and there is no encoder
 abbrev pub IsBuilt : Font → Option (List Layer) → Bool → Option Encoder → ℕ → Type 0
 IsBuilt font unicode exact built status = ((encoder : Encoder) × IsEncoderFor font unicode exact encoder × (built ≡ Some encoder) × (status ≡ number Done))
     ⊎ ((built ≡ None) × (status ≡ number NoMemory))
@@ -31,11 +31,11 @@ IsStringOf maps text string = IsUtf8 text × IsEncodingOf maps (chars text) stri
 abbrev pub ArePiecesOfText : Maps → List ℕ → List Piece → Type 0
 ArePiecesOfText maps text pieces = IsUtf8 text × ArePiecesOf maps (chars text) pieces
 
--- the text is UTF-8 and has no encoding, and its longest prefix that has one ends here; or it isn't UTF-8, and its longest prefix that is ends here
+-- the text is UTF-8 without an encoding, and its longest prefix with an encoding ends here; or the text isn't UTF-8, and its longest prefix in UTF-8 ends here
 abbrev pub IsRefusedAt : Maps → List ℕ → ℕ → Type 0
 IsRefusedAt maps text offset = (IsUtf8 text × IsStuckAt maps (chars text) offset) ⊎ IsValidUpTo text offset
 
--- the string of the text goes to the room; or where the text is refused goes to the offset; or memory ran out. What isn't named here stays
+-- the string of the text goes to the buffer; or the place where the text is refused goes to the offset; or memory ran out. All other outputs keep their values
 abbrev pub PutsString : Maps → List ℕ → List ℕ → List ℕ → ℕ → ℕ → ℕ → ℕ → ℕ → Type 0
 PutsString maps text old new old_needed needed old_offset offset status =
     ((string : List ℕ) × IsStringOf maps text string × IsPut string old new needed status × (offset ≡ old_offset))
@@ -46,11 +46,11 @@ PutsString maps text old new old_needed needed old_offset offset status =
 abbrev pub TakesLossy : Maps → List ℕ → List ℕ → Type 0
 TakesLossy maps missing text = IsUtf8 text × AreCodes maps.font.encoding missing
 
--- the string is then the encoding of the text as far as it has one, with these bytes for the other characters
+-- the text and the bytes are accepted, and the string is the encoding of the text, with these bytes for the characters without an encoding
 abbrev pub IsLossyStringOf : Maps → List ℕ → List ℕ → List ℕ → Type 0
 IsLossyStringOf maps missing text string = TakesLossy maps missing text × IsLossyEncodingOf maps missing (chars text) string
 
--- such a string goes to the room; or the text isn't UTF-8 or the bytes aren't such codes, or memory ran out, and nothing is written
+-- such a string goes to the buffer; or nothing is written, since the text isn't UTF-8, the bytes aren't whole codes of the font, or memory ran out
 abbrev pub PutsLossyString : Maps → List ℕ → List ℕ → List ℕ → List ℕ → ℕ → ℕ → ℕ → Type 0
 PutsLossyString maps missing text old new old_needed needed status =
     ((string : List ℕ) × IsLossyStringOf maps missing text string × IsPut string old new needed status)

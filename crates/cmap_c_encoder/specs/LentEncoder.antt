@@ -9,10 +9,10 @@ use Rattle.cmap_c_encoder.specs.declared.slot.EncoderSlot.{EncoderSlot}
 use Rattle.cmap_c_encoder.specs.contracts.handle.EncoderHandle as handle
 use Rattle.cmap_c_encoder.specs.contracts.slot.EncoderSlot as slot
 
--- it has what was left behind the reference
+-- the slot then has the encoder that was left behind the reference
 abbrev pub LendsEncoder : MutBor EncoderSlot → MutBor Encoder → Fml
 LendsEncoder given lent = Lends slot.the_row shared_encoder given lent (λ encoder. record given.now { encoder = Some encoder })
 
--- a handle has what it had
+-- the handle then has the encoder that it had before
 abbrev pub RestsEncoder : MutBor EncoderHandle → Fml
 RestsEncoder given = follows_so handle.the_row handle.the_row given.ghost_name none (λ _ _. ⊤) (λ last. last.slot.encoder ≡ given.now.slot.encoder)

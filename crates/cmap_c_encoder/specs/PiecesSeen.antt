@@ -25,7 +25,7 @@ grade_number National = 4
 abbrev pub piece_seen : Piece → EncodedPiece
 piece_seen piece = record { text_len = piece.text_len; code_len = piece.code_len; grade = grade_number piece.grade }
 
--- the pieces of the text go to the room; or where the text is refused goes to the offset; or memory ran out. What isn't named here stays
+-- the pieces of the text go to the buffer; or the place where the text is refused goes to the offset; or memory ran out. All other outputs keep their values
 abbrev pub PutsPieces : Maps → List ℕ → List EncodedPiece → List EncodedPiece → ℕ → ℕ → ℕ → ℕ → ℕ → Type 0
 PutsPieces maps text old new old_needed needed old_offset offset status =
     ((pieces : List Piece) × ArePiecesOfText maps text pieces × IsPut (map piece_seen pieces) old new needed status × (offset ≡ old_offset))

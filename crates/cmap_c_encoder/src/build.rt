@@ -17,8 +17,8 @@ use cmap_layers::layers::Layers;
 use cmap_unicode::Extractor;
 use std::alloc::{AllocError, Global};
 
-/// Makes the encoder of the font with these maps, of which the last two may be absent. An encoder that the
-/// handle has is freed.
+/// Makes the encoder of the font with these maps. The last two maps may be absent. The encoder that the handle held is
+/// freed.
 #[unsafe(no_mangle)]
 pub extern "C" fn hayro_cmap_encoder_build(
     encoder: &mut EncoderHandle,
@@ -42,8 +42,9 @@ pub extern "C" fn hayro_cmap_encoder_build(
     )
 }
 
-/// The same with the map of the font's character collection from Unicode, which may be absent, too; an `exact`
-/// encoder chooses only codes that are read as what they stand for.
+/// Makes the encoder of the font with these maps and with the map from Unicode of the font's character collection,
+/// which may be absent too. An `exact` encoder chooses only codes that are read as the text for which they stand. The
+/// encoder that the handle held is freed.
 #[unsafe(no_mangle)]
 pub extern "C" fn hayro_cmap_encoder_build_with(
     encoder: &mut EncoderHandle,
@@ -91,7 +92,7 @@ fn font<'m>(
     }
 }
 
-/// The encoder of a font with a map from Unicode, which several handles may have.
+/// The encoder of a font with a map from Unicode. Several handles may share the encoder.
 fn built(
     alloc: Global,
     font: &Extractor<'_>,

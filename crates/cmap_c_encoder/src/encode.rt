@@ -17,7 +17,8 @@ use cmap_values::fault::Fault;
 use std::alloc::Global;
 use std::str;
 
-/// The encoding of a text in UTF-8.
+/// Writes the encoding of a text in UTF-8 to the buffer `room`, and its length in bytes to `needed`. The offset where
+/// a text is refused goes to `offset`.
 #[unsafe(no_mangle)]
 pub extern "C" fn hayro_cmap_encode(
     encoder: &mut EncoderHandle,
@@ -39,8 +40,8 @@ pub extern "C" fn hayro_cmap_encode(
     put_string(string_of(alloc, encoder, text), room, needed, offset)
 }
 
-/// The same with bytes in the place of each character that has no encoding. They are whole codes of the font, or
-/// none.
+/// Writes the encoding of a text in UTF-8, with the bytes `missing` in place of each character that has no encoding.
+/// `missing` consists of whole codes of the font, or is empty.
 #[unsafe(no_mangle)]
 pub extern "C" fn hayro_cmap_encode_lossy(
     encoder: &mut EncoderHandle,
@@ -67,7 +68,7 @@ pub extern "C" fn hayro_cmap_encode_lossy(
     )
 }
 
-/// The encoding of a text in UTF-8; refused where there is none.
+/// The encoding of a text in UTF-8. A text without an encoding is refused.
 fn string_of(alloc: Global, encoder: &Encoder, text: &[u8]) -> Result<Vec<u8>, Fault<Unencodable>>
     ensures { (maps : Maps) → IsEncoderOf maps encoder.now → Outcome
         (λ string. IsStringOf maps text.now string.items)
@@ -76,8 +77,8 @@ fn string_of(alloc: Global, encoder: &Encoder, text: &[u8]) -> Result<Vec<u8>, F
     encoder.encode(alloc, utf8(text)?)
 }
 
-/// The same with whole codes in the place of each character that has no encoding; refused where the bytes for
-/// these are no such codes, too.
+/// The encoding of a text in UTF-8, with the codes `missing` in place of each character that has no encoding. Bytes in
+/// `missing` that aren't whole codes are refused too.
 fn lossy_string_of(
     alloc: Global,
     encoder: &Encoder,
@@ -94,7 +95,7 @@ fn lossy_string_of(
     Ok(encoder.encode_lossy(alloc, utf8(text)?, missing)?)
 }
 
-/// The text, if it is UTF-8; else it is refused where it stops being that.
+/// The text, if it is UTF-8; else the text is refused where it stops being UTF-8.
 pub(crate) fn utf8(text: &[u8]) -> Result<&str, Fault<Unencodable>>
     ensures { Outcome (λ found. (found.now ≡ text.now) × IsUtf8 text.now)
         (λ refused. (IsUtf8 text.now → ⊥) × IsValidUpTo text.now refused.offset) result }
@@ -107,8 +108,8 @@ pub(crate) fn utf8(text: &[u8]) -> Result<&str, Fault<Unencodable>>
     }
 }
 
-/// Writes the string at the head of the room, where it has room, and how many bytes it has; or where the text
-/// is refused.
+/// Writes the string to the start of the buffer `room`, if the string fits, and its length in bytes to `needed`; or
+/// writes to `offset` where the text is refused.
 pub(crate) fn put_string(
     string: Result<Vec<u8>, Fault<Unencodable>>,
     room: &mut [u8],
@@ -123,7 +124,7 @@ pub(crate) fn put_string(
     }
 }
 
-/// Tells where the text is refused, if it is.
+/// The status of a failure. The offset where a text is refused is written to `offset`.
 pub(crate) fn failed(fault: Fault<Unencodable>, offset: &mut usize) -> u32
     ensures { EndsFailed fault offset.old offset.new result }
 {

@@ -9,7 +9,9 @@ use cmap_encode::{Unencodable, fold};
 use cmap_values::fault::Fault;
 use std::alloc::Global;
 
-/// A text in UTF-8 in the characters that are usually written for what it shows.
+/// Writes a text in UTF-8 to the buffer `room`, in the characters that are usually written for what
+/// the text shows, and its length in bytes to `needed`. The offset where a text stops being UTF-8
+/// goes to `offset`.
 #[unsafe(no_mangle)]
 pub extern "C" fn hayro_cmap_fold(
     alloc: Global,
@@ -23,7 +25,8 @@ pub extern "C" fn hayro_cmap_fold(
     put_string(folded(alloc, text), room, needed, offset)
 }
 
-/// The text in these characters; refused where it stops being UTF-8.
+/// The text in the characters that are usually written. The text is refused where it stops being
+/// UTF-8.
 fn folded(alloc: Global, text: &[u8]) -> Result<Vec<u8>, Fault<Unencodable>>
     ensures { Outcome (λ shown. IsFolded text.now shown.items)
         (λ refused. IsValidUpTo text.now refused.offset) result }

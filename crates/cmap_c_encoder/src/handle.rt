@@ -13,7 +13,7 @@ use cmap_handles::status::Status;
 use std::alloc::{AllocError, Global};
 use std::mem;
 
-/// An encoder that C holds, or none. One that is empty is all zero bytes.
+/// An encoder that C holds, or none. An empty handle is all zero bytes.
 #[repr(C)]
 #[derive(Drop)]
 pub struct EncoderHandle {
@@ -37,7 +37,7 @@ impl EncoderHandle {
         }
     }
 
-    /// The encoder, if there is one, to share it.
+    /// The encoder, if there is one, for sharing.
     pub(crate) fn shared(&mut self) -> Option<&Shared<Encoder>>
         ensures* rests { sem 𝓛 (RestsEncoder self.entry) }
         ensures encoder { option_copied result ≡ self.old.slot.encoder }
@@ -49,7 +49,7 @@ impl EncoderHandle {
         }
     }
 
-    /// The encoder, if there is one, to encode by it.
+    /// The encoder, if there is one, for encoding.
     pub(crate) fn encoder(&mut self) -> Option<&Encoder>
         ensures* rests { sem 𝓛 (RestsEncoder self.entry) }
         ensures encoder { option_copied result ≡ self.old.slot.encoder }
@@ -71,7 +71,8 @@ impl EncoderHandle {
         };
     }
 
-    /// Gives an empty handle the encoder that was made, or none where memory ran out.
+    /// Gives an empty handle the encoder that was made, or no encoder if memory ran out. The result
+    /// is the number of the status.
     pub(crate) fn keep(&mut self, made: Result<Box<Shared<Encoder>>, AllocError>) -> u32
         requires { self.old.slot.encoder ≡ None }
         ensures { MatchResult made

@@ -1,4 +1,4 @@
-//! Strings of a font that show texts, for C, and for what calls C: functions of `include/hayro_cmap.h`.
+//! Strings of a font that show texts, for C and for languages that call C: functions of `include/hayro_cmap.h`.
 #![tactic(auto)]
 
 mod build;

@@ -17,16 +17,16 @@ use cmap_handles::status::Status;
 use cmap_values::fault::Fault;
 use std::alloc::Global;
 
-/// A piece of a text, and what stands for it in the string. Each of its fields may have any value, since C may
-/// hand in a room that was never written.
+/// A piece of a text, and the code that stands for it in the string. Each field may have any value, since C may pass a
+/// buffer that was never written.
 #[repr(C)]
 #[derive(Clone, Copy)]
 pub struct EncodedPiece {
-    /// How many bytes it has in UTF-8.
+    /// The number of bytes of the piece in UTF-8.
     pub(crate) text_len: usize,
-    /// How many bytes its code has, 1 to 4; 0 where nothing stands for a variation selector.
+    /// The number of bytes of the code, 1 to 4; 0 if no code stands for a variation selector.
     pub(crate) code_len: u32,
-    /// The number of its grade.
+    /// The number of the grade in the header.
     pub(crate) grade: u32,
 }
 
@@ -53,7 +53,7 @@ impl Items for Pieces {
     }
 }
 
-/// The pieces of a text in UTF-8, whose codes `hayro_cmap_encode` gives one after another.
+/// Writes the pieces of a text in UTF-8. `hayro_cmap_encode` gives the codes of the pieces one after another.
 #[unsafe(no_mangle)]
 pub extern "C" fn hayro_cmap_encode_pieces(
     encoder: &mut EncoderHandle,
@@ -76,7 +76,7 @@ pub extern "C" fn hayro_cmap_encode_pieces(
     put_pieces(pieces_of(alloc, encoder, text), pieces, needed, offset)
 }
 
-/// The pieces of a text in UTF-8; refused where it has no encoding.
+/// The pieces of a text in UTF-8. A text without an encoding is refused.
 fn pieces_of(
     alloc: Global,
     encoder: &Encoder,
@@ -89,8 +89,8 @@ fn pieces_of(
     encoder.pieces(alloc, utf8(text)?)
 }
 
-/// Writes the pieces at the head of the room, where all of them have room, and how many they are; or where the
-/// text is refused.
+/// Writes the pieces to the start of the buffer `room`, if all pieces fit, and the number of pieces to `needed`; or
+/// writes to `offset` where the text is refused.
 fn put_pieces(
     made: Result<Vec<Piece>, Fault<Unencodable>>,
     room: &mut [EncodedPiece],

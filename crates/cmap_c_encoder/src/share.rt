@@ -1,4 +1,4 @@
-//! Encoders that several handles have, for C.
+//! Encoders that several handles share, for C.
 
 ghost use Rattle.std.specs.Prelude.{◌≡◌, ◌⊎◌, None};
 ghost use Rattle.cmap_handles.specs.Statuses.{number};
@@ -8,7 +8,8 @@ use crate::handle::EncoderHandle;
 use cmap_handles::status::Status;
 use std::alloc::Global;
 
-/// Gives an `other` handle the same encoder; without one, `other` is empty. An encoder that it has is freed.
+/// Lets the handle `other` share the encoder of a handle. `other` is emptied if there is no encoder. The encoder that
+/// `other` held is freed.
 #[unsafe(no_mangle)]
 pub extern "C" fn hayro_cmap_encoder_share(
     encoder: &mut EncoderHandle,

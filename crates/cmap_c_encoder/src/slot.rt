@@ -1,4 +1,4 @@
-//! What C holds of an encoder, behind a pointer.
+//! The pointer to an encoder in a handle of C.
 
 ghost use Rattle.std.specs.Prelude.{◌≡◌, Option, None, Some, IsSome};
 ghost use Rattle.std.specs.Coded.{coded_option};
@@ -28,7 +28,7 @@ impl Model for EncoderSlot {
     ghost also_owns = { λ slot. held shared_encoder slot.alloc slot.at slot.encoder };
 }
 
-/// It may go to another thread, since an encoder may be read in several.
+/// A slot may go to another thread, since several threads may read an encoder.
 unsafe impl Send for EncoderSlot {}
 
 impl EncoderSlot {

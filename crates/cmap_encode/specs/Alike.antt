@@ -3,7 +3,7 @@ use Rattle.std.specs.Prelude.{ℕ, ◌==◌, if◌then◌else◌, List, [], ◌�
 use Rattle.std.specs.Option.{option_or}
 use Rattle.std.specs.List.{list_any}
 
--- what the first of these gives for which it gives something
+-- the value of the function for the first item that has a value
 abbrev pub first_given : {A B : Type 0} → (A → Option B) → List A → Option B
 first_given f [] = None
 first_given f (x ∷ xs) = option_or (f x) (first_given f xs)
@@ -73,7 +73,7 @@ alike_lines =
     ∷ (0xFF3B ∷ 0xFE47 ∷ [])
     ∷ (0xFF3D ∷ 0xFE48 ∷ []) ∷ []
 
--- a character of ASCII, and those that national versions of ISO 646 show by its byte
+-- a character of ASCII, and the characters that national versions of ISO 646 show by its byte
 abbrev pub national_lines : List (List ℕ)
 national_lines =
     (0x5C ∷ 0xA5 ∷ 0x20A9 ∷ [])

@@ -20,7 +20,7 @@ grade_of rank.OwnForm = grade.Canonical
 grade_of rank.Canonical = grade.Canonical
 grade_of rank.Collection = grade.Collection
 
--- the code of a text, as what stands for it
+-- the code of a text, as the choice for the text
 abbrev pub own_choice : Ranked → pieces.Choice
 own_choice own = record { bytes = code_bytes own.code; grade = grade_of own.rank }
 
@@ -31,7 +31,7 @@ bytes_in (Some code) = code_bytes code
 abbrev pub choice_seen : Choice → pieces.Choice
 choice_seen choice = record { bytes = bytes_in choice.code; grade = choice.grade }
 
--- what an index has as the own code of each text
+-- the own code of each text in an index
 abbrev pub owned : Index → pieces.Choices
 owned index text = option_map own_choice (own_in index text)
 

@@ -18,10 +18,10 @@ code_bytes code = bytes_of (length_of code.len) code.number
 abbrev pub IsWhole : List Layer → List ℕ → Type 0
 IsWhole layers bytes = IsShortestInside layers bytes (length bytes)
 
--- the codes that are shorter, and those as long with a number below a limit
+-- the codes that are shorter, and the codes of this length with a number below a limit
 abbrev pub IsBefore : ℕ → ℕ → List ℕ → Type 0
 IsBefore len limit bytes = (length bytes < len) ⊎ ((length bytes ≡ len) × (big_endian bytes < limit))
 
--- the codes of len bytes with a number from a first one on and below a limit
+-- the codes of len bytes with a number from a first number on and below a limit
 abbrev pub IsBetween : ℕ → ℕ → ℕ → List ℕ → Type 0
 IsBetween len first limit bytes = (length bytes ≡ len) × (first ≤ big_endian bytes) × (big_endian bytes < limit)

@@ -9,7 +9,7 @@ use Rattle.cmap_encode.specs.Standing.{standing}
 use Rattle.cmap_encode.specs.declared.pieces.Piece.{Piece}
 use Rattle.cmap_encode.specs.declared.rank.Ranked.{Ranked}
 
--- the text falls into pieces, and the string is what stands for them, one after another
+-- the text falls into pieces, and the string is the codes that stand for the pieces, one after another
 pub record IsEncodingBy (choices : Choices) (text string : List ℕ) : Type 0 where
   pub pieces : List Choice
   pub are : AreChoices choices text pieces
@@ -33,23 +33,23 @@ pub record IsLongestEncodable (choices : Choices) (text : List ℕ) (count : ℕ
   pub encodable : IsEncodable choices (take count text)
   pub longest : (more : ℕ) → count < more → more ≤ length text → IsEncodable choices (take more text) → ⊥
 
--- the text doesn't fall into pieces; its longest prefix that does ends at this offset, in bytes of UTF-8
+-- the text doesn't fall into pieces; its longest prefix that falls into pieces ends at this offset, in bytes of UTF-8
 pub record IsStuckBy (choices : Choices) (text : List ℕ) (offset : ℕ) : Type 0 where
   pub none : IsEncodable choices text → ⊥
   pub count : ℕ
   pub longest : IsLongestEncodable choices text count
   pub is_offset : offset ≡ length (flat_map encode_utf8 (take count text))
 
--- the longest prefix that falls into pieces, encoded; then other bytes for the character after it; then what comes after that likewise
+-- the longest prefix that falls into pieces, encoded; then other bytes for the character after the prefix; then the rest of the text likewise
 pub data IsLossyEncodingBy (choices : Choices) (missing : List ℕ) : List ℕ → List ℕ → Type 0 where
   -- all of the text falls into pieces
   whole : (text string : List ℕ) → IsEncodingBy choices text string → IsLossyEncodingBy choices missing text string
-  -- count characters of it do, and no more
+  -- the first count characters fall into pieces, and no more
   stuck : (text prefix rest : List ℕ) (count : ℕ) → IsLongestEncodable choices text count → count < length text → IsEncodingBy choices (take count text) prefix
       → IsLossyEncodingBy choices missing (drop (count + 1) text) rest → IsLossyEncodingBy choices missing text (prefix ++ (missing ++ rest))
 
 -- ---- by the maps of a font
--- it has the own code of the text, or the text has none
+-- the choice is the own code of the text, or the text has no own code
 pub record IsOwnChoice (maps : Maps) (text : List ℕ) (own : Option Choice) : Type 0 where
   pub found : Option Ranked
   pub is_own : IsOwn maps text found
@@ -73,13 +73,13 @@ pub record ArePiecesOf (maps : Maps) (text : List ℕ) (pieces : List Piece) : T
   pub are : AreChoicesOf maps choices
   pub pieces_by : ArePiecesBy choices text pieces
 
--- the text has no encoding; its longest prefix that has one ends at this offset, in bytes of UTF-8
+-- the text has no encoding; its longest prefix with an encoding ends at this offset, in bytes of UTF-8
 pub record IsStuckAt (maps : Maps) (text : List ℕ) (offset : ℕ) : Type 0 where
   pub choices : Choices
   pub are : AreChoicesOf maps choices
   pub stuck : IsStuckBy choices text offset
 
--- the string is the encoding of the text as far as it has one, with other bytes for the other characters
+-- the string is the encoding of the text as far as the text has an encoding, with other bytes for the other characters
 pub record IsLossyEncodingOf (maps : Maps) (missing text string : List ℕ) : Type 0 where
   pub choices : Choices
   pub are : AreChoicesOf maps choices

@@ -8,7 +8,7 @@ use Rattle.cmap_encode.specs.Letters.{is_between, is_selector}
 abbrev pub is_form : ℕ → Bool
 is_form character = is_between 0x2F00 0x2FDF character || is_between 0xFB00 0xFDFF character || is_between 0xFE70 0xFEFF character
 
--- what the Unicode Standard decomposes a form to, or itself
+-- the characters to which the Unicode Standard decomposes a form, or the form itself
 abbrev pub letters_of : ℕ → List ℕ
 letters_of form = or_itself form (compatibility_decomposition form)
 
@@ -21,11 +21,11 @@ abbrev pub first_or : ℕ → List ℕ → ℕ
 first_or other [] = other
 first_or other (first ∷ more) = first
 
--- the usual character for one: the first of its line, if it is unusual and has a line
+-- the usual character for a character: the first of its line, if the character is unusual and has a line, else the character itself
 abbrev pub usual : ℕ → ℕ
 usual character = if is_unusual character then first_or character (alike_to character ++ national_of character) else character
 
--- what stands for a character
+-- the usual characters for a character
 abbrev pub folded_character : ℕ → List ℕ
 folded_character character =
     if is_selector character then []

@@ -47,7 +47,7 @@ scalar_code Utf8 c = utf8_code c
 scalar_code Utf16 c = utf16_code c
 scalar_code Utf32 c = code_with Four c
 
--- the code of a character in a form; only scalar values have one
+-- the code of a character in a form; only scalar values have a code
 abbrev pub code_in : Form → ℕ → Option Code
 code_in form c = if is_scalar c then Some (scalar_code form c) else None
 

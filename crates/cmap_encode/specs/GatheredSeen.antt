@@ -22,7 +22,7 @@ use Rattle.cmap_encode.specs.declared.rank.Rank.TheVariants.{Canonical, Collecti
 use Rattle.cmap_encode.specs.declared.rank.Ranked.{Ranked}
 use Rattle.cmap_encode.specs.declared.runs_by_prefix.RunsByPrefix.{RunsByPrefix}
 
--- those of a kind before a limit are given, and no others
+-- the candidates of a kind before a limit are given, and no others
 abbrev pub AreJust : ℕ → ℕ → (Candidate → Type 0) → (Candidate → Type 0) → Type 0
 AreJust len limit Kind Given = (candidate : Candidate) → Given candidate ↔ (IsBefore len limit candidate.bytes × Kind candidate)
 
@@ -39,11 +39,11 @@ pub record AreGathered (maps : Maps) (len limit : ℕ) (gathered : Gathered) : T
   pub stated : (text : List ℕ) → AreJust len limit (IsStatedOne maps text) (GivesText gathered.texts text)
   pub silent : (cid : ℕ) → AreJust len limit (IsSilentOne maps cid) (λ candidate. Any (Gives cid candidate) gathered.cids.items)
 
--- the map has texts for codes from the first to the last one, which count on from this one
+-- the map has texts for codes from the first to the last, and the texts are consecutive from this text on
 abbrev pub HasTexts : Option (List Layer) → ℕ → ℕ → Text → Type 0
 HasTexts map first last its = (count : ℕ) → first + count ≤ last → text_in map (first + count) ≡ Some (text_after its count)
 
--- the map has no texts for them
+-- the map has no texts for codes from the first to the last
 abbrev pub HasNoTexts : Option (List Layer) → ℕ → ℕ → Type 0
 HasNoTexts map first last = (code : ℕ) → first ≤ code → code ≤ last → text_in map code ≡ None
 
@@ -51,11 +51,11 @@ HasNoTexts map first last = (code : ℕ) → first ≤ code → code ≤ last �
 abbrev pub AreShown : Maps → ℕ → ℕ → ℕ → Type 0
 AreShown maps len first last = (count : ℕ) → first + count ≤ last → IsShown maps (first + count) len
 
--- they have these glyphs
+-- codes of len bytes from the first to the last have these glyphs
 abbrev pub HaveGlyphs : Maps → ℕ → ℕ → ℕ → Glyphs → Type 0
 HaveGlyphs maps len first last glyphs = (count : ℕ) → first + count ≤ last → glyph_of maps (first + count) len ≡ glyph_after glyphs count
 
--- it is the first code of a CID that has the text, from a first CID on and below a limit
+-- the candidate is the first code of a CID that has the text, from a first CID on and below a limit
 pub record GivesFirst (collection : Option (List Layer)) (firsts : List CodeRun) (first limit : ℕ) (text : List ℕ) (candidate : Candidate) : Type 0 where
   pub cid : ℕ
   pub from : first ≤ cid

@@ -4,7 +4,7 @@ use Rattle.cmap_encode.specs.KeyCodesSeen.{AreFirsts, AreLasts}
 use Rattle.cmap_encode.specs.declared.glyph_codes.GlyphCodes.{GlyphCodes}
 use Rattle.cmap_encode.specs.declared.key_codes.CodeRun.{CodeRun}
 
--- they have the first and the last code that the runs give to each glyph
+-- the glyph codes are the first and the last code that the runs give to each glyph
 pub record AreGlyphCodes (runs : List CodeRun) (glyphs : GlyphCodes) : Type 0 where
   pub firsts : AreFirsts runs glyphs.firsts
   pub lasts : AreLasts runs glyphs.lasts

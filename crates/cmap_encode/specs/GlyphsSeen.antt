@@ -1,4 +1,4 @@
--- Private aid: the glyphs of codes in a row.
+-- Private aid: the glyphs of consecutive codes.
 use Rattle.std.specs.Prelude.{◌≡◌, ◌↔◌, ℕ, ◌+◌, ◌-◌, ◌^◌, ◌<◌, ◌≤◌, List, length, Option, None, Some, IfSome, IsSome, option_map}
 use Rattle.cmap_values.specs.BigEndian.{big_endian}
 use Rattle.cmap_values.specs.CodeLengths.{length_of}
@@ -39,14 +39,14 @@ pub record AreGlyphs (glyph : ℕ → Option ℕ) (said : ℕ → Option Given) 
   pub declared : (count : ℕ) → first + count ≤ stretch.last → IsDeclaredSo stretch.glyphs (said (first + count))
   pub fit : Fit stretch.glyphs (stretch.last - first)
 
--- codes from this one to the last one are silent with glyphs that count on from the first, or none is
+-- the codes from this code to the last are all silent, with consecutive glyphs from the first glyph on, or none of the codes is silent
 pub record AreSilent (maps : Maps) (code : Code) (stretch : SilentStretch) : Type 0 where
   pub within : code.number ≤ stretch.last
   pub fits : IfSome stretch.cid (λ cid. stretch.last < 256 ^ length_of code.len)
   pub silent : (count cid : ℕ) (bytes : List ℕ) → code.number + count ≤ stretch.last → IsString bytes → length bytes ≡ length_of code.len → big_endian bytes ≡ code.number + count
       → IsSilent maps cid bytes ↔ (option_map (λ first. first + count) stretch.cid ≡ Some cid)
 
--- characters in a row have codes that count on, and glyphs that do, or none has
+-- consecutive characters have consecutive codes and consecutive glyphs, or none has
 pub record AreOfCharacters (form : Form) (Has : ℕ → ℕ → Type 0) (first : ℕ) (row : GlyphRow) : Type 0 where
   pub within : first + row.more ≤ 0x10FFFF
   pub codes : HaveCodes form first (first + row.more) row.code

@@ -17,7 +17,7 @@ AreFirstsOf runs found = MatchOption found (runs ≡ []) (λ firsts. AreFirsts r
 abbrev pub first_in : Option (Box (List CodeRun)) → ℕ → Option Ranked
 first_in found key = option_and_then (λ firsts. code_for firsts.value key) found
 
--- the code that it has for the text of a node and a last character
+-- the code that the index has for the text of a node followed by a last character
 abbrev pub own_at : Index → Option ℕ → ℕ → Option Ranked
 own_at index node last = option_and_then (λ found. first_in found last) (option_and_then (slice_get index.firsts.items) node)
 
@@ -29,6 +29,6 @@ own_after index prefix last = own_at index (node_of index.tree prefix) last
 abbrev pub own_in : Index → List ℕ → Option Ranked
 own_in index text = option_and_then (own_after index (take (length text - 1) text)) (slice_get text (length text - 1))
 
--- for each text it has the first of the codes that stand for it
+-- the index has, for each text, the first of the codes that stand for the text
 abbrev pub IsIndexOf : Maps → Index → Type 0
 IsIndexOf maps index = (text : List ℕ) → IsOwn maps text (own_in index text)

@@ -26,19 +26,19 @@ Gives key candidate run = (run.range.start ≤ key) × (key ≤ run.range.end) �
 abbrev pub IsFirstGiven : List CodeRun → ℕ → Option Candidate → Type 0
 IsFirstGiven runs key found = IsFirstAmong (λ candidate. Any (Gives key candidate) runs) found
 
--- it comes last, by its bytes
+-- of the codes that the runs give to the key, the candidate is the last by its bytes; or they give none
 abbrev pub IsLastGiven : List CodeRun → ℕ → Option Candidate → Type 0
 IsLastGiven runs key found = IsFirstBy (λ last other. IsNotAfter other.bytes last.bytes) (λ candidate. Any (Gives key candidate) runs) found
 
--- the code that the last run gives that contains the key
+-- the code of the key by the last run that contains the key
 abbrev pub code_for : List CodeRun → ℕ → Option Ranked
 code_for codes key = option_map (λ run. code_at run key) (last_of run_span codes key)
 
--- they have for each key the first code that the runs give it
+-- the key codes have, for each key, the first code that the runs give to the key
 abbrev pub AreFirsts : List CodeRun → List CodeRun → Type 0
 AreFirsts runs firsts = (key : ℕ) → IsFirstGiven runs key (option_map candidate_of (code_for firsts key))
 
--- the last one
+-- the key codes have, for each key, the last code that the runs give to the key
 abbrev pub AreLasts : List CodeRun → List CodeRun → Type 0
 AreLasts runs lasts = (key : ℕ) → IsLastGiven runs key (option_map candidate_of (code_for lasts key))
 
@@ -48,10 +48,10 @@ pub record IsKeyStretch (keys : List CodeRun) (first : ℕ) (stretch : KeyStretc
   pub codes : (count : ℕ) → first + count ≤ stretch.last → code_for keys (first + count) ≡ option_map (ranked_after count) stretch.first
   pub fits : IfSome stretch.first (λ ranked. ranked.code.number + (stretch.last - first) < 256 ^ length_of ranked.code.len)
 
--- the higher, the earlier are the codes that it gives
+-- the higher the precedence of a run, the earlier the codes that the run gives
 abbrev pub precedence_of : CodeRun → ℕ
 precedence_of run = 2 ^ 35 * (3 - place_of run.first.rank) + 2 ^ 33 * (4 - length_of run.first.code.len) + (2 ^ 32 + run.range.start - run.first.code.number)
 
--- the higher, the later are the codes that it gives
+-- the higher the lateness of a run, the later the codes that the run gives
 abbrev pub lateness_of : CodeRun → ℕ
 lateness_of run = 2 ^ 33 * length_of run.first.code.len + 2 ^ 32 + run.first.code.number - run.range.start

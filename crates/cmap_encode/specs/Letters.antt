@@ -1,4 +1,4 @@
--- Characters that belong to the one before them.
+-- Characters that belong to the character before them.
 use Rattle.std.specs.Prelude.{ℕ, zero, suc, ◌+◌, Bool, ◌&&◌, ◌||◌, List, [], ◌∷◌, ◌++◌, nat_le}
 
 abbrev pub is_between : ℕ → ℕ → ℕ → Bool
@@ -8,12 +8,12 @@ is_between first last character = nat_le first character && nat_le character las
 abbrev pub is_selector : ℕ → Bool
 is_selector character = is_between 0xFE00 0xFE0F character || is_between 0xE0100 0xE01EF character
 
--- numbers in a row, from a first one on
+-- consecutive numbers, from a first number on
 unfoldable pub counted : ℕ → ℕ → List ℕ
 counted first zero = []
 counted first (suc count) = first ∷ counted (first + 1) count
 
--- all of them, one after another
+-- all variation selectors, one after another
 unfoldable pub selectors : List ℕ
 selectors = counted 0xFE00 16 ++ counted 0xE0100 240
 

@@ -27,13 +27,13 @@ pub record Maps : Type 0 where
 abbrev pub is_turned : Maps → Bool
 is_turned maps = nat_lt (length maps.lower) (length maps.font.encoding)
 
--- the map from Unicode has these layers; its lower ones count as those of the font do
+-- the map from Unicode has these layers; the lower layers of the map come first if the lower layers of the font do
 pub record IsUnicodeOf (layers : List Layer) (turned : Bool) (unicode : Unicode) : Type 0 where
   pub form : IsFormOf layers unicode.form
   pub lower : unicode.lower ≡ (if turned then lower_of layers else layers)
   pub all : unicode.all ≡ layers
 
--- the maps of a font, with these layers as the map from Unicode, if there are some; where only texts read back count, the CIDs of a code are those of all layers
+-- the maps of a font, with these layers as the map from Unicode, if there are some; if only texts that read back count, the CIDs of a code are the CIDs by all layers
 pub record AreMapsOf (font : Font) (unicode : Option (List Layer)) (exact : Bool) (maps : Maps) : Type 0 where
   pub font_is : maps.font ≡ font
   pub exact_is : maps.exact ≡ exact

@@ -8,7 +8,7 @@ use Rattle.cmap_layers.specs.Layers.{Layer}
 abbrev pub IsInside : List Layer → ℕ → ℕ → Type 0
 IsInside layers len number = Any (λ layer. Any (λ space. IsWithin space number len) layer.lists.spaces) layers
 
--- the bytes of the number before its last ones, after of them, lie between those of the range
+-- the bytes of the number before its last bytes, after of them, lie between the bytes of the range
 abbrev pub BeginsSo : ℕ → ℕ → ℕ → Codespace → Type 0
 BeginsSo len number after space = (space.len ≡ len) × ((k : ℕ) → after ≤ k → k < len → (byte_at space.low k ≤ byte_at number k) × (byte_at number k ≤ byte_at space.high k))
 

@@ -3,7 +3,7 @@ use Rattle.std.specs.Prelude.{◌≡◌, ℕ, ◌+◌, ◌<◌, ◌≤◌, ◌�
 use Rattle.cmap_encode.specs.Letters.{is_mark}
 use Rattle.cmap_encode.specs.declared.choices.Grade.{Grade}
 
--- what stands for a piece of a text: the bytes of a code, or none; and how well
+-- the choice for a piece of a text: the bytes of a code, or no bytes; and the grade
 pub record Choice : Type 0 where
   pub bytes : List ℕ
   pub grade : Grade
@@ -17,7 +17,7 @@ pub data IsEncodable (choices : Choices) : List ℕ → Type 0 where
   nothing : IsEncodable choices []
   next : (piece after : List ℕ) → 0 < length piece → IsSome (choices piece) → IsEncodable choices after → IsEncodable choices (piece ++ after)
 
--- how many characters the first letter of a text has: a character, and the marks after it
+-- the number of characters in the first letter of a text: a character, and the marks after it
 abbrev pub letter_of : List ℕ → ℕ
 letter_of [] = 0
 letter_of (character ∷ after) = 1 + length (take_while is_mark after)
@@ -33,7 +33,7 @@ pub record MayBegin (choices : Choices) (text : List ℕ) (len : ℕ) : Type 0 w
   pub chosen : IsSome (choices (take len text))
   pub rest : IsEncodable choices (drop len text)
 
--- it has len characters: no length that is tried sooner may be that of the first piece
+-- the first piece has len characters: the first piece may have no length that is tried sooner
 pub record BeginsWith (choices : Choices) (text : List ℕ) (len : ℕ) : Type 0 where
   pub may : MayBegin choices text len
   pub first : (other : ℕ) → IsSooner (letter_of text) other len → MayBegin choices text other → ⊥

@@ -22,11 +22,11 @@ AreNodes choices text count nodes = (n : ℕ) → Any (λ m. m ≡ n) nodes ↔ 
 abbrev pub EndsFrom : Choices → List ℕ → ℕ → Type 0
 EndsFrom choices nodes last = Any (λ n. IsSome (owned_at choices.index (Some n) last)) nodes
 
--- or one that begins with it, if one may
+-- a character ends a piece that goes on from a node, or a piece that begins with the character, if a piece may begin
 abbrev pub EndsPiece : Choices → Bool → List ℕ → ℕ → Type 0
 EndsPiece choices may_begin nodes last = (IsTrue may_begin × IsSome (one (owned choices.index) choices.exact last)) ⊎ EndsFrom choices nodes last
 
--- the nodes after one more character, and that of the character itself if a piece may begin with it
+-- the nodes after one more character, and the node of the character itself if a piece may begin with it
 abbrev pub WentOn : Choices → ℕ → Bool → List ℕ → List ℕ → Type 0
 WentOn choices character may_begin old new = (n : ℕ) → Any (λ m. m ≡ n) new ↔ ((IsTrue may_begin × (step_of choices.index.tree 0 character ≡ Some n)) ⊎ Any (λ m. step_of choices.index.tree m character ≡ Some n) old)
 

@@ -30,7 +30,7 @@ place_of Collection = 3
 abbrev pub IsNoLater : Candidate → Candidate → Type 0
 IsNoLater candidate other = (place_of candidate.rank < place_of other.rank) ⊎ ((place_of candidate.rank ≡ place_of other.rank) × IsNotAfter candidate.bytes other.bytes)
 
--- of these candidates, it comes before each; or there are none
+-- the candidate that comes before each of these candidates; or there are none
 abbrev pub IsFirstBy : (Candidate → Candidate → Type 0) → (Candidate → Type 0) → Option Candidate → Type 0
 IsFirstBy IsBefore Among found = MatchOption found
     ((candidate : Candidate) → Among candidate → ⊥)

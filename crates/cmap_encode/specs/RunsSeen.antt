@@ -23,14 +23,14 @@ items_of (Some runs) = runs.items
 abbrev pub runs_of : RunsByPrefix → List ℕ → List CodeRun
 runs_of all prefix = items_of (option_and_then (slice_get all.lists.items) (number_of all prefix))
 
--- prefixes have an index of their own each
+-- each prefix has its own index
 pub record AreRunsByPrefix (all : RunsByPrefix) : Type 0 where
   pub within : (prefix : List ℕ) (number : ℕ) → number_of all prefix ≡ Some number → number < length all.lists.items
   pub apart : (prefix other : List ℕ) (number : ℕ) → number_of all prefix ≡ Some number → number_of all other ≡ Some number → prefix ≡ other
   pub inside : (node character next : ℕ) → step_of all.tree node character ≡ Some next → node < length all.lists.items
   pub runs : All (λ (list : Vec CodeRun). All IsCodeRun list.items) all.lists.items
 
--- a prefix has a number, and each prefix the runs that it had
+-- a prefix has a number, and each prefix keeps its runs
 pub record Numbers (old : RunsByPrefix) (prefix : List ℕ) (node : ℕ) (new : RunsByPrefix) : Type 0 where
   pub are : AreRunsByPrefix new
   pub number : number_of new prefix ≡ Some node

@@ -1,4 +1,4 @@
--- What stands for a piece of a text: its own code, or else that of a character alike.
+-- The choice for a piece of a text: its own code, or else the code of a similar character.
 use Rattle.std.specs.Prelude.{ℕ, Bool, ◌||◌, ◌==◌, bytes_eq, if◌then◌else◌, [], ◌∷◌, Option, None, Some, option_and_then, option_map}
 use Rattle.std.specs.Option.{option_or}
 use Rattle.cmap_encode.specs.Alike.{alike_to, first_given, national_of}
@@ -6,7 +6,7 @@ use Rattle.cmap_encode.specs.Letters.{is_selector, selectors}
 use Rattle.cmap_encode.specs.Pieces.{Choice, Choices}
 use Rattle.cmap_encode.specs.declared.choices.Grade.TheVariants.{Alike, National}
 
--- as a text, these say no more than that there is no character
+-- as a text, these characters only mean that there is no character
 abbrev pub is_no_character : ℕ → Bool
 is_no_character character = character == 0 || character == 0xFFFD || character == 0xFFFF
 
@@ -23,18 +23,18 @@ abbrev pub selector : ℕ → Option Choice
 selector character = if is_selector character then Some (record { bytes = []; grade = Alike }) else None
 
 module _ (own : Choices) (exact : Bool) where
-  -- the code of the character with a variation selector, the first with which it has one
+  -- the code of the character with the first variation selector with which it has a code
   abbrev pub selected : ℕ → Option Choice
   selected character = first_given (λ last. own (character ∷ last ∷ [])) selectors
 
-  -- or else that of the first character that is alike and has one
+  -- or else the code of the first similar character that has a code
   abbrev pub nearest : ℕ → Option Choice
   nearest character = option_or (selected character) (first_given (λ other. own (other ∷ [])) (alike_to character))
 
   abbrev pub near : ℕ → Option Choice
   near character = alike_as (nearest character)
 
-  -- the byte of the character, as the code of one that national versions of ISO 646 show by it
+  -- the byte of the character, as the code of a character that national versions of ISO 646 show by this byte
   abbrev pub national : ℕ → Option Choice
   national character = first_given (λ other. national_as character (own (other ∷ []))) (national_of character)
 

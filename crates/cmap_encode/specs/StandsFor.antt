@@ -67,7 +67,7 @@ pub record IsOfGlyph (maps : Maps) (text bytes : List ℕ) : Type 0 where
   pub glyph : HasGlyph maps unicode character cid
   pub silent : IsSilent maps cid bytes
 
--- and the code is that of the character in the form of the map
+-- and the code is the code of the character in the form of the map
 pub record IsOwnForm (maps : Maps) (text bytes : List ℕ) : Type 0 where
   pub of_glyph : IsOfGlyph maps text bytes
   pub is_code : option_map code_bytes (code_in of_glyph.unicode.form of_glyph.character) ≡ Some bytes

@@ -22,7 +22,7 @@ node_after step node (c ∷ cs) = node_after step (option_and_then (λ n. step n
 abbrev pub node_of : Tree → List ℕ → Option ℕ
 node_of tree text = node_after (step_of tree) (Some 0) text
 
--- one step leads to a node, and the others where they led
+-- one step leads to a node, and all other steps lead to the same nodes as before
 pub record PutsStep (old : ℕ → ℕ → Option ℕ) (node character next : ℕ) (new : ℕ → ℕ → Option ℕ) : Type 0 where
   pub here : new node character ≡ Some next
   pub others : (n c : ℕ) → ((n ≡ node) × (c ≡ character) → ⊥) → new n c ≡ old n c

@@ -9,7 +9,7 @@ use Rattle.cmap_encode.specs.declared.ways.Way.{Way}
 abbrev pub last_of : ℕ → List ℕ → List ℕ
 last_of left text = drop (length text - left) text
 
--- how many marks a text begins with
+-- the number of marks at the start of a text
 abbrev pub marks_of : List ℕ → ℕ
 marks_of text = length (take_while is_mark text)
 
@@ -21,7 +21,7 @@ pub record IsWay (choices : Choices) (text : List ℕ) (way : Way) : Type 0 wher
 abbrev pub IsWayOf : Choices → List ℕ → Option Way → Type 0
 IsWayOf choices text way = MatchOption way (IsEncodable choices text → ⊥) (IsWay choices text)
 
--- the ways of the last characters of a text: of one, of two, and so on
+-- the ways of the last characters of a text: of the last one, of the last two, and so on
 pub record AreWays (choices : Choices) (text : List ℕ) (ways : List (Option Way)) : Type 0 where
   pub few : length ways ≤ length text
   pub each : (k : ℕ) → k < length ways → IfSome (slice_get ways k) (IsWayOf choices (last_of (k + 1) text))

@@ -1,4 +1,4 @@
--- Private aid: codes in a row that are whole, or are not.
+-- Private aid: consecutive codes that are whole, or that aren't whole.
 use Rattle.std.specs.Prelude.{◌≡◌, ℕ, ◌-◌, ◌/◌, ◌^◌, ◌<◌, ◌≤◌, ◌⊎◌, List, length}
 use Rattle.std.specs.Bool.{MatchBool}
 use Rattle.cmap_codespaces.specs.CodesWithin.{byte_at}

@@ -3,8 +3,8 @@
 ghost use Rattle.std.specs.Prelude.{◌≡◌, map};
 ghost use Rattle.cmap_encode.specs.Alike.{alike_to, line_of, national_of};
 
-/// Lines of characters that look or mean the same. Where no code shows one of a line, a code of another one
-/// may stand for it, the first of the line that has one.
+/// Lines of characters that look or mean the same. Where no code shows a character of a line, the code of another
+/// character of the line may stand for it: of the first character that has a code.
 ///
 /// Spaces, hyphens and dashes; what JIS X 0208, KS X 1001 and their use in Windows show by other characters
 /// of Unicode; singletons and letters that the Adobe Glyph List has under two numbers; and punctuation with
@@ -68,7 +68,7 @@ const ALIKE: &[&[char]] = &[
     &['\u{FF3D}', '\u{FE48}'],
 ];
 
-/// Lines of a character of ASCII and of those that national versions of ISO 646 show by its byte.
+/// Lines of a character of ASCII and the characters that national versions of ISO 646 show by its byte.
 const NATIONAL: &[&[char]] = &[
     &['\\', '\u{A5}', '\u{20A9}'],
     &['|', '\u{A6}', '\u{FFE8}'],
@@ -82,7 +82,8 @@ pub(crate) fn alike_to(character: char) -> &'static [char]
     line_of(ALIKE, character)
 }
 
-/// The line of this character of ASCII and of those that national versions of ISO 646 show by its byte.
+/// The line of a character of ASCII and the characters that national versions of ISO 646 show by its byte, if this
+/// character is in such a line.
 pub(crate) fn national_of(character: char) -> &'static [char]
     ensures { result.now ≡ national_of character }
 {

@@ -1,4 +1,4 @@
-//! The codes of characters, by the glyphs that a map from Unicode gives these.
+//! The codes of characters, by the glyphs that a map from Unicode gives the characters.
 
 ghost use Rattle.std.specs.Prelude.{◌≡◌, ◌↔◌, ◌+◌, ◌<◌, ◌≤◌, ℕ, IfOk, IsTrue, OnOk, Some, option_and_then, option_map};
 ghost use Rattle.cmap_tokens.specs.TextSeen.{text_seen};
@@ -21,22 +21,22 @@ use cmap_unicode::texts_in_row;
 use cmap_values::names::Cid;
 use std::alloc::{AllocError, Global};
 
-/// Characters in a row, with codes that count on in the form of a map from Unicode, and glyphs that do.
+/// Consecutive characters, with consecutive codes in the form of a map from Unicode and consecutive glyphs.
 #[derive(Clone, Copy)]
 pub(crate) struct GlyphRow {
     /// The code of the first character.
     pub(crate) code: Option<Code>,
-    /// Its glyph.
+    /// The glyph of the first character.
     pub(crate) cid: Option<Cid>,
-    /// Whether the collection's map reads the glyph of each as another character.
+    /// Whether the collection's map reads the glyph of each character as another character.
     pub(crate) reads_other: bool,
-    /// How many characters come after the first.
+    /// The number of characters after the first.
     pub(crate) more: u32,
 }
 
-/// Adds the codes of characters by the map from Unicode, if there is one: for each character the first code
-/// of its glyph, or the last one where the collection's map reads the glyph as another character; and its
-/// code in the form of the map, if that has the same glyph in the font.
+/// Adds the codes of characters by the map from Unicode, if there is one. Each character gets the first code of its
+/// glyph, or the last code if the collection's map reads the glyph as another character. A character also gets its
+/// code in the form of the map, if that code has the same glyph in the font.
 pub(crate) fn add_characters(
     alloc: Global,
     texts: &mut RunsByPrefix,
@@ -57,8 +57,8 @@ pub(crate) fn add_characters(
     Ok(())
 }
 
-/// Adds the codes of characters from `first` on whose codes and glyphs count on. It gives the character
-/// with which to go on.
+/// Adds the codes of characters from `first` on with consecutive codes and glyphs. The result is the character to
+/// continue with.
 fn add_row(
     alloc: Global,
     texts: &mut RunsByPrefix,
@@ -89,7 +89,7 @@ fn add_row(
     Ok(first + more + 1)
 }
 
-/// The code with the rank of those that are chosen by their glyph.
+/// The code with the rank of codes that are chosen by their glyph.
 fn canonical(own: Option<Ranked>) -> Option<Ranked>
     ensures { result ≡ option_map (λ ranked. record { code = ranked.code; rank = Rank.Canonical }) own }
 {
@@ -99,7 +99,7 @@ fn canonical(own: Option<Ranked>) -> Option<Ranked>
     })
 }
 
-/// The code of a character in the form of the map from Unicode, if it is silent with the glyph of the
+/// The code of a character in the form of the map from Unicode, if the code is silent and has the glyph of the
 /// character.
 fn own_form(code: Code, silent: Option<Cid>, cid: Cid) -> Option<Ranked>
     ensures { IsOwnFormOf code silent cid result }
@@ -147,8 +147,9 @@ fn glyph_of(glyphs: Glyphs) -> Option<Cid>
     }
 }
 
-/// The same characters as far as the collection's map reads all their glyphs as themselves, as other
-/// characters, or neither. Where only codes count that read back, other characters have no glyphs.
+/// The characters of a row, as far as the collection's map reads all their glyphs as the characters themselves, as
+/// other characters, or as neither. If only codes that read back count, characters that don't read back have no
+/// glyphs.
 fn read_back(
     alloc: Global,
     maps: &Maps<'_>,
@@ -179,15 +180,15 @@ fn read_back(
     })
 }
 
-/// Whether the glyph of a character counts, where the collection's map reads it so: where only codes count
-/// that read back, it reads it as the character.
+/// Whether the glyph of a character counts if the collection's map reads the glyph as `read`. With `exact`, the map
+/// has to read the glyph as the character.
 fn counts(exact: bool, read: Option<u32>, character: u32) -> bool
     ensures { IsTrue result ↔ (IsTrue exact → read ≡ Some character) }
 {
     !exact || read == Some(character)
 }
 
-/// Whether it is another character, as which a glyph is read.
+/// Whether a glyph is read as a character other than this one.
 fn is_other(character: u32, read: Option<u32>) -> bool
     ensures { result ≡ is_other character read }
 {
@@ -197,7 +198,7 @@ fn is_other(character: u32, read: Option<u32>) -> bool
     }
 }
 
-/// The character, where a text is just one.
+/// The character of a text that is just one character.
 fn only_character(text: &Option<BfString>) -> Option<u32>
     ensures { result ≡ option_and_then only_one (option_map text_seen text.now) }
 {

@@ -1,4 +1,4 @@
-//! The codes of CIDs, by the texts that the map of a character collection gives these.
+//! The codes of CIDs, by the texts that the map of a character collection gives the CIDs.
 
 ghost use Rattle.std.specs.Prelude.{◌^◌, ◌<◌, ◌≤◌, IfOk, OnOk};
 ghost use Rattle.std.specs.Option.{option_copied};
@@ -31,8 +31,8 @@ pub(crate) fn add_cids(
     Ok(())
 }
 
-/// Adds the first codes of CIDs from `first` on whose codes and texts count on. It gives the CID with
-/// which to go on.
+/// Adds the first codes of CIDs from `first` on with consecutive codes and texts. The result is the CID to continue
+/// with.
 fn add_row(
     alloc: Global,
     texts: &mut RunsByPrefix,

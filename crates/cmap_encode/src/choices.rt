@@ -24,7 +24,7 @@ pub enum Grade {
     Canonical,
     /// The collection's map to Unicode has the piece as the text of the code's CID.
     Collection,
-    /// The code shows a text that looks or means the same; or nothing stands for a variation selector.
+    /// The code shows a text that looks or means the same, or no code stands for a variation selector.
     Alike,
     /// The code is the byte of a character of ASCII that a national version of ISO 646 shows otherwise.
     National,
@@ -33,7 +33,7 @@ pub enum Grade {
 /// What stands for a piece of a text.
 #[derive(Clone, Copy)]
 pub(crate) struct Choice {
-    /// Its code; none stands for a variation selector that no code shows.
+    /// The code; `None` for a variation selector that no code shows.
     pub(crate) code: Option<Code>,
     pub(crate) grade: Grade,
 }
@@ -50,11 +50,12 @@ impl Choice {
     }
 }
 
-/// What stands for pieces of texts: the codes of an index, and where it has none, those of characters alike.
+/// The choices for pieces of texts: the codes of an index, or the codes of similar characters if the index has no
+/// code.
 #[derive(Drop)]
 pub(crate) struct Choices {
     pub(crate) index: Index,
-    /// Whether nothing stands for a text but codes that are read as that text.
+    /// Whether only codes that are read as a text stand for the text.
     pub(crate) exact: bool,
 }
 
@@ -73,8 +74,8 @@ impl Choices {
         }
     }
 
-    /// What stands for the text of a node and a last character, if that has more than one. Nothing stands
-    /// for the text of no node.
+    /// The index's choice for the text of a node followed by a last character, which is the only choice for a text of
+    /// several characters. Without a node, there is no choice.
     pub(crate) fn longer(&self, node: Option<usize>, last: char) -> Option<Choice>
         ensures { option_map choice_seen result ≡ owned_at self.now.index node last }
     {
@@ -95,7 +96,7 @@ impl Choices {
         }
     }
 
-    /// The code of a character with a variation selector, or else of a character alike.
+    /// The code of a character with a variation selector, or else the code of a similar character.
     fn near(&self, character: char) -> Option<Choice>
         ensures { option_map choice_seen result
             ≡ standing.near (owned self.now.index) self.now.exact character }
@@ -107,7 +108,8 @@ impl Choices {
         })
     }
 
-    /// The same as the own code of another text.
+    /// The code of a character with a variation selector, or else the code of a similar character, as the own code of
+    /// that other text.
     fn nearest(&self, character: char) -> Option<Ranked>
         ensures { option_map own_choice result
             ≡ standing.nearest (owned self.now.index) self.now.exact character }
@@ -118,7 +120,7 @@ impl Choices {
         }
     }
 
-    /// The code of the character with a variation selector, the first with which it has one.
+    /// The code of the character with the first variation selector with which it has a code.
     fn selected(&self, character: char) -> Option<Ranked>
         ensures { option_map own_choice result
             ≡ standing.selected (owned self.now.index) self.now.exact character }
@@ -130,7 +132,7 @@ impl Choices {
         }
     }
 
-    /// The code of the text of a node and the first of these characters with which it has one.
+    /// The code of the text of a node followed by the first of these characters with which the text has a code.
     fn first_after(&self, node: usize, row: Row) -> Option<Ranked>
         requires { row.first + row.count < 2 ^ 32 }
         ensures { option_map own_choice result
@@ -144,7 +146,7 @@ impl Choices {
         None
     }
 
-    /// The code of the first of these characters that has one.
+    /// The code of the first of these characters that has a code.
     fn first_own(&self, characters: &[char]) -> Option<Ranked>
         ensures { option_map own_choice result
             ≡ first_given (λ one. owned self.now.index (one ∷ [])) characters.now }
@@ -157,7 +159,7 @@ impl Choices {
         None
     }
 
-    /// The byte of the character, as the code of one that national versions of ISO 646 show by it.
+    /// The byte of the character, as the code of a character that national versions of ISO 646 show by this byte.
     fn national(&self, character: char) -> Option<Choice>
         ensures { option_map choice_seen result
             ≡ standing.national (owned self.now.index) self.now.exact character }
@@ -165,7 +167,7 @@ impl Choices {
         self.first_national(character, national_of(character))
     }
 
-    /// The byte of the character, as the code of the first of these whose code it is.
+    /// The byte of the character, as the code of the first of these other characters whose code is this byte.
     fn first_national(&self, character: char, others: &[char]) -> Option<Choice>
         ensures { option_map choice_seen result ≡ first_given
             (λ other. standing.national_as character (owned self.now.index (other ∷ []))) others.now }
@@ -178,7 +180,7 @@ impl Choices {
         None
     }
 
-    /// The byte of the character, as the code of this one.
+    /// The byte of the character, if it is the code of this other character.
     fn national_by(&self, character: char, other: char) -> Option<Choice>
         ensures { option_map choice_seen result
             ≡ standing.national_as character (owned self.now.index (other ∷ [])) }
@@ -193,7 +195,7 @@ impl Choices {
         })
     }
 
-    /// The node of the text of this one and a character.
+    /// The node of the text of this node followed by a character.
     pub(crate) fn after(&self, node: Option<usize>, character: char) -> Option<usize>
         ensures { result ≡ option_and_then (λ n. step_of self.now.index.tree n character) node }
     {
@@ -201,7 +203,7 @@ impl Choices {
     }
 }
 
-/// Nothing needs to stand for a variation selector.
+/// The choice without a code for a variation selector, which needs no code.
 fn selector(character: char) -> Option<Choice>
     ensures { option_map choice_seen result ≡ standing.selector character }
 {
@@ -214,7 +216,7 @@ fn selector(character: char) -> Option<Choice>
     })
 }
 
-/// Whether a text of this character says no more than that there is no character.
+/// Whether this character, as a text, only means that there is no character.
 fn is_no_character(character: char) -> bool
     ensures { result ≡ standing.is_no_character character }
 {

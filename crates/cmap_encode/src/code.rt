@@ -10,7 +10,7 @@ use cmap_layers::layers::Layers;
 use cmap_values::code_length::CodeLength;
 use std::alloc::AllocError;
 
-/// A code, by its number and how many bytes it has.
+/// A code, by its number and its length in bytes.
 #[derive(Clone, Copy)]
 pub(crate) struct Code {
     pub(crate) number: u32,
@@ -18,8 +18,8 @@ pub(crate) struct Code {
 }
 
 impl Code {
-    /// The length of the shortest prefix of the code that lies in a codespace range, if one does. The code
-    /// itself is the longest of its prefixes.
+    /// The length of the shortest prefix of the code that lies in a codespace range, if there is such a prefix. The
+    /// code itself is the longest of its prefixes.
     pub(crate) fn shortest_prefix(self, encoding: &Layers) -> Option<CodeLength>
         ensures { MatchOption result (HoldsOfNone (BeginsInside encoding.now (code_bytes self)))
             (λ len. IsShortestInside encoding.now (code_bytes self) (length_of len)) }
@@ -32,7 +32,7 @@ impl Code {
         CodeLength::of(prefix.byte_len)
     }
 
-    /// Whether it is the byte of a character.
+    /// Whether the code is the byte of a character.
     pub(crate) fn is_byte(self, character: char) -> bool
         ensures { result ≡ bytes_eq (code_bytes self) (character ∷ []) }
     {
@@ -43,7 +43,7 @@ impl Code {
         }
     }
 
-    /// Adds its bytes to a string.
+    /// Adds the bytes of the code to a string.
     pub(crate) fn push_to(self, string: &mut Vec<u8>) -> Result<(), AllocError>
         ensures { OnOk result (string.new.items ≡ string.old.items ++ code_bytes self) }
     {

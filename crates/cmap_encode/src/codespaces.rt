@@ -11,7 +11,7 @@ use cmap_values::declarations::Lists;
 use cmap_values::metadata::Metadata;
 use std::alloc::{AllocError, Global};
 
-/// Layers with the codespace ranges of these, and with nothing else.
+/// Layers with the codespace ranges of these layers, and with nothing else.
 pub(crate) fn codespaces_of(alloc: Global, encoding: &Layers) -> Result<Layers, AllocError>
     ensures { IfOk result (λ layers. layers ≡ map only_spaces encoding.now) }
 {
@@ -22,7 +22,7 @@ pub(crate) fn codespaces_of(alloc: Global, encoding: &Layers) -> Result<Layers, 
     Ok(Layers::of(list))
 }
 
-/// The same of one layer.
+/// A layer with the codespace ranges of this layer, and with nothing else.
 fn codespaces_in(alloc: Global, layer: &Layer) -> Result<Layer, AllocError>
     ensures { IfOk result (λ made. layer_seen made ≡ only_spaces (layer_seen layer.now)) }
 {

@@ -25,23 +25,23 @@ use cmap_unicode::Extractor;
 use cmap_values::fault::Fault;
 use std::alloc::{AllocError, Global};
 
-/// Finds the strings of a font for texts. It keeps no reference to the font.
+/// Finds the strings of a font for texts. An encoder keeps no reference to the font.
 #[derive(Drop)]
 pub struct Encoder {
     choices: Choices,
-    /// Those of the font.
+    /// The codespace ranges of the font.
     codespaces: Layers,
 }
 
 /// A text that the codes of a font don't show.
 #[derive(Clone, Copy, Debug, PartialEq, Eq)]
 pub struct Unencodable {
-    /// Where in the text, in bytes: the longest prefix of the text that can be encoded ends there.
+    /// The offset in bytes where the longest prefix of the text that can be encoded ends.
     pub offset: usize,
 }
 
 impl Encoder {
-    /// The encoder of a font. It keeps one code for each text that a code of the font has.
+    /// The encoder of a font. The encoder keeps one code for each text that a code of the font has.
     ///
     /// It fails only if memory runs out.
     pub fn build(alloc: Global, font: &Extractor<'_>) -> Result<Encoder, AllocError>
@@ -50,9 +50,9 @@ impl Encoder {
         Encoder::build_with(alloc, font, None, false)
     }
 
-    /// The encoder of a font, with the map of its character collection from Unicode, as `UniJIS-UTF16-H`, which
-    /// chooses the glyphs of characters. Where it is `exact`, only codes are chosen that are read as the piece for
-    /// which they stand.
+    /// The encoder of a font, with the map from Unicode of its character collection, such as `UniJIS-UTF16-H`, which
+    /// chooses the glyphs of characters. An `exact` encoder chooses only codes that are read as the piece for which
+    /// they stand.
     ///
     /// It fails only if memory runs out.
     pub fn build_with(
@@ -73,10 +73,10 @@ impl Encoder {
         })
     }
 
-    /// The string of a text: the codes that stand for its pieces, one after another. A text begins with its
-    /// first letter, a character and the marks after it, where a code stands for that and what comes after it
-    /// can be encoded; else with fewer characters of the letter, the most first, or else with more, the most
-    /// first. It is refused only where no pieces can be encoded so.
+    /// The string of a text: the codes that stand for its pieces, one after another. The first piece is the first
+    /// letter of the text, a character with the marks after it, if a code stands for the letter and the rest of the
+    /// text can be encoded. Else the first piece has fewer characters than the letter, as many as possible, or else
+    /// more characters, as many as possible. A text is refused only if no such pieces can be encoded.
     pub fn encode(&self, alloc: Global, text: &str) -> Result<Vec<u8>, Fault<Unencodable>>
         ensures { (maps : maps.Maps) → IsEncoderOf maps self.now → Outcome
             (λ string. IsEncodingOf maps (chars text.now) string.items)
@@ -85,8 +85,8 @@ impl Encoder {
         self.encoded(alloc, text)
     }
 
-    /// The pieces of a text, whose codes `encode` gives one after another, each with its grade. It is refused
-    /// as `encode` refuses it.
+    /// The pieces of a text, each with its grade. `encode` gives the codes of the pieces one after another, and
+    /// refuses the same texts.
     pub fn pieces(&self, alloc: Global, text: &str) -> Result<Vec<Piece>, Fault<Unencodable>>
         ensures { (maps : maps.Maps) → IsEncoderOf maps self.now → Outcome
             (λ pieces. ArePiecesOf maps (chars text.now) pieces.items)
@@ -95,7 +95,7 @@ impl Encoder {
         self.parted(alloc, text)
     }
 
-    /// Whether a string has only whole codes of the font, one after another, or none. Other bytes in a string
+    /// Whether a string consists of whole codes of the font, one after another, or is empty. Other bytes in a string
     /// may change how the bytes after them are read.
     pub fn are_codes(&self, string: &[u8]) -> bool
         ensures { (maps : maps.Maps) → IsEncoderOf maps self.now
@@ -104,9 +104,8 @@ impl Encoder {
         are_codes(&self.codespaces, string)
     }
 
-    /// The string of a text as far as it can be encoded: the longest prefix of the text that can be is encoded
-    /// as by `encode`, `missing` stands for the character after it, and what comes after that is encoded
-    /// likewise.
+    /// The string of a text as far as the text can be encoded. The longest prefix that can be encoded is encoded as by
+    /// `encode`, `missing` stands for the character after the prefix, and the rest of the text is encoded likewise.
     ///
     /// It fails only if memory runs out.
     pub fn encode_lossy(
@@ -121,7 +120,7 @@ impl Encoder {
         self.encoded_lossy(alloc, text, missing)
     }
 
-    /// The string of a text, by what stands for its pieces.
+    /// The string of a text, by the choices for its pieces.
     fn encoded(&self, alloc: Global, text: &str) -> Result<Vec<u8>, Fault<Unencodable>>
         ensures { Outcome
             (λ string. IsEncodingBy (choices_of self.now.choices) (chars text.now) string.items)
@@ -134,7 +133,7 @@ impl Encoder {
         }
     }
 
-    /// The pieces of a text, by what stands for them.
+    /// The pieces of a text, by the choices for them.
     fn parted(&self, alloc: Global, text: &str) -> Result<Vec<Piece>, Fault<Unencodable>>
         ensures { Outcome
             (λ pieces. ArePiecesBy (choices_of self.now.choices) (chars text.now) pieces.items)
@@ -148,7 +147,7 @@ impl Encoder {
         }
     }
 
-    /// The same as far as it falls into pieces.
+    /// The string of a text as far as the text falls into pieces, with `missing` for other characters.
     fn encoded_lossy(
         &self,
         alloc: Global,
@@ -168,8 +167,7 @@ impl Encoder {
         Ok(string)
     }
 
-    /// Adds the encoding of the longest prefix of a text that falls into pieces. It gives what is left of the
-    /// text.
+    /// Adds the encoding of the longest prefix of a text that falls into pieces. The result is the rest of the text.
     fn push_longest<'t>(
         &self,
         alloc: Global,
@@ -187,7 +185,7 @@ impl Encoder {
         Ok(&text[count..])
     }
 
-    /// The string of a text that falls into pieces.
+    /// The string of a text; `None` if the text doesn't fall into pieces.
     fn encoding_of(&self, alloc: Global, text: &[char]) -> Result<Option<Vec<u8>>, AllocError>
         ensures { IfOk result
             (λ found. MatchOption found (IsEncodable (choices_of self.now.choices) text.now → ⊥)
@@ -197,7 +195,7 @@ impl Encoder {
         string_of(alloc, &ways)
     }
 
-    /// Why a text is refused that doesn't fall into pieces.
+    /// The refusal of a text that doesn't fall into pieces.
     fn refusal(&self, alloc: Global, text: &[char]) -> Fault<Unencodable>
         ensures { (IsEncodable (choices_of self.now.choices) text.now → ⊥)
             → RefusesWith (λ refused. IsStuckBy (choices_of self.now.choices) text.now refused.offset) result }

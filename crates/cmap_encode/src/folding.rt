@@ -9,7 +9,7 @@ use crate::letters::is_selector;
 use std::alloc::{AllocError, Global};
 use ucd_normal::compatibility_decomposition;
 
-/// A text in the characters that are usually written for what it shows, so that it can be searched and split.
+/// A text in the characters that are usually written for what it shows, so that the text can be searched and split.
 ///
 /// Variation selectors are dropped. Presentation forms of Latin, Armenian, Hebrew and Arabic letters, and the radicals
 /// of Kangxi, become the characters to which the Unicode Standard decomposes them: its chapters 9 and 23. Spaces of
@@ -26,7 +26,7 @@ pub fn fold(alloc: Global, text: &str) -> Result<String, AllocError>
     Ok(shown)
 }
 
-/// Adds the usual characters for one.
+/// Adds the usual characters for a character.
 fn push_folded(text: &mut String, character: char) -> Result<(), AllocError>
     ensures { OnOk result (string_bytes text.new
         ≡ string_bytes text.old ++ encode_utf8_all (folded_character character)) }
@@ -40,7 +40,7 @@ fn push_folded(text: &mut String, character: char) -> Result<(), AllocError>
     text.push(usual(character))
 }
 
-/// Adds the letters of a presentation form, or itself if it has none.
+/// Adds the letters of a presentation form, or the form itself if it has no letters.
 fn push_letters(text: &mut String, form: char) -> Result<(), AllocError>
     ensures { OnOk result (string_bytes text.new
         ≡ string_bytes text.old ++ encode_utf8_all (letters_of form)) }
@@ -89,7 +89,8 @@ fn is_unusual(character: char) -> bool
     )
 }
 
-/// The usual character for one: the first of its line, if it is unusual and has a line.
+/// The usual character for a character: the first character of its line, if the character is unusual and has a line,
+/// else the character itself.
 fn usual(character: char) -> char
     ensures { result ≡ usual character }
 {

@@ -20,7 +20,7 @@ pub(crate) enum Form {
 /// The last character.
 pub(crate) const LAST_CHARACTER: u32 = 0x10_FFFF;
 
-/// Characters in a row, whose codes count on from character to character, or that have none.
+/// Consecutive characters that have consecutive codes, or that have no codes.
 #[derive(Clone, Copy)]
 pub(crate) struct CharacterRow {
     /// The code of the first character.
@@ -88,7 +88,8 @@ impl Form {
         }
     }
 
-    /// The last character up to which codes count on from that of this one, which is no surrogate.
+    /// The last character up to which codes are consecutive from the code of this character on.
+    /// This character is no surrogate.
     fn last_with(self, character: u32) -> u32
         requires { character ≤ LAST_CHARACTER }
         ensures { result ≡ last_with self character }

@@ -24,14 +24,14 @@ use std::alloc::{AllocError, Global};
 /// The whole codes of a font that may stand for a text, in runs.
 #[derive(Drop)]
 pub(crate) struct Gathered {
-    /// By the texts that the ToUnicode CMap has for them.
+    /// The codes by the texts that the ToUnicode CMap has for them.
     pub(crate) texts: RunsByPrefix,
-    /// By their glyphs, where it has none.
+    /// The codes by their glyphs, where the ToUnicode CMap has no text.
     pub(crate) cids: Vec<CodeRun>,
 }
 
 impl Gathered {
-    /// All of a font.
+    /// All such codes of a font.
     pub(crate) fn build(alloc: Global, maps: &Maps<'_>) -> Result<Gathered, AllocError>
         ensures { IfOk result (AreGathered (maps_seen maps.now) 5 0) }
     {
@@ -65,9 +65,9 @@ impl Gathered {
         Ok(())
     }
 
-    /// Adds a code, with codes after it that have texts or glyphs in a row with it, or passes over codes
-    /// that aren't whole, that have neither, or that a notdef stands for. It gives the number of the code
-    /// with which to go on.
+    /// Adds a code and the codes after it whose texts or glyphs are consecutive, or passes over codes that aren't
+    /// whole, that have neither a text nor a glyph, or that a notdef stands for. The result is the number of the code
+    /// to continue with.
     fn add_from(&mut self, alloc: Global, maps: &Maps<'_>, code: Code) -> Result<u64, AllocError>
         requires before { AreGathered (maps_seen maps.now) (length_of code.len) code.number self.old }
         requires fits { code.number < 256 ^ length_of code.len }
@@ -87,7 +87,8 @@ impl Gathered {
         self.add_stated(alloc, maps, code, text, last)
     }
 
-    /// The same for codes up to `last` whose texts count on from this one.
+    /// Adds codes up to `last`, whose texts are consecutive from this text on, or passes over codes that aren't whole.
+    /// The result is the number of the code to continue with.
     fn add_stated(
         &mut self,
         alloc: Global,
@@ -120,7 +121,8 @@ impl Gathered {
         Ok(u64::from(code.number) + u64::from(further) + 1)
     }
 
-    /// The same for codes up to `last` that have no texts by themselves, and these glyphs.
+    /// Adds codes up to `last`, which have no texts by themselves and have these glyphs, or passes over codes without
+    /// a glyph or that aren't whole. The result is the number of the code to continue with.
     fn add_silent(
         &mut self,
         alloc: Global,

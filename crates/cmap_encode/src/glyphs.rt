@@ -14,18 +14,18 @@ use cmap_unicode::stretch_of_layers;
 use cmap_values::names::Cid;
 use cmap_values::writing_mode::WritingMode;
 
-/// The glyphs of codes in a row. The CID of a notdef is none, and CID 0 is none.
+/// The glyphs of consecutive codes. The CID of a notdef is no glyph, and CID 0 is no glyph.
 #[derive(Clone, Copy)]
 pub(crate) enum Glyphs {
-    /// The first code has this one, and each further code the next.
+    /// The first code has this glyph, and each further code the next glyph.
     CountOn(Cid),
-    /// No code has one, and no code is declared.
+    /// No code has a glyph, and no code is declared.
     Undeclared,
-    /// No code has one, but each code is declared.
+    /// No code has a glyph, but each code is declared.
     Missing,
 }
 
-/// Codes in a row, with their glyphs.
+/// Consecutive codes, with their glyphs.
 #[derive(Clone, Copy)]
 pub(crate) struct GlyphStretch {
     pub(crate) glyphs: Glyphs,
@@ -33,7 +33,7 @@ pub(crate) struct GlyphStretch {
     pub(crate) last: u32,
 }
 
-/// The glyphs of a code and of codes after it, by lower layers, and else by all layers.
+/// The glyphs of a code and of codes after it, by lower layers, or else by all layers.
 pub(crate) fn glyph_stretch(lower: &[Layer], all: &[Layer], code: Code) -> GlyphStretch
     ensures { let len = length_of code.len in
         AreGlyphs (λ n. glyph_by (layers_seen lower.now) (layers_seen all.now) n len)
@@ -50,7 +50,7 @@ pub(crate) fn glyph_stretch(lower: &[Layer], all: &[Layer], code: Code) -> Glyph
     }
 }
 
-/// The same by layers in a row, the top one first.
+/// The glyphs of a code and of codes after it, by these layers, the top layer first.
 fn stretch_in(layers: &[Layer], code: Code) -> GlyphStretch
     ensures { let len = length_of code.len in
         AreGlyphs (λ n. glyph_in (layers_seen layers.now) n len)
@@ -78,8 +78,8 @@ fn stretch_in(layers: &[Layer], code: Code) -> GlyphStretch
     }
 }
 
-/// The layers that give codes their glyphs before all layers do: where those on top have writing mode 1,
-/// one of them declares CIDs and others lie under them, those under them; else all.
+/// The layers that give codes their glyphs before all layers do. If the layers on top have writing mode 1, one of them
+/// declares CIDs, and other layers lie under them, these are the layers under them; else all layers.
 pub(crate) fn lower_layers(layers: &[Layer]) -> &[Layer]
     ensures { layers_seen result.now ≡ lower_of (layers_seen layers.now) }
 {

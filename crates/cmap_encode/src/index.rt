@@ -1,4 +1,4 @@
-//! The code of each text of a font: the first of those that stand for it.
+//! The code of each text of a font: the first of the codes that stand for the text.
 
 ghost use Rattle.std.specs.Prelude.{◌≡◌, All, IfOk, option_and_then};
 ghost use Rattle.std.specs.List.{AllZip};
@@ -18,18 +18,17 @@ use crate::rank::Ranked;
 use crate::tree::Tree;
 use std::alloc::{AllocError, Global};
 
-/// The first code of each text: the one of the best rank, of several the one of the fewest bytes, and of
-/// several of these the one of the least number.
+/// The first code of each text: the code with the best rank, then with the fewest bytes, then with the least number.
 #[derive(Drop)]
 pub(crate) struct Index {
-    /// Prefixes, the characters of texts before the last one, as nodes.
+    /// The prefixes of texts before their last characters, as nodes.
     tree: Tree,
     /// The first code of each last character, for each node that a last character follows.
     firsts: Vec<Option<Box<KeyCodes>>>,
 }
 
 impl Index {
-    /// The index of a font. A code counts that lies in a codespace range, and none of whose prefixes does.
+    /// The index of a font. A code counts if it lies in a codespace range and none of its prefixes does.
     pub(crate) fn build(alloc: Global, maps: &Maps<'_>) -> Result<Index, AllocError>
         ensures { IfOk result (IsIndexOf (maps_seen maps.now)) }
     {
@@ -44,14 +43,14 @@ impl Index {
         })
     }
 
-    /// The code of the text of a node and a last character. No node has no code.
+    /// The code of the text of a node followed by a last character. Without a node, there is no code.
     pub(crate) fn find(&self, node: Option<usize>, last: u32) -> Option<Ranked>
         ensures { result ≡ own_at self.now node last }
     {
         self.firsts.get(node?)?.as_ref()?.find(last)
     }
 
-    /// The node of the text of a node and one more character.
+    /// The node of the text of a node followed by one more character.
     pub(crate) fn after(&self, node: Option<usize>, character: char) -> Option<usize>
         ensures { result ≡ option_and_then (λ n. step_of self.now.tree n character) node }
     {
@@ -59,7 +58,7 @@ impl Index {
     }
 }
 
-/// The first code of each key, by each of the lists that has runs.
+/// The first code of each key, for each list that has runs.
 fn firsts_of(
     alloc: Global,
     lists: Vec<Vec<CodeRun>>,

@@ -1,4 +1,4 @@
-//! The first or the last code of each key, where codes in a row are given to keys in a row.
+//! The first or the last code of each key, where consecutive codes are given to consecutive keys.
 
 ghost use Rattle.std.specs.Prelude.{◌≡◌, ◌+◌, ◌^◌, ◌<◌, ◌≤◌, All, IfOk, IfSome, option_map};
 ghost use Rattle.std.specs.Option.{option_copied};
@@ -12,8 +12,8 @@ use cmap_values::range::{HasRange, Range};
 use std::alloc::{AllocError, Global};
 use std::marker::Model;
 
-/// Codes in a row for keys in a row: the first key has the first code, and each key after it the code
-/// after. All have the same rank.
+/// Consecutive codes for consecutive keys: the first key has the first code, and each further key the next code. All
+/// codes have the same rank.
 #[derive(Clone, Copy)]
 pub(crate) struct CodeRun {
     /// The keys.
@@ -33,7 +33,7 @@ impl HasRange for CodeRun {
 }
 
 impl CodeRun {
-    /// From a first key with its code on, keys for up to `more` codes after it, as far as there are keys.
+    /// The run of a first key with its code, and of keys for up to `more` codes after it, as far as there are keys.
     pub(crate) fn from_key(key: u32, first: Ranked, more: u32) -> CodeRun
         requires { first.code.number + more < 256 ^ length_of first.code.len }
         ensures run { IsCodeRun result }
@@ -66,8 +66,9 @@ impl CodeRun {
         }
     }
 
-    /// Of two runs, the one of the higher precedence gives the earlier code to each key that both have.
-    /// Where ranks are the same and codes as long, their numbers differ by the same at each of these keys.
+    /// The precedence of the run. Of two runs, the run with the higher precedence gives the earlier code to each key
+    /// that both have. If the ranks and the lengths of the codes are the same, the numbers differ by the same amount
+    /// at each of these keys.
     fn precedence(self) -> u64
         ensures { result ≡ precedence_of self }
     {
@@ -77,7 +78,7 @@ impl CodeRun {
             - u64::from(self.first.code.number)
     }
 
-    /// Of two runs, the later one gives the later code to each key that both have.
+    /// The lateness of the run. Of two runs, the later run gives the later code to each key that both have.
     fn lateness(self) -> u64
         ensures { result ≡ lateness_of self }
     {
@@ -92,7 +93,7 @@ pub(crate) struct KeyCodes {
     table: Table<CodeRun>,
 }
 
-// A clause sees the runs, of which the last one that contains a key gives it its code.
+// A clause sees the runs. The last run that contains a key gives the key its code.
 impl Model for KeyCodes {
     ghost use Rattle.std.specs.Prelude.{List, All};
     ghost use Rattle.cmap_encode.specs.KeyCodesSeen.{IsCodeRun};
@@ -105,7 +106,7 @@ impl Model for KeyCodes {
     ghost invariant = { λ codes. All IsCodeRun codes.table };
 }
 
-/// Keys in a row, whose codes count on from key to key, or that have none.
+/// Consecutive keys that have consecutive codes, or that have no codes.
 #[derive(Clone, Copy)]
 pub(crate) struct KeyStretch {
     /// The code of the first key.
@@ -115,8 +116,8 @@ pub(crate) struct KeyStretch {
 }
 
 impl KeyCodes {
-    /// The first of the codes that the runs give to each key: the one of the best rank, of several the one
-    /// of the fewest bytes, and of several of these the one of the least number.
+    /// The first of the codes that the runs give to each key: the code with the best rank, then with the fewest bytes,
+    /// then with the least number.
     pub(crate) fn first(alloc: Global, runs: Vec<CodeRun>) -> Result<KeyCodes, AllocError>
         requires { All IsCodeRun runs.items }
         ensures { IfOk result (AreFirsts runs.items) }
@@ -127,7 +128,8 @@ impl KeyCodes {
         Ok(KeyCodes { table })
     }
 
-    /// The last of these codes: the one of the most bytes, and of several the one of the greatest number.
+    /// The last of the codes that the runs give to each key: the code with the most bytes, then with the greatest
+    /// number.
     pub(crate) fn last(alloc: Global, runs: Vec<CodeRun>) -> Result<KeyCodes, AllocError>
         requires { All IsCodeRun runs.items }
         ensures { IfOk result (AreLasts runs.items) }
@@ -146,7 +148,7 @@ impl KeyCodes {
         Some(run.code_at(key))
     }
 
-    /// The keys from `first` on, as far as their codes are known to count on, or as none has a code.
+    /// The keys from `first` on, as far as their codes are known to be consecutive, or as far as no key has a code.
     pub(crate) fn stretch(&self, first: u32) -> KeyStretch
         ensures { IsKeyStretch self.now first result }
     {

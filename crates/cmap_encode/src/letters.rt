@@ -1,9 +1,9 @@
-//! Characters that belong to the one before them.
+//! Characters that belong to the character before them.
 
 ghost use Rattle.std.specs.Prelude.{◌≡◌};
 ghost use Rattle.cmap_encode.specs.Letters as letters;
 
-/// Characters in a row.
+/// Consecutive characters.
 #[derive(Clone, Copy)]
 pub(crate) struct Row {
     pub(crate) first: u32,

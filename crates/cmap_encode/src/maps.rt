@@ -23,7 +23,7 @@ pub(crate) struct Unicode<'m> {
 }
 
 impl<'m> Unicode<'m> {
-    /// The map of these layers. Its lower ones come first where those of the font do.
+    /// The map of these layers. The lower layers of the map come first if the lower layers of the font do.
     fn of(layers: &'m Layers, turned: bool) -> Unicode<'m>
         ensures { IsUnicodeOf layers.now turned (unicode_seen result) }
     {
@@ -50,8 +50,8 @@ pub(crate) struct Maps<'m> {
 }
 
 impl<'m> Maps<'m> {
-    /// Those of a font, with the map of its character collection from Unicode, if there is one. Where only
-    /// texts read back count, a code has the CID of all layers, as a reader sees it.
+    /// The maps of a font, with the map from Unicode of its character collection, if there is one. If only texts that
+    /// read back count, a code has its CID by all layers, as a reader sees it.
     pub(crate) fn of(font: &Extractor<'m>, unicode: Option<&'m Layers>, exact: bool) -> Maps<'m>
         ensures { AreMapsOf (font_of font.now) (option_copied unicode.entry) exact (maps_seen result) }
     {

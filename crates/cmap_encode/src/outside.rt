@@ -1,4 +1,4 @@
-//! Codes in a row that lie outside of all codespace ranges.
+//! Consecutive codes that lie outside of all codespace ranges.
 
 ghost use Rattle.std.specs.Prelude.{◌≡◌, ◌↔◌, ◌/◌, ◌^◌, ◌<◌, ◌≤◌, ℕ, Any, IsTrue, map};
 ghost use Rattle.cmap_codespaces.specs.CodesWithin.{byte_at};
@@ -10,8 +10,8 @@ use crate::code::Code;
 use cmap_layers::layers::Layers;
 use cmap_values::declarations::Codespace;
 
-/// The last code up to which no code of this length after this one lies in a codespace range, as far as
-/// their first bytes show it.
+/// The last code up to which no code of this length after this code lies in a codespace range, as far as the first
+/// bytes of the codes show it.
 pub(crate) fn outside_until(encoding: &Layers, code: Code) -> u32
     ensures within { code.number ≤ result }
     ensures outside { (number : ℕ) → code.number < number → number ≤ result
@@ -24,7 +24,8 @@ pub(crate) fn outside_until(encoding: &Layers, code: Code) -> u32
     last
 }
 
-/// The same by the bytes before the last `after` ones. Codes up to `last` are known to lie outside.
+/// The last code up to which the codes after this code are known to lie outside, by the bytes before the last `after`
+/// bytes. Codes up to `last` are known to lie outside already.
 fn outside_with_prefix(encoding: &Layers, code: Code, after: u8, last: u32) -> u32
     requires after { (1 ≤ after) × (after ≤ 3) }
     requires within { code.number ≤ last }
@@ -40,7 +41,7 @@ fn outside_with_prefix(encoding: &Layers, code: Code, after: u8, last: u32) -> u
     last_with_prefix(code.number, after)
 }
 
-/// The last number with the same bytes before the last `after` ones.
+/// The last number with the same bytes before the last `after` bytes.
 pub(crate) fn last_with_prefix(number: u32, after: u8) -> u32
     requires { after ≤ 3 }
     ensures within { number ≤ result }
@@ -55,7 +56,7 @@ pub(crate) fn last_with_prefix(number: u32, after: u8) -> u32
     }
 }
 
-/// Whether a codespace range has codes of this length with the same bytes before the last `after` ones.
+/// Whether a codespace range has codes of this length with the same bytes before the last `after` bytes.
 pub(crate) fn may_begin(encoding: &Layers, code: Code, after: u8) -> bool
     requires { after ≤ 3 }
     ensures { IsTrue result ↔ MayBegin encoding.now (length_of code.len) code.number after }
@@ -92,7 +93,8 @@ pub(crate) fn begins_so(space: &Codespace, code: Code, after: u8) -> bool
     true
 }
 
-/// Whether the byte of a number at a place, counted from its last byte, lies between those of two others.
+/// Whether the byte of a number at a place, counted from its last byte, lies between the bytes of two other numbers at
+/// this place.
 fn is_between(number: u32, low: u32, high: u32, place: u8) -> bool
     requires { place < 4 }
     ensures { IsTrue result

@@ -12,18 +12,18 @@ use crate::prefixes::utf8_len;
 use crate::ways::Way;
 use std::alloc::{AllocError, Global};
 
-/// A piece of a text, and what stands for it in the string.
+/// A piece of a text, and the code that stands for it in the string.
 #[derive(Clone, Copy, Debug, PartialEq, Eq)]
 pub struct Piece {
-    /// How many bytes it has in UTF-8.
+    /// The number of bytes of the piece in UTF-8.
     pub text_len: usize,
-    /// How many bytes its code has, 1 to 4; none where nothing stands for a variation selector.
+    /// The number of bytes of the code, 1 to 4; 0 if no code stands for a variation selector.
     pub code_len: u8,
-    /// How well the code stands for it.
+    /// How well the code stands for the piece.
     pub grade: Grade,
 }
 
-/// The pieces to which the ways of a text lead; or it doesn't fall into pieces.
+/// The pieces to which the ways of a text lead; `None` if the text doesn't fall into pieces.
 pub(crate) fn pieces_of(
     alloc: Global,
     text: &[char],
@@ -48,7 +48,7 @@ pub(crate) fn pieces_of(
     Ok(Some(pieces))
 }
 
-/// The piece with this length in UTF-8, for which this stands.
+/// The piece with this length in UTF-8 and with this choice.
 fn piece_of(text_len: usize, choice: Choice) -> Piece
     ensures { IsPieceOf text_len (choice_seen choice) result }
 {

@@ -1,4 +1,4 @@
-//! How much of a text falls into pieces.
+//! The longest prefix of a text that falls into pieces.
 
 ghost use Rattle.std.specs.Prelude.{◌≡◌, ◌↔◌, ◌≤◌, IfOk, IsTrue, List, [], flat_map, if◌then◌else◌, length};
 ghost use Rattle.std.specs.Char.{encode_utf8};
@@ -11,7 +11,7 @@ use crate::choices::Choices;
 use crate::tree::EMPTY;
 use std::alloc::{AllocError, Global};
 
-/// Where the longest prefix of a text ends that falls into pieces, in bytes of UTF-8.
+/// The offset in bytes of UTF-8 where the longest prefix of a text that falls into pieces ends.
 pub(crate) fn stuck_at(alloc: Global, choices: &Choices, text: &[char]) -> Result<usize, AllocError>
     ensures { IfOk result (λ offset. (IsEncodable (choices_of choices.now) text.now → ⊥)
         → IsStuckBy (choices_of choices.now) text.now offset) }
@@ -20,7 +20,7 @@ pub(crate) fn stuck_at(alloc: Global, choices: &Choices, text: &[char]) -> Resul
     utf8_len(alloc, &text[..count])
 }
 
-/// How many bytes characters have in UTF-8.
+/// The number of bytes of characters in UTF-8.
 pub(crate) fn utf8_len(alloc: Global, text: &[char]) -> Result<usize, AllocError>
     ensures { IfOk result (λ len. len ≡ length (flat_map encode_utf8 text.now)) }
 {
@@ -31,9 +31,9 @@ pub(crate) fn utf8_len(alloc: Global, text: &[char]) -> Result<usize, AllocError
     Ok(written.len())
 }
 
-/// How many characters the longest prefix of a text has that falls into pieces.
+/// The number of characters in the longest prefix of a text that falls into pieces.
 ///
-/// Once no piece may begin, and none goes on, no longer prefix does.
+/// Once no piece may begin and no piece goes on, no longer prefix falls into pieces.
 pub(crate) fn longest_prefix(
     alloc: Global,
     choices: &Choices,
@@ -56,14 +56,15 @@ pub(crate) fn longest_prefix(
     Ok(longest)
 }
 
-/// The longest prefix so far, after one more that is longer.
+/// The length of the longest prefix so far: `count` if that prefix falls into pieces, else `longest`.
 fn longer(falls: bool, count: usize, longest: usize) -> usize
     ensures { result ≡ (if falls then count else longest) }
 {
     if falls { count } else { longest }
 }
 
-/// Whether a character ends a piece: one that begins with it, if one may, or one that goes on from a node.
+/// Whether a character ends a piece: a piece that begins with the character, if a piece may begin, or a piece that
+/// goes on from a node.
 fn ends_piece(choices: &Choices, may_begin: bool, nodes: &[usize], last: char) -> bool
     ensures { IsTrue result ↔ EndsPiece choices.now may_begin nodes.now last }
 {
@@ -82,7 +83,7 @@ fn ends_from(choices: &Choices, nodes: &[usize], last: char) -> bool
     false
 }
 
-/// The nodes after one more character, and that of the character itself if a piece may begin with it.
+/// The nodes after one more character, and the node of the character itself if a piece may begin with it.
 fn go_on(
     alloc: Global,
     choices: &Choices,

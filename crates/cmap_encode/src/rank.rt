@@ -12,11 +12,11 @@ use crate::code::Code;
 pub(crate) enum Rank {
     /// The ToUnicode CMap has the text for the code.
     Stated,
-    /// The map from Unicode has the glyph of the code for the character that is the text, and the code is
-    /// that of the character in the form of this map.
+    /// The map from Unicode has the glyph of the code for the character that is the text, and the code is the code of
+    /// the character in the form of this map.
     OwnForm,
-    /// The map from Unicode has the glyph of the code for the character that is the text. Where the
-    /// collection's map reads the glyph as another character, it is the last code of the glyph.
+    /// The map from Unicode has the glyph of the code for the character that is the text. Where the collection's map
+    /// reads the glyph as another character, the code is the last code of the glyph.
     Canonical,
     /// The collection's map has the text for the CID of the code.
     Collection,
@@ -26,7 +26,7 @@ pub(crate) enum Rank {
 pub(crate) const LAST_PLACE: u8 = 3;
 
 impl Rank {
-    /// Its place: 0 for the best rank.
+    /// The place of the rank: 0 for the best rank.
     pub(crate) fn place(self) -> u8
         ensures place { result ≡ place_of self }
         ensures last { result ≤ LAST_PLACE }
@@ -59,7 +59,7 @@ pub(crate) struct Ranked {
 }
 
 impl Ranked {
-    /// The code, as what stands for the text.
+    /// The code as the choice for the text.
     pub(crate) fn choice(self) -> Choice
         ensures { choice_seen result ≡ own_choice self }
     {

@@ -1,4 +1,4 @@
-//! Runs of codes by their texts: the characters before the last one, and the last one as a key.
+//! Runs of codes by their texts: the characters before the last character, and the last character as a key.
 
 ghost use Rattle.std.specs.Prelude.{◌≡◌, ◌+◌, ◌<◌, ◌≤◌, ◌^◌, ◌++◌, ◌∷◌, [], ℕ, List, Some, IfOk, IfSome, OnOk, length, if◌then◌else◌};
 ghost use Rattle.std.specs.Str.{bytes_eq};
@@ -14,8 +14,8 @@ use crate::tree::{EMPTY, Tree};
 use cmap_tokens::utf16::BfString;
 use std::alloc::{AllocError, Global};
 
-/// Runs of codes by prefixes: the characters of a text before the last one. The keys of the runs of a prefix
-/// are the last characters.
+/// Runs of codes by prefixes: the characters of a text before the last character. The keys of the runs of a prefix are
+/// the last characters.
 #[derive(Drop)]
 pub(crate) struct RunsByPrefix {
     /// Prefixes, and what they begin with, as nodes.
@@ -38,9 +38,9 @@ impl RunsByPrefix {
         })
     }
 
-    /// Adds codes in a row for texts in a row: the first code for this text, and up to `more` codes after
-    /// it for the texts that count on from it. It gives how many of these there were: a last character
-    /// has 32 bits.
+    /// Adds consecutive codes for consecutive texts: the first code for this text, and up to `more` codes after it for
+    /// the texts after this text. The result is the number of these further codes, which the 32 bits of a last
+    /// character limit.
     pub(crate) fn add_texts(
         &mut self,
         alloc: Global,
@@ -64,8 +64,8 @@ impl RunsByPrefix {
         Ok(run.range.end - run.range.start)
     }
 
-    /// Adds codes in a row for characters in a row, as texts of their own: the first code, if there is one,
-    /// for this character, and `more` codes after it for the characters after this one.
+    /// Adds consecutive codes for consecutive characters, as texts of their own: the first code, if there is one, for
+    /// this character, and `more` codes after it for the characters after this character.
     pub(crate) fn add_characters(
         &mut self,
         alloc: Global,
@@ -88,7 +88,7 @@ impl RunsByPrefix {
         Ok(())
     }
 
-    /// Adds a run to those of a prefix.
+    /// Adds a run to the runs of a prefix.
     fn add(&mut self, alloc: Global, prefix: &[char], run: CodeRun) -> Result<(), AllocError>
         requires are { AreRunsByPrefix self.old }
         requires run { IsCodeRun run }
@@ -102,7 +102,7 @@ impl RunsByPrefix {
         Ok(())
     }
 
-    /// The node of a prefix, which it has from then on.
+    /// The node of a prefix. A prefix without a node gets one.
     fn number(&mut self, alloc: Global, prefix: &[char]) -> Result<usize, AllocError>
         requires { AreRunsByPrefix self.old }
         ensures are { OnOk result (AreRunsByPrefix self.new) }
@@ -117,7 +117,7 @@ impl RunsByPrefix {
         Ok(node)
     }
 
-    /// The node of the prefix of this node and a character.
+    /// The node of the prefix of this node followed by a character. A prefix without a node gets one.
     fn number_after(
         &mut self,
         alloc: Global,

@@ -1,4 +1,4 @@
-//! Codes in a row that have no text by themselves, and glyphs that count on.
+//! Consecutive codes that have no text by themselves, and consecutive glyphs.
 
 ghost use Rattle.std.specs.Prelude.{◌≡◌, ◌↔◌, ◌^◌, ◌<◌, ℕ, IfOk, None, Some, true};
 ghost use Rattle.cmap_values.specs.CodeLengths.{length_of};
@@ -14,17 +14,17 @@ use cmap_unicode::texts_in_row;
 use cmap_values::names::Cid;
 use std::alloc::{AllocError, Global};
 
-/// Codes in a row, all of them whole and without a text of the ToUnicode CMap, and with glyphs; or none of
-/// them so.
+/// Consecutive codes that are all silent, or all not silent. A silent code is whole, has no text in the ToUnicode
+/// CMap, and has a glyph.
 #[derive(Clone, Copy)]
 pub(crate) struct SilentStretch {
-    /// The glyph of the first code. Glyphs count on.
+    /// The glyph of the first code, if the codes are silent. Their glyphs are consecutive.
     pub(crate) cid: Option<Cid>,
     /// The last of the codes.
     pub(crate) last: u32,
 }
 
-/// Whether a code is so, with codes after it that are as it is.
+/// Whether a code is silent, with codes after it for which the same holds.
 pub(crate) fn silent_stretch(
     alloc: Global,
     maps: &Maps<'_>,

@@ -9,14 +9,14 @@ use std::collections::BTreeMap;
 /// The node of the empty text.
 pub(crate) const EMPTY: usize = 0;
 
-/// From a node by a character.
+/// A step from a node by a character.
 #[derive(Clone, Copy, PartialEq, Eq, PartialOrd, Ord)]
 pub(crate) struct Step {
     node: usize,
     character: char,
 }
 
-/// To which node each step leads.
+/// The node to which each step leads.
 #[derive(Drop)]
 pub(crate) struct Tree {
     steps: BTreeMap<Step, usize>,
@@ -32,7 +32,7 @@ impl Tree {
         }
     }
 
-    /// The node of the text of this one and a character.
+    /// The node of the text of this node followed by a character.
     pub(crate) fn step(&self, node: usize, character: char) -> Option<usize>
         ensures { result ≡ step_of self.now node character }
     {

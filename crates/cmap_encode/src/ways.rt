@@ -1,4 +1,4 @@
-//! How the pieces of a text begin, found from the end of the text on.
+//! The first pieces of the ends of a text, found from the end of the text on.
 
 ghost use Rattle.std.specs.Prelude.{◌≡◌, ◌↔◌, ◌+◌, ◌-◌, ◌<◌, ◌≤◌, ℕ, List, IfOk, IfSome, IsTrue, MatchOption, if◌then◌else◌, length, option_map, take};
 ghost use Rattle.cmap_encode.specs.Letters.{is_mark};
@@ -16,14 +16,14 @@ use std::alloc::{AllocError, Global};
 /// The first piece of a text.
 #[derive(Clone, Copy)]
 pub(crate) struct Way {
-    /// How many characters it has.
+    /// The number of characters of the piece.
     pub(crate) taken: usize,
-    /// What stands for it.
+    /// The choice for the piece.
     pub(crate) choice: Choice,
 }
 
-/// The ways of the last characters of a text: of one, of two, and so on. Those that don't fall into pieces
-/// have none.
+/// The ways of the last characters of a text: of the last one, of the last two, and so on. Last characters that don't
+/// fall into pieces have no way.
 pub(crate) fn all_ways(
     alloc: Global,
     choices: &Choices,
@@ -43,7 +43,7 @@ pub(crate) fn all_ways(
     Ok(ways)
 }
 
-/// How many marks a text begins with, by its first character and the number of marks `after` it.
+/// The number of marks at the start of a text, by its first character and the number of marks `after` it.
 fn marks_with(character: char, after: usize) -> usize
     requires { after < usize.MAX }
     ensures { result ≡ (if is_mark character then 1 + after else 0) }
@@ -51,7 +51,7 @@ fn marks_with(character: char, after: usize) -> usize
     if is_mark(character) { 1 + after } else { 0 }
 }
 
-/// The way of a text, by the ways of its last characters. Its first letter has `letter` characters.
+/// The way of a text, by the ways of its last characters. The first letter of the text has `letter` characters.
 fn best_way(choices: &Choices, ways: &[Option<Way>], text: &[char], letter: usize) -> Option<Way>
     requires count { length ways.now + 1 ≡ length text.now }
     requires letter { letter ≡ letter_of text.now }
@@ -71,7 +71,7 @@ fn best_way(choices: &Choices, ways: &[Option<Way>], text: &[char], letter: usiz
     best
 }
 
-/// Whether no piece of `taken` characters or more comes before this one.
+/// Whether no piece of `taken` characters or more takes precedence over this piece.
 fn is_settled(best: Option<Way>, taken: usize, letter: usize) -> bool
     ensures { IsTrue result ↔ IsSettled best taken letter }
 {
@@ -81,8 +81,8 @@ fn is_settled(best: Option<Way>, taken: usize, letter: usize) -> bool
     }
 }
 
-/// The way whose piece has `taken` characters, if the text falls into pieces so. The node is that of the
-/// characters before the last one of the piece.
+/// The way whose piece has `taken` characters, if the text falls into pieces in this way. `node` is the node of the
+/// characters before the last character of the piece.
 fn way_by(
     choices: &Choices,
     node: Option<usize>,
@@ -105,8 +105,8 @@ fn way_by(
     Some(Way { taken, choice })
 }
 
-/// What stands for the first `taken` characters of a text. The node is that of the characters before the last
-/// one.
+/// The choice for the first `taken` characters of a text. `node` is the node of the characters before the last of
+/// them.
 fn choice_of(choices: &Choices, node: Option<usize>, text: &[char], taken: usize) -> Option<Choice>
     requires node { node ≡ node_of choices.now.index.tree (take (taken - 1) text.now) }
     requires some { 1 ≤ taken }
@@ -133,7 +133,7 @@ fn has_way(ways: &[Option<Way>], left: usize) -> bool
     }
 }
 
-/// The encoding to which the ways lead; or the text doesn't fall into pieces.
+/// The encoding to which the ways lead; `None` if the text doesn't fall into pieces.
 pub(crate) fn string_of(alloc: Global, ways: &[Option<Way>]) -> Result<Option<Vec<u8>>, AllocError>
     requires { AreInside ways.now }
     ensures { IfOk result (λ found. (codes : Codes) (text : List ℕ) → AreWays codes text ways.now

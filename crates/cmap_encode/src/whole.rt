@@ -1,4 +1,4 @@
-//! Codes in a row that are whole, or are not.
+//! Consecutive codes that are whole, or that aren't whole.
 
 ghost use Rattle.std.specs.Prelude.{◌≡◌, ◌-◌, ◌*◌, ◌/◌, ◌^◌, ◌<◌, ◌≤◌, ℕ, Any, IsTrue, false, map, true};
 ghost use Rattle.cmap_codespaces.specs.CodesWithin.{IsWithin, byte_at};
@@ -13,17 +13,17 @@ use cmap_layers::layers::Layers;
 use cmap_values::code_length::CodeLength;
 use cmap_values::declarations::Codespace;
 
-/// Codes in a row, all of them whole, or none: a whole code lies in a codespace range, and none of its
+/// Consecutive codes that are all whole, or all not whole. A whole code lies in a codespace range, and none of its
 /// prefixes does.
 #[derive(Clone, Copy)]
 pub(crate) struct WholeStretch {
-    /// Whether they are whole.
+    /// Whether the codes are whole.
     pub(crate) are_whole: bool,
-    /// The last of them.
+    /// The last of the codes.
     pub(crate) last: u32,
 }
 
-/// Whether a code is whole, with codes after it that are as it is.
+/// Whether a code is whole, with codes after it for which the same holds.
 pub(crate) fn whole_stretch(encoding: &Layers, code: Code) -> WholeStretch
     requires { code.number < 256 ^ length_of code.len }
     ensures within { code.number ≤ result.last }
@@ -48,7 +48,7 @@ pub(crate) fn whole_stretch(encoding: &Layers, code: Code) -> WholeStretch
     }
 }
 
-/// The last code up to which the prefixes of this length lie in a codespace range, or are that of this code.
+/// The last code up to which each prefix of this length lies in a codespace range, or is the prefix of this code.
 fn shadowed_until(encoding: &Layers, code: Code, len: CodeLength) -> u32
     requires fits { code.number < 256 ^ length_of code.len }
     requires shorter { length_of len < length_of code.len }
@@ -90,7 +90,7 @@ fn with_zeros(number: u32, count: u8) -> u32
     }
 }
 
-/// The last code up to which all codes after this one, which is whole, are known to be whole.
+/// The last code up to which all codes after this whole code are known to be whole.
 fn whole_until(encoding: &Layers, code: Code) -> u32
     requires fits { code.number < 256 ^ length_of code.len }
     requires whole { IsWholeNumber encoding.now (length_of code.len) code.number }
@@ -106,7 +106,8 @@ fn whole_until(encoding: &Layers, code: Code) -> u32
     last
 }
 
-/// The same of the codes with the same bytes before the last `after` ones.
+/// The last code up to which all codes after this whole code are known to be whole, among the codes with the same
+/// bytes before the last `after` bytes.
 fn whole_with_prefix(encoding: &Layers, code: Code, after: u8) -> u32
     requires after { (1 ≤ after) × (after ≤ length_of code.len) }
     requires fits { code.number < 256 ^ length_of code.len }
@@ -122,8 +123,8 @@ fn whole_with_prefix(encoding: &Layers, code: Code, after: u8) -> u32
     inside_until(encoding, code, after)
 }
 
-/// Whether a codespace range may have prefixes of codes with the same bytes before the last `after` ones, of
-/// which the prefixes have some.
+/// Whether a codespace range may have prefixes of the codes with the same bytes before the last `after` bytes, for
+/// prefixes that include some of the last bytes.
 fn prefix_may_be_inside(encoding: &Layers, code: Code, after: u8) -> bool
     requires { (1 ≤ after) × (after ≤ length_of code.len) }
     ensures { result ≡ false → (number left : ℕ) → number / 256 ^ after ≡ code.number / 256 ^ after
@@ -138,7 +139,8 @@ fn prefix_may_be_inside(encoding: &Layers, code: Code, after: u8) -> bool
     false
 }
 
-/// The same by the prefixes without the last `left` bytes.
+/// Whether a codespace range may have prefixes without the last `left` bytes of the codes with the same bytes before
+/// the last `after` bytes.
 fn may_begin_without(encoding: &Layers, code: Code, left: u8, after: u8) -> bool
     requires { (1 ≤ left) × (left < after) × (after ≤ length_of code.len) }
     ensures { result ≡ false → (number : ℕ) → number / 256 ^ after ≡ code.number / 256 ^ after
@@ -151,8 +153,8 @@ fn may_begin_without(encoding: &Layers, code: Code, left: u8, after: u8) -> bool
     may_begin(encoding, Code { number, len }, after - left)
 }
 
-/// The last code up to which all codes after this one lie in a codespace range, of those with the same
-/// bytes before the last `after` ones.
+/// The last code up to which all codes after this code lie in a codespace range, among the codes with the same bytes
+/// before the last `after` bytes.
 fn inside_until(encoding: &Layers, code: Code, after: u8) -> u32
     requires { (1 ≤ after) × (after ≤ length_of code.len) }
     ensures within { code.number ≤ result }
@@ -170,7 +172,8 @@ fn inside_until(encoding: &Layers, code: Code, after: u8) -> u32
     code.number
 }
 
-/// The same by codespace ranges in a row: the first that contains the code, and any last bytes.
+/// The last code up to which all codes after this code lie in one of these codespace ranges: in the first range that
+/// contains the code and any last bytes.
 fn last_in(spaces: &[Codespace], code: Code, after: u8) -> u32
     requires { (1 ≤ after) × (after ≤ length_of code.len) }
     ensures within { code.number ≤ result }
@@ -200,8 +203,8 @@ fn is_full(space: &Codespace, count: u8) -> bool
     true
 }
 
-/// The last code of a codespace range that contains this code, and any last bytes but for one, of those
-/// with the same bytes before the last `after` ones.
+/// The last code in a codespace range, among the codes with the same bytes before the last `after` bytes. The range
+/// contains this code, and any of the last `after` bytes except the first.
 fn last_within(space: &Codespace, code: Code, after: u8) -> u32
     requires after { (1 ≤ after) × (after ≤ length_of code.len) }
     requires full { IsFull (codespace_seen space.now) (after - 1) }
@@ -215,7 +218,7 @@ fn last_within(space: &Codespace, code: Code, after: u8) -> u32
     last_with_byte(code.number, after, byte_of(space.high, after - 1))
 }
 
-/// The last number with the same bytes before the last `after` ones, and with this byte then.
+/// The last number with the same bytes before the last `after` bytes, followed by this byte.
 fn last_with_byte(number: u32, after: u8, byte: u32) -> u32
     requires after { (1 ≤ after) × (after ≤ 4) }
     requires byte { (byte_at number (after - 1) ≤ byte) × (byte < 256) }

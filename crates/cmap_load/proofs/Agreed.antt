@@ -8,12 +8,12 @@ use Rattle.cmap_values.specs.Files.{File}
 use Rattle.cmap_values.specs.Only.{IsOnly, HoldsOfNone}
 use Rattle.cmap_packed.specs.Bundles.{PrefixTables}
 use Rattle.cmap_layers.specs.Layers.{Layer, layer_of}
-use Rattle.cmap_chains.specs.Answers.{IsByName}
-use Rattle.cmap_chains.specs.Layers.{AreLayers, Means, OfAnswer}
-use Rattle.cmap_chains.specs.Refusals.{HasLayers, IsFault, IsMissing, IsOwnFault, IsUsedAfter}
-use Rattle.cmap_chains.specs.declared.refusal.Cause.{Cause}
-use Rattle.cmap_chains.specs.declared.refusal.Cause.TheVariants.{Malformed, NoFile, ChainLength, OverBudget}
-use Rattle.cmap_chains.specs.Budgets.{OpensEach, OpensUse, Trail}
+use Rattle.cmap_load.specs.Answers.{IsByName}
+use Rattle.cmap_load.specs.Layers.{AreLayers, Means, OfAnswer}
+use Rattle.cmap_load.specs.Refusals.{HasLayers, IsFault, IsMissing, IsOwnFault, IsUsedAfter}
+use Rattle.cmap_load.specs.declared.refusal.Cause.{Cause}
+use Rattle.cmap_load.specs.declared.refusal.Cause.TheVariants.{Malformed, NoFile, ChainLength, OverBudget}
+use Rattle.cmap_load.specs.Budgets.{OpensEach, OpensUse, Trail}
 use Rattle.cmap_load.specs.Loading.{Agrees, MeansOnly, OpensOnly}
 
 all_zip_as : {A B : Type 0} {R S : A → B → Type 0} → ((a : A) (b : B) → R a b → S a b) → (xs : List A) (ys : List B) → AllZip R xs ys → AllZip S xs ys

@@ -10,12 +10,12 @@ use Rattle.std.proofs.lemmas.List.Sums.{sum_by-set}
 use Rattle.std.proofs.lemmas.Option.{get_or_from_slice_get, slice_get-get_or, slice_get_within}
 use Rattle.cmap_values.specs.Files.{File}
 use Rattle.cmap_values.specs.FilesSeen.{file_seen}
-use Rattle.cmap_chains.specs.Budgets.{IsOver}
-use Rattle.cmap_chains.proofs.BudgetLeft.{not_over}
+use Rattle.cmap_load.specs.Budgets.{IsOver}
+use Rattle.cmap_load.proofs.BudgetLeft.{not_over}
 use Rattle.cmap_load.specs.Loading.{Costs, HasFirst, HasNoRoom, IsBegun, IsLeft, IsSpent, IsTable, MeansOnly, OfBytes, bytes_at, given, tables_of}
 use Rattle.cmap_load.specs.declared.step.FirstUses.{FirstUses}
 use Rattle.cmap_load.specs.declared.table.Table.{Table}
-use Rattle.cmap_load.proofs.Chain.{answered_once}
+use Rattle.cmap_load.proofs.LastUses.{answered_once}
 use Rattle.cmap_load.proofs.Passing.{IsOver-cost, of_bytes}
 use Rattle.cmap_load.proofs.Trails.{whole_same}
 

@@ -6,12 +6,12 @@ use Rattle.std.proofs.lemmas.List.{map-append}
 use Rattle.std.proofs.lemmas.List.Elements.{Contains-append_right}
 use Rattle.cmap_values.specs.NamesSeen.{names_seen}
 use Rattle.cmap_packed.specs.Bundles.{PrefixTables}
-use Rattle.cmap_chains.specs.Budgets.{IsOver, OpensEach, OpensEachFirst, OpensUse, OpensUseFirst, PassesAt, Trail}
-use Rattle.cmap_chains.specs.BytesSpent.{Leaves}
-use Rattle.cmap_chains.specs.Refusals.{HasLayers, IsFault, IsMissing, IsOwnFault, IsUsedAfter}
-use Rattle.cmap_chains.specs.declared.refusal.Cause.{Cause}
-use Rattle.cmap_chains.specs.declared.refusal.Cause.TheVariants.{Malformed, NoFile, ChainLength, OverBudget}
-use Rattle.cmap_chains.proofs.BudgetLeft.{IsOver-more, IsOver-none, Leaves-append, Leaves-none, Leaves-within, PassesAt-after, not_over, sum-append}
+use Rattle.cmap_load.specs.Budgets.{IsOver, OpensEach, OpensEachFirst, OpensUse, OpensUseFirst, PassesAt, Trail}
+use Rattle.cmap_load.specs.BytesSpent.{Leaves}
+use Rattle.cmap_load.specs.Refusals.{HasLayers, IsFault, IsMissing, IsOwnFault, IsUsedAfter}
+use Rattle.cmap_load.specs.declared.refusal.Cause.{Cause}
+use Rattle.cmap_load.specs.declared.refusal.Cause.TheVariants.{Malformed, NoFile, ChainLength, OverBudget}
+use Rattle.cmap_load.proofs.BudgetLeft.{IsOver-more, IsOver-none, Leaves-append, Leaves-none, Leaves-within, PassesAt-after, not_over, sum-append}
 use Rattle.cmap_values.specs.declared.fault.Stop.{Stop}
 use Rattle.cmap_load.specs.Loading.{Answer, FailsToOpen, IsAnswered, IsFaulty, IsRefusal, IsWanted, Leads, LeadsToAnswer, OpensOnly, OpensOnlyFirst, Uses, bytes_at, first_answer}
 use Rattle.cmap_load.proofs.Agreed.{all_have}

@@ -9,18 +9,18 @@ use Rattle.cmap_values.specs.declared.fault.Fault.{Fault}
 use Rattle.cmap_values.specs.declared.fault.Fault.TheVariants as fault
 use Rattle.cmap_packed.specs.Bundles.{PrefixTables}
 use Rattle.cmap_layers.specs.Layers.{Layer}
-use Rattle.cmap_chains.specs.Answers.{IsByName}
-use Rattle.cmap_chains.specs.Budgets.{IsOver, OpensFirst, PassesAt, Trail}
-use Rattle.cmap_chains.specs.Layers.{Means}
-use Rattle.cmap_chains.specs.Maps.{ExceedsBudget, FitsBudget, HasNoMap, IsMapOf, LeadsToFault}
-use Rattle.cmap_chains.specs.Refusals.{IsFault}
-use Rattle.cmap_chains.specs.Salvage.{AreOfBundle, IsFirstPastFaults}
-use Rattle.cmap_chains.specs.declared.refusal.Refusal.{Refusal}
-use Rattle.cmap_chains.specs.declared.refusal.Cause.{Cause}
-use Rattle.cmap_chains.specs.declared.refusal.Cause.TheVariants.{Malformed, NoFile, ChainLength, OverBudget}
-use Rattle.cmap_chains.proofs.BudgetLeft.{IsOver-more, sum-append}
-use Rattle.cmap_chains.proofs.FewNames.{IsFaultWithin-few}
-use Rattle.cmap_chains.proofs.OneFault.{first_past, free_of_bundle}
+use Rattle.cmap_load.specs.Answers.{IsByName}
+use Rattle.cmap_load.specs.Budgets.{IsOver, OpensFirst, PassesAt, Trail}
+use Rattle.cmap_load.specs.Layers.{Means}
+use Rattle.cmap_load.specs.Maps.{ExceedsBudget, FitsBudget, HasNoMap, IsMapOf, LeadsToFault}
+use Rattle.cmap_load.specs.Refusals.{IsFault}
+use Rattle.cmap_load.specs.Salvage.{AreOfBundle, IsFirstPastFaults}
+use Rattle.cmap_load.specs.declared.refusal.Refusal.{Refusal}
+use Rattle.cmap_load.specs.declared.refusal.Cause.{Cause}
+use Rattle.cmap_load.specs.declared.refusal.Cause.TheVariants.{Malformed, NoFile, ChainLength, OverBudget}
+use Rattle.cmap_load.proofs.BudgetLeft.{IsOver-more, sum-append}
+use Rattle.cmap_load.proofs.FewNames.{IsFaultWithin-few}
+use Rattle.cmap_load.proofs.OneFault.{first_past, free_of_bundle}
 use Rattle.cmap_load.specs.Loading.{Agrees, Answer, AreLoaded, IsAnswered, IsFaulty, IsRefusal, IsWithin, OpensOnly, OpensOnlyFirst, bytes_at}
 use Rattle.cmap_load.specs.Loads.{FitsGiven, IsRefused, Loads, answers_of, budget_of, tables_in, wanted_of}
 use Rattle.cmap_load.specs.declared.loader.Loader.{Loader}

@@ -9,9 +9,9 @@ use Rattle.cmap_values.specs.Files.{File}
 use Rattle.cmap_values.specs.FilesSeen.{file_seen}
 use Rattle.cmap_values.specs.NamesSeen.{names_seen}
 use Rattle.cmap_values.specs.declared.file.File.{File as FileDeclared}
-use Rattle.cmap_chains.specs.Budgets.{IsOver, OpensEach, OpensUse, Trail}
-use Rattle.cmap_chains.specs.BytesSpent.{Leaves}
-use Rattle.cmap_chains.proofs.BudgetLeft.{Leaves-append, Leaves-none, Leaves-one}
+use Rattle.cmap_load.specs.Budgets.{IsOver, OpensEach, OpensUse, Trail}
+use Rattle.cmap_load.specs.BytesSpent.{Leaves}
+use Rattle.cmap_load.proofs.BudgetLeft.{Leaves-append, Leaves-none, Leaves-one}
 use Rattle.cmap_load.specs.Loading.{AreFirst, ArePassed, AreWhole, HasFirst, HasStuck, IsAnswered, IsCost, IsFound, IsLeft, IsPassedOver, IsSpent, IsStuck, IsStuckAt, IsTable, IsWhole, MeansOnly, OfBytes, OpensOnly, bytes_at, given, tables_of}
 use Rattle.cmap_load.specs.declared.step.FirstUses.{FirstUses}
 use Rattle.cmap_load.specs.declared.step.Stuck.{Stuck}

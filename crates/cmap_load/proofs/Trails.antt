@@ -3,10 +3,10 @@ use Rattle.std.proofs.Common.{◌≡◌, refl, sym, ap, ◌∙◌, subst, arith,
 use Rattle.cmap_values.specs.Files.{File}
 use Rattle.cmap_values.specs.Only.{IsOnly}
 use Rattle.cmap_packed.specs.Bundles.{PrefixTables}
-use Rattle.cmap_chains.specs.Answers.{IsByName}
-use Rattle.cmap_chains.specs.Budgets.{Opens, OpensEach, OpensEachFirst, OpensFirst, OpensUse, OpensUseFirst, Trail}
-use Rattle.cmap_chains.specs.Layers.{Means}
-use Rattle.cmap_chains.proofs.FirstFiles.{IsFrontOf, each_front, each_once, front_after}
+use Rattle.cmap_load.specs.Answers.{IsByName}
+use Rattle.cmap_load.specs.Budgets.{Opens, OpensEach, OpensEachFirst, OpensFirst, OpensUse, OpensUseFirst, Trail}
+use Rattle.cmap_load.specs.Layers.{Means}
+use Rattle.cmap_load.proofs.FirstFiles.{IsFrontOf, each_front, each_once, front_after}
 use Rattle.cmap_load.specs.Loading.{Agrees, Answer, AreWhole, IsAnswered, IsWhole, OpensOnly, OpensOnlyFirst, Uses}
 use Rattle.std.proofs.Common.{append-nil}
 

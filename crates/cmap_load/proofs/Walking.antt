@@ -4,12 +4,12 @@ use Rattle.std.specs.Option.{option_copied}
 use Rattle.std.specs.Borrow.{Bor}
 use Rattle.std.proofs.Math.ListN.{length-map}
 use Rattle.cmap_values.specs.NamesSeen.{names_seen}
-use Rattle.cmap_chains.specs.Budgets.{IsOver}
-use Rattle.cmap_chains.specs.BytesSpent.{Leaves}
-use Rattle.cmap_chains.specs.declared.refusal.Cause.TheVariants.{ChainLength, OverBudget}
-use Rattle.cmap_chains.specs.declared.refusal.Cause.{Cause}
+use Rattle.cmap_load.specs.Budgets.{IsOver}
+use Rattle.cmap_load.specs.BytesSpent.{Leaves}
+use Rattle.cmap_load.specs.declared.refusal.Cause.TheVariants.{ChainLength, OverBudget}
+use Rattle.cmap_load.specs.declared.refusal.Cause.{Cause}
 use Rattle.std.proofs.lemmas.Option.{slice_get_cases}
-use Rattle.cmap_chains.proofs.BudgetLeft.{IsOver-more, Leaves-more, not_over}
+use Rattle.cmap_load.proofs.BudgetLeft.{IsOver-more, Leaves-more, not_over}
 use Rattle.cmap_load.specs.Loading.{Answer, Costs, FailsToOpen, HasStuck, IsAnswered, IsAwaiting, IsCost, IsLeft, IsRefusal, IsSpent, IsTable, IsWhole, IsWithin, Leads, LeadsToAnswer, OfBytes, Uses, bytes_at, first_answer, given, tables_of}
 use Rattle.cmap_load.specs.declared.step.Stuck.{Stuck}
 use Rattle.cmap_load.specs.declared.step.Wanted.{Wanted}

@@ -1,3 +1,16 @@
+pub mod Layers
+pub mod Budgets
+pub mod Identity
+pub mod Answers
+pub mod BytesSpent
+pub mod Refusals
+pub mod Maps
+pub mod NamedFiles
+pub mod Opened
+pub mod Salvage
+pub mod SalvageSeen
+pub mod KnownFiles
+pub mod Searches
 pub mod Indexed
 pub mod Loading
 pub mod Loads

@@ -8,12 +8,12 @@ use Rattle.cmap_values.specs.Only.{IsOnly, HoldsOfNone}
 use Rattle.cmap_packed.specs.Bundles.{PrefixTables}
 use Rattle.cmap_packed.specs.BundleSeen.{tables_given}
 use Rattle.cmap_layers.specs.Layers.{Layer}
-use Rattle.cmap_chains.specs.Budgets.{IsOver, OpensEach, OpensEachFirst, OpensUse, OpensUseFirst, PassesAt, Trail}
-use Rattle.cmap_chains.specs.BytesSpent.{Leaves}
-use Rattle.cmap_chains.specs.Layers.{AreLayers, Means}
-use Rattle.cmap_chains.specs.Refusals.{IsFault, IsOwnFault}
-use Rattle.cmap_chains.specs.declared.refusal.Cause.{Cause}
-use Rattle.cmap_chains.specs.declared.refusal.Cause.TheVariants.{Malformed, NoFile, ChainLength, OverBudget}
+use Rattle.cmap_load.specs.Budgets.{IsOver, OpensEach, OpensEachFirst, OpensUse, OpensUseFirst, PassesAt, Trail}
+use Rattle.cmap_load.specs.BytesSpent.{Leaves}
+use Rattle.cmap_load.specs.Layers.{AreLayers, Means}
+use Rattle.cmap_load.specs.Refusals.{IsFault, IsOwnFault}
+use Rattle.cmap_load.specs.declared.refusal.Cause.{Cause}
+use Rattle.cmap_load.specs.declared.refusal.Cause.TheVariants.{Malformed, NoFile, ChainLength, OverBudget}
 use Rattle.cmap_load.specs.Indexed.{index_of}
 use Rattle.cmap_load.specs.declared.answer.Answer as declared
 use Rattle.cmap_load.specs.declared.step.FirstUses.{FirstUses}

@@ -2,7 +2,7 @@
 use Rattle.std.specs.Prelude.{◌≡◌, ℕ, List, Option, Some, None}
 use Rattle.std.specs.Option.{option_copied}
 use Rattle.cmap_packed.specs.Bundles.{PrefixTables}
-use Rattle.cmap_chains.specs.declared.refusal.Cause.{Cause}
+use Rattle.cmap_load.specs.declared.refusal.Cause.{Cause}
 pub use Rattle.cmap_load.specs.Loading.{AreLoaded}
 use Rattle.cmap_load.specs.Loading.{Agrees, Answer, IsAnswered, IsNext, IsReady, IsRefusal, IsWithin, OfBytes, bytes_at, given, tables_of}
 use Rattle.cmap_load.specs.declared.loader.Loader.{Loader}

@@ -2,8 +2,9 @@
 
 ghost use Rattle.std.specs.Prelude.{◌≡◌, ℕ};
 ghost use Rattle.std.specs.Bool.{OnFalse, OnTrue};
-ghost use Rattle.cmap_chains.specs.Budgets.{IsOver};
-ghost use Rattle.cmap_chains.specs.BytesSpent.{Leaves};
+ghost use Rattle.cmap_load.specs.Budgets.{IsOver};
+ghost use Rattle.cmap_load.specs.BytesSpent.{Leaves};
+ghost use Rattle.cmap_load.specs.KnownFiles.{SpendsAgain};
 ghost use Rattle.cmap_load.specs.Loading.{IsCost};
 
 /// Takes `count` bytes from the rest of a budget, if there is one; false if fewer bytes are left.
@@ -19,6 +20,24 @@ pub(crate) fn spend(left: &mut Option<u64>, count: u64) -> bool
     }
     *left = Some(budget - count);
     true
+}
+
+/// Takes `spent` bytes from the rest of a budget; false if fewer bytes are left, or if `spent` is
+/// `None`. Without a budget, nothing is taken, and the answer is true.
+pub(crate) fn spend_again(left: &mut Option<u64>, spent: Option<u64>) -> bool
+    ensures spent { OnTrue result (SpendsAgain spent left.old left.new) }
+    ensures same { OnFalse result (left.new ≡ left.old) }
+{
+    let Some(budget) = *left else {
+        return true;
+    };
+    match spent {
+        Some(spent) if spent <= budget => {
+            *left = Some(budget - spent);
+            true
+        }
+        _ => false,
+    }
 }
 
 /// How many bytes were taken from a budget; 0 without a budget.

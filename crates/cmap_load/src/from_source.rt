@@ -1,19 +1,21 @@
 //! A loader that is supplied from a `Source`.
 
 ghost use Rattle.std.specs.Prelude.{◌≡◌, ◌≢◌, ◌≤◌, ℕ, IfErr, IfNone, IfOk, IfSome, List, None, OnOk, Option, length};
-ghost use Rattle.cmap_chains.specs.Answers.{IsByName};
-ghost use Rattle.cmap_chains.specs.Maps.{ExceedsBudget, FitsBudget, HasNoMap, IsMapOf, LeadsToFault};
-ghost use Rattle.cmap_chains.specs.Opened.{ExceedsBudgetNamed, FitsBudgetNamed, HasNoMapNamed, IsMapNamed, IsUnknown, LeadsToFaultNamed};
-ghost use Rattle.cmap_chains.specs.Salvage.{AreOfBundle, IsFirstPastFaults};
-ghost use Rattle.cmap_chains.specs.declared.refusal.Cause.TheVariants as Cause;
+ghost use Rattle.cmap_load.specs.Answers.{IsByName};
+ghost use Rattle.cmap_load.specs.Maps.{ExceedsBudget, FitsBudget, HasNoMap, IsMapOf, LeadsToFault};
+ghost use Rattle.cmap_load.specs.Opened.{ExceedsBudgetNamed, FitsBudgetNamed, HasNoMapNamed, IsMapNamed, IsUnknown, LeadsToFaultNamed};
+ghost use Rattle.cmap_load.specs.Salvage.{AreOfBundle, IsFirstPastFaults};
+ghost use Rattle.cmap_load.specs.declared.refusal.Cause.TheVariants as Cause;
 ghost use Rattle.cmap_load.specs.Loads.{IsLoading, Loads, wanted_of};
 ghost use Rattle.cmap_packed.specs.BundleSeen.{tables_given};
 ghost use Rattle.cmap_packed.specs.Bundles.{PrefixTables};
 ghost use Rattle.cmap_values.specs.NamesSeen.{names_seen};
 ghost use Rattle.cmap_values.specs.Outcomes.{RefusesWith};
 
+use crate::identity::identity_named;
 use crate::loader::Loader;
-use cmap_chains::{Refusal, Source, identity_named};
+use crate::refusal::Refusal;
+use crate::source::Source;
 use cmap_layers::layers::Layers;
 use cmap_packed::Bundle;
 use cmap_values::fault::Fault;

@@ -4,11 +4,27 @@
 
 mod answer;
 mod budget;
+mod chain;
+mod faults;
+mod files;
 mod from_source;
+mod identity;
 mod indices;
+mod known;
 mod loader;
+pub mod named_files;
+pub mod refusal;
+pub mod salvage;
+mod search;
+pub mod source;
 mod step;
 mod table;
 
+pub use chain::read_file;
+pub use files::uses;
 pub use from_source::{open_layers, read_layers};
+pub use identity::{identity_h, identity_named, identity_text, identity_v};
 pub use loader::Loader;
+pub use refusal::{Cause, Refusal};
+pub use salvage::{SalvagedLayers, salvaged_layers};
+pub use source::Source;

@@ -8,9 +8,9 @@ ghost use Rattle.cmap_packed.specs.BundleSeen.{tables_given};
 ghost use Rattle.cmap_values.specs.NamesSeen.{names_seen};
 ghost use Rattle.cmap_values.specs.Outcomes.{RefusesWith};
 
+use crate::refusal::Refusal;
 use crate::step::{Next, Wanted};
 use crate::table::Table;
-use cmap_chains::Refusal;
 use cmap_layers::layers::Layers;
 use cmap_packed::Bundle;
 use cmap_values::fault::Fault;

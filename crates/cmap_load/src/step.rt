@@ -1,6 +1,6 @@
 //! Results on the way to the next file.
 
-use cmap_chains::Refusal;
+use crate::refusal::Refusal;
 
 /// The first uses of a file, whose files are whole.
 #[derive(Clone, Copy)]

@@ -11,9 +11,10 @@ ghost use Rattle.cmap_values.specs.Outcomes.{Outcome, RefusesWith};
 
 use crate::answer::Answer;
 use crate::budget::{spend, spent};
+use crate::chain::{MOST_FILES, read_file};
 use crate::indices::Indices;
+use crate::refusal::{Cause, Refusal};
 use crate::step::{FirstUses, Look, NO_USES, Next, Passed, Step, Stuck, Wanted};
-use cmap_chains::{Cause, Refusal, read_file};
 use cmap_layers::layer::Layer;
 use cmap_layers::layers::Layers;
 use cmap_packed::Bundle;
@@ -21,9 +22,6 @@ use cmap_values::fault::Fault;
 use cmap_values::file::File;
 use std::alloc::{AllocError, Global};
 use std::mem;
-
-/// The greatest number of files in a chain, the top file counted.
-const MOST_FILES: u8 = 16;
 
 /// The height of a file that isn't known to be whole: more files than may stand in a chain.
 const UNKNOWN: u8 = 17;

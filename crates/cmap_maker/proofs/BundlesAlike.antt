@@ -18,8 +18,8 @@ use Rattle.cmap_packed.specs.Bundles.{Bundle, IsBundle, PrefixTables, no_file_by
 use Rattle.cmap_packed.proofs.FrontsAlone.{ArePrefixFree, tables_free}
 use Rattle.cmap_binary.specs.BinaryFiles.{IsBinaryFile, IsMarkedBinary, magic}
 use Rattle.cmap_binary.proofs.OneFile.{one_file}
-use Rattle.cmap_chains.specs.Answers.{embedded, unless_absent}
-use Rattle.cmap_chains.specs.Layers.{Means}
+use Rattle.cmap_load.specs.Answers.{embedded, unless_absent}
+use Rattle.cmap_load.specs.Layers.{Means}
 use Rattle.cmap_writer.specs.Keeps.{AnswerAlike, Keeps}
 use Rattle.cmap_writer.proofs.FileKept.{keeps}
 use Rattle.cmap_maker.specs.MapsAlike.{AnswersAsTexts, HasMapsAlike, IsRead, MeanTheSame, OfBundle, OfTexts, text_named}

@@ -4,7 +4,7 @@ use Rattle.std.specs.Prelude.{unwrap_or}
 use Rattle.std.specs.List.{AllZip, last_or}
 use Rattle.cmap_values.specs.Files.{File}
 use Rattle.cmap_layers.specs.Layers.{Layer, layer_of}
-use Rattle.cmap_chains.specs.Layers.{AreLayers, OfAnswer}
+use Rattle.cmap_load.specs.Layers.{AreLayers, OfAnswer}
 
 -- a file that stands for another one: it uses the same names, and over layers that are alike it is alike
 pub record StandsFor (Alike : List Layer → List Layer → Type 0) (file made : File) : Type 0 where

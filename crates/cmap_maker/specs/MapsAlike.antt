@@ -10,9 +10,9 @@ use Rattle.cmap_text.specs.TextFiles.{IsTextFile}
 use Rattle.cmap_packed.specs.Bundles.{Bundle, IsBundle, PrefixTables}
 use Rattle.cmap_binary.specs.BinaryFiles.{IsMarkedBinary}
 use Rattle.cmap_layers.specs.Layers.{Layer}
-use Rattle.cmap_chains.specs.Answers.{embedded}
-use Rattle.cmap_chains.specs.Layers.{AreLayers, Means}
-use Rattle.cmap_chains.specs.Maps.{most_files}
+use Rattle.cmap_load.specs.Answers.{embedded}
+use Rattle.cmap_load.specs.Layers.{AreLayers, Means}
+use Rattle.cmap_load.specs.Maps.{most_files}
 use Rattle.cmap_writer.specs.Keeps.{AnswerAlike}
 use Rattle.cmap_maker.specs.Slots.{source_at}
 use Rattle.cmap_maker.specs.declared.source.Source.{Source}

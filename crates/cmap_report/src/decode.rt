@@ -12,15 +12,15 @@ use cmap_unicode::{Character, Extractor};
 use hayro_cmap::{BfString, StringCode};
 use std::alloc::{AllocError, Global};
 
-/// What is printed for a code without a text.
+/// The character that is printed for a code without a text.
 const NO_TEXT: char = '\u{FFFD}';
 
 /// How texts are shown.
 #[derive(Clone, Copy)]
 pub enum Texts {
-    /// As the CMaps give them.
+    /// The texts as the CMaps give them.
     Exact,
-    /// In the characters that are usually written.
+    /// The texts in the characters that are usually written.
     Folded,
 }
 
@@ -53,7 +53,7 @@ impl Texts {
         Ok(characters)
     }
 
-    /// The text of a code as it is shown: a folded one as a string, whichever length it has.
+    /// The text of a code as it is shown. A folded text is a string, even if it has one character.
     fn shown_of_code(self, alloc: Global, text: BfString) -> Result<BfString, AllocError> {
         if let Texts::Exact = self {
             return Ok(text);
@@ -110,7 +110,7 @@ impl Joined {
     }
 }
 
-/// Adds a line for each code of a string by the CMaps of a font, and one for its text.
+/// Adds a line for each code of a string by the CMaps of a font, and a line for the text of the string.
 pub fn push_codes(
     alloc: Global,
     out: &mut String,
@@ -142,15 +142,15 @@ pub fn push_json(
 ) -> Result<(), AllocError>
     ensures line { OnOk result (AddsLine (string_bytes out.old) (string_bytes out.new)) }
 
-    // Also where memory runs out.
+    // This holds even if memory runs out.
     ensures printable { AddsOfLine (string_bytes out.old) (string_bytes out.new) }
 {
     let object = string_object(alloc, font, string, texts)?;
     json::push_line(alloc, out, &object)
 }
 
-/// Adds a line with the text of a string, with U+FFFD for each code without one, and gives whether each code
-/// has one.
+/// Adds a line with the text of a string, with U+FFFD for each code without a text. The result states whether each
+/// code has a text.
 pub fn push_text_line(
     alloc: Global,
     out: &mut String,
@@ -165,7 +165,7 @@ pub fn push_text_line(
     Ok(is_whole)
 }
 
-/// Adds the object of the text of a string, ends the line, and gives whether each code has a text.
+/// Adds the object of the text of a string, and ends the line. The result states whether each code has a text.
 pub fn push_text_json(
     alloc: Global,
     out: &mut String,
@@ -175,7 +175,7 @@ pub fn push_text_json(
 ) -> Result<bool, AllocError>
     ensures line { OnOk result (AddsLine (string_bytes out.old) (string_bytes out.new)) }
 
-    // Also where memory runs out.
+    // This holds even if memory runs out.
     ensures printable { AddsOfLine (string_bytes out.old) (string_bytes out.new) }
 {
     let Joined { text, is_whole } = text_of(alloc, font, string)?;
@@ -225,7 +225,8 @@ fn code_objects(alloc: Global, characters: &[Character]) -> Result<Vec<Value>, A
     Ok(objects)
 }
 
-/// Adds a line: the code in ten columns, its CID in twelve, its text, and where it lies.
+/// Adds a line: the code in ten columns, the CID in twelve, the text, and a note if the code lies in no codespace
+/// range or is cut short.
 fn push_code_line(out: &mut String, character: &Character) -> Result<(), AllocError> {
     push_code_column(out, character.code)?;
     push_cid_column(out, character.cid)?;

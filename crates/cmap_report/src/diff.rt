@@ -1,4 +1,4 @@
-//! The lines of `cmap diff`: what two maps state, and what codes have in them, where they differ.
+//! The lines of `cmap diff`: the differences between two maps in metadata, and in the values of codes.
 
 mod codespaces;
 pub mod metadata;
@@ -14,14 +14,14 @@ use std::alloc::{AllocError, Global};
 /// One of two maps that are compared.
 #[derive(Clone, Copy)]
 pub enum Side {
-    /// The first one.
+    /// The first map.
     Left,
-    /// The second one.
+    /// The second map.
     Right,
 }
 
 impl Side {
-    /// The word for it in an object.
+    /// The word for the side in an object.
     pub(crate) fn word(self) -> &'static str {
         match self {
             Side::Left => "left",
@@ -29,7 +29,7 @@ impl Side {
         }
     }
 
-    /// The mark of its lines.
+    /// The mark at the start of the side's lines.
     pub(crate) fn mark(self) -> &'static str {
         match self {
             Side::Left => "- ",
@@ -38,16 +38,16 @@ impl Side {
     }
 }
 
-/// What codes in a row have in one of the maps, and not in the other one.
+/// The values of consecutive codes in one of the maps, where the other map differs.
 #[derive(Drop)]
 pub struct DiffLine {
     side: Side,
     line: Line,
 }
 
-/// What codes have where the maps differ: first their codespace ranges, then their CIDs, for each length of codes, if a
-/// map declares some, then their texts. Of each stretch the line of the first map comes first. A map in which the codes
-/// have nothing has none.
+/// The lines of the codes in which the maps differ: first the codespace ranges, then the CIDs for each length of codes,
+/// if a map declares CIDs or notdefs, then the texts. For each stretch of codes, the line of the first map comes first.
+/// A map in which the codes have no value has no line.
 pub fn diff_lines(alloc: Global, left: &CMap, right: &CMap) -> Result<Vec<DiffLine>, AllocError> {
     let mut lines = Vec::new(alloc);
     add_codespaces(alloc, &mut lines, left, right)?;
@@ -145,13 +145,13 @@ fn add_text_line(
     Ok(())
 }
 
-/// Adds a line, as `- cid <8140> <817E> 633`, and ends it.
+/// Adds a line, such as `- cid <8140> <817E> 633`, and ends it.
 pub fn push_diff_line(out: &mut String, line: &DiffLine) -> Result<(), AllocError> {
     out.push_str(line.side.mark())?;
     push_line(out, &line.line)
 }
 
-/// Adds the object of a line, and ends it.
+/// Adds the object of a line, and ends the line.
 pub fn push_diff_json(alloc: Global, out: &mut String, line: DiffLine) -> Result<(), AllocError> {
     push_json(alloc, out, line.line, Place::Side(line.side))
 }

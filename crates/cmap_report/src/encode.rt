@@ -11,23 +11,23 @@ use cmap_escape::{escape, json};
 use cmap_values::fault::Fault;
 use std::alloc::{AllocError, Global};
 
-/// What a text is encoded as.
+/// The result of encoding a text.
 #[derive(Drop)]
 pub struct Encoded {
-    /// The string that shows it, or one with other bytes for what can't be shown.
+    /// The string that shows the text, or a string with other bytes for the characters that can't be shown.
     pub string: Option<Vec<u8>>,
-    /// Its pieces, if they are asked for and the string shows it.
+    /// The pieces of the text, if they are asked for and the string shows the text.
     pub pieces: Option<Vec<Piece>>,
-    /// Where no string shows more of it.
+    /// The place from which on no string shows the text, if there is one.
     pub stop: Option<Unencodable>,
 }
 
-/// What is asked for beside the string of a text.
+/// Requests beside the string of a text.
 #[derive(Clone, Copy)]
 pub struct Asked<'e> {
     /// The bytes that stand for each character that can't be shown.
     pub missing: Option<&'e [u8]>,
-    /// Whether its pieces are.
+    /// Whether the pieces of the text are asked for.
     pub pieces: bool,
 }
 
@@ -85,7 +85,7 @@ fn pieces_of(
 #[derive(Clone, Copy)]
 struct CodedPiece<'e> {
     text: &'e str,
-    /// The bytes of the code; none where nothing stands for the piece.
+    /// The bytes of the code; empty if no code stands for the piece.
     code: &'e [u8],
     grade: Grade,
 }
@@ -139,8 +139,8 @@ fn grade_word(grade: Grade) -> &'static str {
     }
 }
 
-/// Adds a line for each piece of a text, if they were asked for: its code in ten columns, or `-` if it has
-/// none, its grade in twelve, and its text.
+/// Adds a line for each piece of a text, if pieces were asked for: the code in twelve columns, or `-` for a piece
+/// without a code, the grade in twelve, and the text.
 pub fn push_pieces(
     alloc: Global,
     out: &mut String,
@@ -156,7 +156,7 @@ pub fn push_pieces(
     Ok(())
 }
 
-/// A code between brackets, or `-` for none.
+/// A code between brackets, or `-` for a code without bytes.
 fn code_word(alloc: Global, code: &[u8]) -> Result<String, AllocError> {
     if code.is_empty() {
         return String::from_str(alloc, "-");
@@ -187,7 +187,7 @@ pub fn push_string_json(
 ) -> Result<(), AllocError>
     ensures line { OnOk result (AddsLine (string_bytes out.old) (string_bytes out.new)) }
 
-    // Also where memory runs out.
+    // This holds even if memory runs out.
     ensures printable { AddsOfLine (string_bytes out.old) (string_bytes out.new) }
 {
     let object = string_object(alloc, text, encoded)?;

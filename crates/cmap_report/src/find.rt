@@ -18,17 +18,17 @@ use std::alloc::{AllocError, Global};
 /// The most codes of a range that are looked at one by one.
 const MOST_CODES: u32 = 1 << 16;
 
-/// What codes are asked for.
+/// The condition by which codes are found.
 #[derive(Clone, Copy)]
 pub enum Wanted<'a> {
-    /// Those that have this CID.
+    /// The codes that have this CID.
     Cid(u32),
-    /// Those that have this text.
+    /// The codes that have this text.
     Text(&'a str),
 }
 
 impl<'a> Wanted<'a> {
-    /// What an argument asks for: `cid:N` with a decimal number, or `text:TEXT`.
+    /// The condition of an argument: `cid:N` with a decimal number, or `text:TEXT`.
     pub fn parse(argument: &'a str) -> Option<Wanted<'a>> {
         match argument.split_once(':')? {
             ("cid", digits) => Some(Wanted::Cid(u32::try_from(decimal(digits)?).ok()?)),
@@ -38,7 +38,7 @@ impl<'a> Wanted<'a> {
     }
 }
 
-/// What is wrong with an argument that asks for no codes.
+/// The message about an argument that isn't a condition.
 pub fn fault_of(argument: &str) -> &'static str {
     match argument.strip_prefix("cid:") {
         Some(digits) if is_decimal(digits) => "a CID has at most 32 bits",
@@ -58,8 +58,8 @@ struct Codes {
     range: Range,
 }
 
-/// Adds a line for each range of codes that an argument asks for, or one with `-` if there are none. The
-/// argument comes first, in thirteen columns. It gives whether there are codes.
+/// Adds a line for each range of codes that an argument asks for, or a line with `-` if there are no codes. The
+/// argument comes first, in thirteen columns. The result states whether there are codes.
 pub fn push_codes(
     alloc: Global,
     out: &mut String,
@@ -91,7 +91,7 @@ fn push_found_line(out: &mut String, word: &str, codes: Codes) -> Result<(), All
     out.push('\n')
 }
 
-/// Adds the object of an argument, and ends the line. It gives whether there are codes.
+/// Adds the object of an argument, and ends the line. The result states whether there are codes.
 pub fn push_json(
     alloc: Global,
     out: &mut String,
@@ -101,7 +101,7 @@ pub fn push_json(
 ) -> Result<bool, AllocError>
     ensures line { OnOk result (AddsLine (string_bytes out.old) (string_bytes out.new)) }
 
-    // Also where memory runs out.
+    // This holds even if memory runs out.
     ensures printable { AddsOfLine (string_bytes out.old) (string_bytes out.new) }
 {
     let found = codes_of(alloc, font, wanted)?;
@@ -117,7 +117,7 @@ fn codes_object(alloc: Global, argument: &str, found: &[Codes]) -> Result<Value,
     object.finish()
 }
 
-/// Codes, each range as a list of its two ends.
+/// The ranges of codes, each as a list of its two ends.
 fn code_lists(alloc: Global, found: &[Codes]) -> Result<Vec<Value>, AllocError> {
     let mut ranges = Vec::new(alloc);
     for codes in found {
@@ -184,7 +184,7 @@ fn add_ranges(found: &mut Vec<Codes>, ranges: &[Range], len: CodeLength) -> Resu
     Ok(())
 }
 
-/// The codes of a text by a ToUnicode CMap alone, whose declarations have no lengths.
+/// The codes of a text by a ToUnicode CMap alone. Its declarations have no code lengths.
 fn codes_of_text_in(
     alloc: Global,
     map: &Layers,
@@ -198,8 +198,8 @@ fn codes_of_text_in(
     Ok(found)
 }
 
-/// Adds the codes of a range: of each length those that strings are read as, and those in no codespace range with the
-/// fewest bytes.
+/// Adds the codes of a range: for each length the codes that strings of this length are read as, and the codes in no
+/// codespace range with the fewest bytes.
 fn add_with_lengths(
     found: &mut Vec<Codes>,
     encoding: &Layers,
@@ -216,7 +216,7 @@ fn add_with_lengths(
     add_outside(found, encoding, range)
 }
 
-/// Adds those codes of a range that strings are read as, with this length.
+/// Adds the codes of a range that strings of this length are read as.
 fn add_read(
     found: &mut Vec<Codes>,
     encoding: &Layers,
@@ -231,7 +231,7 @@ fn add_read(
     Ok(())
 }
 
-/// Adds those codes of a range that lie in no codespace range.
+/// Adds the codes of a range that lie in no codespace range.
 fn add_outside(found: &mut Vec<Codes>, encoding: &Layers, range: Range) -> Result<(), AllocError> {
     for code in range.start..=range.end {
         if !is_in_codespace(encoding, code) {
@@ -259,7 +259,7 @@ fn codes_of_text(
     Ok(found)
 }
 
-/// Adds those codes of a range of this length that strings are read as, or that lie in no codespace range: a ToUnicode
+/// Adds the codes of a range that strings of this length are read as, or that lie in no codespace range. A ToUnicode
 /// CMap gives texts to codes of any length.
 fn add_readable(
     found: &mut Vec<Codes>,
@@ -287,7 +287,7 @@ fn is_long(range: Range) -> bool {
     range.end.saturating_sub(range.start) >= MOST_CODES
 }
 
-/// Adds a code, to the range before if it ends with the code before.
+/// Adds a code. The last range is extended if it ends with the preceding code.
 fn add_code(found: &mut Vec<Codes>, byte_len: u8, code: u32) -> Result<(), AllocError> {
     if let Some(last) = found.last_mut() {
         if last.byte_len == byte_len && last.range.end.checked_add(1) == Some(code) {

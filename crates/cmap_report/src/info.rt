@@ -1,4 +1,4 @@
-//! What the files of a map state about themselves, layer by layer.
+//! The metadata, the codespace ranges and the numbers of declarations in the files of a map, layer by layer.
 
 ghost use Rattle.std.specs.Prelude.{OnOk, string_bytes};
 ghost use Rattle.cmap_escape.specs.Escapes.{AddsLine, AddsOfLine};
@@ -13,7 +13,7 @@ use hayro_cmap::{
 };
 use std::alloc::{AllocError, Global};
 
-/// Adds the paragraph of a file: what it states, and what the files state that it is based on. `uses` has the
+/// Adds the paragraph of a file, with a section for the file and for each file that it is based on. `uses` has the
 /// names that the file of each layer uses. Each value follows a label of seventeen columns.
 pub fn push_info(
     out: &mut String,
@@ -36,7 +36,7 @@ fn names_at<T>(uses: &[Vec<T>], index: usize) -> &[T] {
     }
 }
 
-/// Adds the file's path over its own layer, which is layer 1, and the number of any other over that.
+/// Adds the heading of a layer: the path of the file for layer 1, and the number of any other layer.
 fn push_heading(out: &mut String, file: &str, layer: usize) -> Result<(), AllocError> {
     if layer == 1 {
         escape::push_text(out, file)?;
@@ -46,7 +46,7 @@ fn push_heading(out: &mut String, file: &str, layer: usize) -> Result<(), AllocE
     }
 }
 
-/// Adds what a layer states.
+/// Adds the section of a layer.
 fn push_layer(out: &mut String, layer: &Layer, uses: &[&[u8]]) -> Result<(), AllocError> {
     push_metadata(out, layer.metadata())?;
     push_uses(out, uses)?;
@@ -79,7 +79,7 @@ fn push_collection_or_dash(out: &mut String, metadata: &Metadata) -> Result<(), 
     out.push('\n')
 }
 
-/// Adds a collection as `Adobe-Japan1-2`.
+/// Adds a collection in the form `Adobe-Japan1-2`.
 pub(crate) fn push_collection(
     out: &mut String,
     collection: &CharacterCollection,
@@ -128,7 +128,7 @@ fn push_codespaces(out: &mut String, spaces: &[Codespace]) -> Result<(), AllocEr
     Ok(())
 }
 
-/// Adds a codespace range as `<8140> <9FFC>`, and ends the line.
+/// Adds a codespace range in the form `<8140> <9FFC>`, and ends the line.
 fn push_codespace(out: &mut String, label: &str, space: &Codespace) -> Result<(), AllocError> {
     let byte_len = space.len.count();
     write!(out, "{label}<")?;
@@ -138,7 +138,7 @@ fn push_codespace(out: &mut String, label: &str, space: &Codespace) -> Result<()
     out.push_str(">\n")
 }
 
-/// Adds how many declarations a layer has.
+/// Adds the numbers of declarations of a layer.
 fn push_declarations(out: &mut String, layer: &Layer) -> Result<(), AllocError> {
     push_counts(out, "  CID ranges     ", &layer.counts().cids)?;
     push_counts(out, "  notdef ranges  ", &layer.counts().notdefs)?;
@@ -148,7 +148,7 @@ fn push_declarations(out: &mut String, layer: &Layer) -> Result<(), AllocError> 
     }
 }
 
-/// Adds a line with the counts above 0, as `2 of 1 byte, 1 of 2 bytes`.
+/// Adds a line with the counts above 0, such as `2 of 1 byte, 1 of 2 bytes`.
 fn push_counts(out: &mut String, label: &str, counts: &ByLength<usize>) -> Result<(), AllocError> {
     out.push_str(label)?;
     let before = out.len();
@@ -186,7 +186,7 @@ pub fn push_json(
 ) -> Result<(), AllocError>
     ensures line { OnOk result (AddsLine (string_bytes out.old) (string_bytes out.new)) }
 
-    // Also where memory runs out.
+    // This holds even if memory runs out.
     ensures printable { AddsOfLine (string_bytes out.old) (string_bytes out.new) }
 {
     let object = file_object(alloc, file, map, uses)?;

@@ -1,4 +1,4 @@
-//! What the command `cmap` prints of a map: as lines for people, and as objects of JSON.
+//! The output of the command `cmap` about a map, as lines for people and as JSON objects.
 #![tactic(auto)]
 
 pub mod decode;

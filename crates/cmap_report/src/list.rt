@@ -1,4 +1,4 @@
-//! What the layers of a map declare, declaration by declaration.
+//! The declarations of the layers of a map, one by one.
 
 pub mod effective;
 pub mod line;
@@ -10,7 +10,7 @@ use hayro_cmap::runs::{Looks, Range, Table};
 use hayro_cmap::{BfRange, CMap, CidRange, CodeLength, Codespace, Layer};
 use std::alloc::{AllocError, Global};
 
-/// What each layer declares, the top layer first: its codespace ranges, then its CIDs, its notdefs and its
+/// The declarations of each layer, the top layer first: the codespace ranges, then the CIDs, the notdefs and the
 /// texts, each in the order of the file.
 pub fn lines_by_layer(alloc: Global, map: &CMap) -> Result<Vec<Vec<Line>>, AllocError> {
     let mut layers = Vec::new(alloc);
@@ -20,7 +20,7 @@ pub fn lines_by_layer(alloc: Global, map: &CMap) -> Result<Vec<Vec<Line>>, Alloc
     Ok(layers)
 }
 
-/// What a layer declares.
+/// The declarations of a layer.
 fn lines_of(alloc: Global, map: &CMap, layer: &Layer) -> Result<Vec<Line>, AllocError> {
     let mut lines = Vec::new(alloc);
     add_codespaces(&mut lines, layer.codespaces())?;
@@ -60,7 +60,7 @@ impl CidList {
         }
     }
 
-    /// What a declaration of this list gives, by its CID.
+    /// The values that a declaration of this list gives, by its CID.
     fn given(self, cid: u32) -> Given {
         match self {
             CidList::Cids => Given::Cids(cid),

@@ -1,4 +1,4 @@
-//! What queries ask of a map.
+//! The answers of a map to queries.
 
 ghost use Rattle.std.specs.Prelude.{OnOk, string_bytes};
 ghost use Rattle.cmap_escape.specs.Escapes.{AddsLine, AddsOfLine};
@@ -52,7 +52,7 @@ pub fn push_json(
 ) -> Result<(), AllocError>
     ensures line { OnOk result (AddsLine (string_bytes out.old) (string_bytes out.new)) }
 
-    // Also where memory runs out.
+    // This holds even if memory runs out.
     ensures printable { AddsOfLine (string_bytes out.old) (string_bytes out.new) }
 {
     let object = query_object(alloc, map, query)?;

@@ -1,4 +1,4 @@
-//! A file in the binary form, by the tables of a bundle.
+//! The binary form of a file, written with the tables of a bundle.
 
 use cmap_escape::escape::push_text;
 use cmap_files::failure::{Failure, fault};
@@ -8,7 +8,7 @@ use cmap_values::file::File;
 use cmap_writer::{Encoders, Obstacle, write_file};
 use std::alloc::{AllocError, Global};
 
-/// The bytes of a file in the binary form. `path` is that of what it was read from.
+/// The bytes of a file in the binary form. `path` is the path that the file was read from.
 pub(crate) fn binary_of(
     rt: &HostRuntime,
     path: &str,
@@ -35,7 +35,7 @@ pub(crate) fn binary_of(
     }
 }
 
-/// Why the binary form can't say what a file says.
+/// The line that states why the binary form can't express a file.
 fn obstacle_line(alloc: Global, path: &str, obstacle: Obstacle) -> Result<String, AllocError> {
     let mut line = String::new(alloc);
     push_text(&mut line, path)?;

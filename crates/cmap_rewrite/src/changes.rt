@@ -1,5 +1,5 @@
-//! What is written in the place of what a file says: one file for all layers of a map, or for some of its codes, and
-//! the fewest declarations.
+//! Changes to a file before it is written: one file for all layers of a map, or for some of its codes, and the fewest
+//! declarations.
 
 use crate::filled::without_empty_texts;
 use crate::order::put_single_codes_first;
@@ -20,14 +20,14 @@ use hayro_cmap::{CMap, Layer};
 use std::alloc::{AllocError, Global};
 
 /// The most rows of 256 codes that the declarations of a file may have in all to be made tidy. One declaration can have
-/// 2^24.
+/// 2^24 rows.
 const MOST_ROWS: u64 = 1 << 20;
 
-/// The most units of the texts of a file for that, with each text as long as the longest one. A range is cut where
-/// others begin and end, and each part has a text of its own.
+/// The most units that the texts of a file may have in all to be made tidy, with each text as long as the longest text.
+/// A range is cut where other ranges begin and end, and each part has a text of its own.
 const MOST_UNITS: u64 = 1 << 24;
 
-/// One file that answers as the map, or if strings are kept, for their codes alone.
+/// One file that gives the same answers as the map: for all codes, or only for the codes of the strings in `kept`.
 pub(crate) fn one_file<'d>(
     alloc: Global,
     path: &str,
@@ -79,7 +79,7 @@ fn add_codes(codes: &mut Vec<Codes>, map: &CMap, string: &[u8]) -> Result<(), Al
     Ok(())
 }
 
-/// The file in the fewest declarations. One whose ranges have too many rows of codes stays as it is.
+/// The file in the fewest declarations. A file with too many rows of codes or too long texts stays as it is.
 pub(crate) fn tidied<'d>(alloc: Global, file: File<'d>) -> Result<File<'d>, AllocError> {
     if is_large(&file) {
         return Ok(file);
@@ -92,7 +92,7 @@ fn is_large(file: &File<'_>) -> bool {
     rows_of_file(&file.lists) > MOST_ROWS || texts_of_file(&file.lists).units() > MOST_UNITS
 }
 
-/// How many texts there are, and how many units the longest one has.
+/// The number of texts, and the number of units of the longest text.
 #[derive(Clone, Copy)]
 struct TextSizes {
     count: u64,
@@ -106,7 +106,7 @@ impl TextSizes {
         longest: 0,
     };
 
-    /// With one more text.
+    /// The sizes with one more text.
     fn with(self, entry: &BfRange) -> TextSizes {
         TextSizes {
             count: self.count.saturating_add(1),
@@ -114,7 +114,7 @@ impl TextSizes {
         }
     }
 
-    /// How many units they have, each as long as the longest one.
+    /// The number of units of all texts, each as long as the longest text.
     fn units(self) -> u64 {
         self.count.saturating_mul(self.longest)
     }
@@ -145,14 +145,14 @@ fn with_texts(before: TextSizes, table: &Table<BfRange>) -> TextSizes {
     sizes
 }
 
-/// The file with the CIDs of single codes before those of ranges.
+/// The file with the CIDs of single codes before the CIDs of ranges.
 fn ordered<'d>(mut file: File<'d>) -> Result<File<'d>, AllocError> {
     put_single_codes_first(&mut file.lists)?;
     Ok(file)
 }
 
-/// The file in the fewest declarations that all readers take: each text has units, and no range of texts lies in a
-/// codespace range in part. One whose ranges have too many rows of codes isn't made tidy.
+/// The file in the fewest declarations that all readers accept: each text has units, and no range of texts lies partly
+/// in a codespace range. A file with too many rows of codes or too long texts isn't made tidy.
 pub(crate) fn repaired<'d>(alloc: Global, file: File<'d>) -> Result<File<'d>, AllocError> {
     let file = without_empty_texts(alloc, file)?;
     if is_large(&file) {
@@ -182,7 +182,7 @@ pub(crate) fn repaired<'d>(alloc: Global, file: File<'d>) -> Result<File<'d>, Al
     })
 }
 
-/// How many rows of 256 codes the declarations of a file are for, each counted by itself.
+/// The number of rows of 256 codes that the declarations of a file cover, counted separately for each declaration.
 fn rows_of_file(lists: &Lists) -> u64 {
     let mut rows: u64 = rows_of(&lists.bfs);
     for list in [&lists.cids, &lists.notdefs] {
@@ -207,7 +207,7 @@ fn rows_of<T: HasRange>(list: &[T]) -> u64 {
     rows
 }
 
-/// How many rows the declarations of all layers are for.
+/// The number of rows of 256 codes that the declarations of all layers cover.
 fn rows_of_map(map: &CMap) -> u64 {
     let mut rows: u64 = 0;
     for layer in map.layers().as_slice() {
@@ -234,7 +234,7 @@ fn rows_of_table<T: HasRange>(table: &Table<T>) -> u64 {
     rows
 }
 
-/// How many rows of 256 codes a range has a code of.
+/// The number of rows of 256 codes in which a range has a code.
 fn rows_in(range: &Range) -> u64 {
     match (range.end / 256).checked_sub(range.start / 256) {
         Some(further) => u64::from(further) + 1,
@@ -242,7 +242,7 @@ fn rows_in(range: &Range) -> u64 {
     }
 }
 
-/// The line that says that declarations have too many rows of codes.
+/// The line that states that declarations have too many rows of codes.
 fn large_line(alloc: Global, path: &str) -> Result<String, AllocError> {
     let mut line = String::new(alloc);
     push_text(&mut line, path)?;
@@ -250,7 +250,7 @@ fn large_line(alloc: Global, path: &str) -> Result<String, AllocError> {
     Ok(line)
 }
 
-/// The line that says that texts are too long.
+/// The line that states that texts are too long.
 fn long_line(alloc: Global, path: &str) -> Result<String, AllocError> {
     let mut line = String::new(alloc);
     push_text(&mut line, path)?;
@@ -258,7 +258,7 @@ fn long_line(alloc: Global, path: &str) -> Result<String, AllocError> {
     Ok(line)
 }
 
-/// That no one file gives a code what the map gives it.
+/// The line that states that no single file gives a code the CID and the text that the map gives the code.
 fn contradiction_line(
     alloc: Global,
     path: &str,

@@ -1,10 +1,10 @@
-//! Character collections as they are spelled.
+//! The spelling of character collections.
 
 use crate::shown_name::name_bytes;
 use cmap_values::character_collection::{CharacterCollection, CidFamily};
 use std::alloc::{AllocError, Global};
 
-/// The collection that is spelled, as Adobe-Japan1-6; `None` of anything else.
+/// The collection with this spelling, such as Adobe-Japan1-6; `None` if the spelling is wrong.
 pub(crate) fn spelled_collection(
     alloc: Global,
     spelled: &str,

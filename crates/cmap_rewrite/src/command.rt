@@ -17,40 +17,41 @@ use cmap_values::fault::Fault;
 use cmap_values::file::File;
 use std::alloc::{AllocError, Global};
 
-/// What becomes of the declarations of a file.
+/// The change to the declarations of a file.
 #[derive(Clone, Copy)]
 pub enum Change {
-    /// They stay as they are.
+    /// The declarations stay as they are.
     Nothing,
-    /// They are the fewest.
+    /// The file gets the fewest declarations.
     Tidy,
-    /// They are the fewest that all readers take.
+    /// The file gets the fewest declarations that all readers accept.
     Repair,
 }
 
-/// What the arguments of `write` and `repair` ask for.
+/// The parsed arguments of `cmap write` and `cmap repair`.
 #[derive(Clone, Copy)]
 pub struct RewriteOptions<'m, 'w> {
     /// The file, by its path or its name.
     pub file: &'w str,
-    /// The path of what is written; `-` is the standard output.
+    /// The path of the written file; `-` is the standard output.
     pub output: &'w str,
     /// How the file is read.
     pub manner: Manner,
     /// Whether one file is made of all layers.
     pub is_flat: bool,
-    /// What becomes of its declarations.
+    /// The change to the declarations of the file.
     pub change: Change,
-    /// The new name of what is written.
+    /// The new name of the written file.
     pub name: Option<&'w str>,
-    /// Whether it is written in the binary form.
+    /// Whether the file is written in the binary form.
     pub is_binary: bool,
-    /// Strings of hexadecimal digits, or lists of them behind `@`. Where there are some, one file is made for their codes
-    /// alone.
+    /// Strings of hexadecimal digits, or lists of such strings after `@`. If there are any, one file is made for only
+    /// the codes of these strings.
     pub codes: &'m [&'w str],
 }
 
-/// Writes what a file says anew, and gives the status. Its faults are reported. `strings` are those of the codes.
+/// Writes the contents of a file anew, and returns the exit status. The faults of the file are reported. `strings` are
+/// the strings of `options.codes`.
 pub fn rewrite(
     rt: &HostRuntime,
     options: &RewriteOptions<'_, '_>,
@@ -99,7 +100,7 @@ fn finish(
     Ok(ACCEPTED)
 }
 
-/// The name that is asked for.
+/// The name that the options give, if any.
 fn new_name(
     rt: &HostRuntime,
     options: &RewriteOptions<'_, '_>,
@@ -118,7 +119,7 @@ fn renamed<'d>(file: File<'d>, name: Option<Vec<u8>>) -> File<'d> {
     }
 }
 
-/// The text of a file, with these lengths of the codes of texts. `path` is that of what it was read from.
+/// The text of a file, with these lengths for the codes of texts. `path` is the path that the file was read from.
 pub(crate) fn text_of(
     alloc: Global,
     path: &str,
@@ -134,7 +135,7 @@ pub(crate) fn text_of(
     }
 }
 
-/// Why no text says what a file says.
+/// The line that states why no text can express a file.
 fn obstacle_line(alloc: Global, path: &str, obstacle: Obstacle) -> Result<String, AllocError> {
     let mut line = String::new(alloc);
     push_text(&mut line, path)?;

@@ -1,4 +1,5 @@
-//! Texts without units, which a file has where an empty string is read past its fault. No text file says them.
+//! Texts without units, which a file has where an empty string is read past its fault. No text file can declare such
+//! texts.
 
 use crate::within::part_of;
 use cmap_runs::runs::{Looks, Table};
@@ -6,7 +7,7 @@ use cmap_values::declarations::{BfRange, Lists};
 use cmap_values::file::File;
 use std::alloc::{AllocError, Global};
 
-/// The file without the codes whose text has no units: no declaration of a text is for them.
+/// The file without declarations of texts for the codes whose text has no units.
 pub(crate) fn without_empty_texts<'d>(
     alloc: Global,
     file: File<'d>,
@@ -47,7 +48,7 @@ fn has_empty_text(texts: &[BfRange]) -> bool {
     false
 }
 
-/// The parts of declarations that decide, apart from those without a text.
+/// The parts of declarations that decide the text of a code, except for parts without a text.
 fn filled_texts(alloc: Global, texts: Vec<BfRange>) -> Result<Vec<BfRange>, AllocError> {
     let table = Table::build(alloc, texts)?;
     let mut looks = Looks::new();
@@ -62,7 +63,7 @@ fn filled_texts(alloc: Global, texts: Vec<BfRange>) -> Result<Vec<BfRange>, Allo
     Ok(filled)
 }
 
-/// Whether the last unit counts on to this code without passing 16 bits.
+/// Whether this code has a text: the last unit plus the offset of the code in the range stays within 16 bits.
 fn has_text(text: &BfRange, code: u32) -> bool {
     let further = code.saturating_sub(text.range.start);
     match text.units.as_slice().last() {

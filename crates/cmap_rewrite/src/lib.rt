@@ -1,4 +1,4 @@
-//! What writes CMap files: `cmap write`, `cmap repair` and `cmap make`.
+//! The commands that write CMap files: `cmap write`, `cmap repair` and `cmap make`.
 #![tactic(auto)]
 
 mod binary;

@@ -1,4 +1,4 @@
-//! `cmap make`: a file of what a table says.
+//! `cmap make`: makes a file from a table.
 
 use crate::collection::spelled_collection;
 use crate::command::text_of;
@@ -17,7 +17,7 @@ use cmap_values::writing_mode::WritingMode;
 use std::alloc::{AllocError, Global};
 use std::str;
 
-/// What the arguments of `make` ask for.
+/// The parsed arguments of `cmap make`.
 #[derive(Clone, Copy)]
 pub struct MakeOptions<'m, 'w> {
     /// The path of the table; `-` is the standard input.
@@ -26,15 +26,15 @@ pub struct MakeOptions<'m, 'w> {
     pub output: &'w str,
     /// The name of the file.
     pub name: Option<&'w str>,
-    /// The character collection, as Adobe-Japan1-6.
+    /// The character collection, such as Adobe-Japan1-6.
     pub collection: Option<&'w str>,
     /// Whether the text is vertical.
     pub is_vertical: bool,
-    /// The names of the files that it uses.
+    /// The names of the files that the file uses.
     pub uses: &'m [&'w str],
 }
 
-/// Writes a file of what a table says, and gives the status.
+/// Writes a file from a table, and returns the exit status.
 pub fn make(rt: &HostRuntime, options: &MakeOptions<'_, '_>) -> Result<u8, Failure> {
     let metadata = metadata_of(rt, options)?;
     let bytes = needed(rt, options.table)?;
@@ -49,7 +49,8 @@ pub fn make(rt: &HostRuntime, options: &MakeOptions<'_, '_>) -> Result<u8, Failu
     write_made(rt, options, metadata, declared)
 }
 
-/// Writes a file of what a table declares. The options come before the metadata of the table.
+/// Writes a file with the declarations of a table. The options take precedence over the metadata of
+/// the table.
 fn write_made(
     rt: &HostRuntime,
     options: &MakeOptions<'_, '_>,
@@ -74,7 +75,7 @@ fn write_made(
     Ok(ACCEPTED)
 }
 
-/// Metadata with the parts of another one that it lacks.
+/// The metadata `given`, completed with the parts of `other` that `given` lacks.
 fn completed(given: Metadata, other: Metadata) -> Metadata {
     Metadata {
         character_collection: given.character_collection.or(other.character_collection),
@@ -92,7 +93,7 @@ fn wrong_line(rt: &HostRuntime, path: &str, fault_of_line: TableFault) -> Failur
     }
 }
 
-/// What the options say of the file.
+/// The metadata that the options give.
 fn metadata_of(rt: &HostRuntime, options: &MakeOptions<'_, '_>) -> Result<Metadata, Failure> {
     let character_collection = match options.collection {
         Some(spelled) => Some(collection_of(rt, spelled)?),
@@ -109,7 +110,7 @@ fn metadata_of(rt: &HostRuntime, options: &MakeOptions<'_, '_>) -> Result<Metada
     })
 }
 
-/// The collection that is spelled, as Adobe-Japan1-6.
+/// The collection with this spelling, such as Adobe-Japan1-6.
 fn collection_of(rt: &HostRuntime, spelled: &str) -> Result<CharacterCollection, Failure> {
     if !is_plain(spelled) {
         return Err(fault(rt, spelled, "not UTF-8"));

@@ -13,10 +13,10 @@ use std::alloc::{AllocError, Global};
 /// The name that most ToUnicode CMaps have.
 const TO_UNICODE: &[u8] = b"Adobe-Identity-UCS";
 
-/// The name of a file that has no better one.
+/// The name of a file without a better name.
 const UNTITLED: &[u8] = b"Untitled";
 
-/// The name that an option gives. An empty one is none.
+/// The name that an option gives. An empty name is a failure with a message.
 pub(crate) fn given_name(rt: &HostRuntime, option: &str, name: &str) -> Result<Vec<u8>, Failure> {
     if name.is_empty() {
         return Err(fault(rt, option, "a name was expected"));
@@ -42,8 +42,8 @@ pub(crate) fn named<'d>(file: File<'d>, name: Vec<u8>) -> File<'d> {
     }
 }
 
-/// The file with a name. PostScript refuses a CMap without one. A ToUnicode CMap without one gets the usual name, and
-/// any other file that of the path to which it is written.
+/// The file with a name. PostScript refuses a CMap without a name. A ToUnicode CMap without a name gets the usual
+/// name. Any other file without a name gets the file name of its output path.
 pub(crate) fn with_name<'d>(
     alloc: Global,
     file: File<'d>,
@@ -60,7 +60,7 @@ pub(crate) fn with_name<'d>(
     Ok(named(file, Vec::from_slice(alloc, name)?))
 }
 
-/// Whether codes have texts alone, and no CIDs.
+/// Whether a file declares only texts, and no CIDs or notdefs.
 fn is_to_unicode(lists: &Lists) -> bool {
     !lists.bfs.is_empty() && is_empty(&lists.cids) && is_empty(&lists.notdefs)
 }
@@ -69,7 +69,7 @@ fn is_empty(lists: &ByLength<Vec<CidRange>>) -> bool {
     lists.one.is_empty() && lists.two.is_empty() && lists.three.is_empty() && lists.four.is_empty()
 }
 
-/// The last part of a path, if it can be a name.
+/// The last part of a path if it can be a name, else `UNTITLED`.
 fn name_by(output: &str) -> &[u8] {
     let name = name_of(output).as_bytes();
     if output == STANDARD_OUTPUT || !is_plain(output) || !is_name(name) {
@@ -78,7 +78,7 @@ fn name_by(output: &str) -> &[u8] {
     name
 }
 
-/// Whether PostScript has a name of these bytes.
+/// Whether these bytes can be a PostScript name.
 fn is_name(bytes: &[u8]) -> bool {
     !bytes.is_empty() && bytes.iter().all(|byte| is_regular(*byte))
 }

@@ -1,4 +1,4 @@
-//! What a text can't say, in words.
+//! The words for what a text can't express.
 
 use cmap_escape::digits::push_code;
 use cmap_queries::code_lengths::fewest_bytes;
@@ -6,7 +6,7 @@ use cmap_text_writer::Obstacle;
 use hayro_cmap::runs::Range;
 use std::alloc::AllocError;
 
-/// Adds what a text can't say, as `a name of a file that it uses isn't a PostScript name`.
+/// Adds what a text can't express, such as `the name of a file that it uses isn't a PostScript name`.
 pub(crate) fn push_obstacle(out: &mut String, obstacle: Obstacle) -> Result<(), AllocError> {
     match obstacle {
         Obstacle::Use => out.push_str("the name of a file that it uses isn't a PostScript name"),
@@ -19,7 +19,7 @@ pub(crate) fn push_obstacle(out: &mut String, obstacle: Obstacle) -> Result<(), 
     }
 }
 
-/// Adds that the codes of a range have a text without units. They are printed with as few bytes as they need.
+/// Adds that the codes of a range have a text without units. The codes are printed with as few bytes as they need.
 fn push_empty(out: &mut String, range: Range) -> Result<(), AllocError> {
     let byte_len = fewest_bytes(range);
     out.push_str("an empty text for the codes <")?;

@@ -1,14 +1,14 @@
-//! The order of CIDs. Where no declarations overlap it says nothing; single codes before ranges, as in Adobe's own
-//! files, take fewer sections. Texts stay in the order of their codes, since MuPDF passes over what follows a code above
-//! FFFF in a section.
+//! The order of CID declarations. The order has no meaning where no declarations overlap. Single codes before ranges,
+//! as in Adobe's own files, take fewer sections. Texts stay in the order of their codes, since MuPDF skips the rest of
+//! a section after a code above FFFF.
 
 use cmap_values::declarations::{ByLength, CidRange, Lists};
 use std::alloc::AllocError;
 
-/// How many declarations stay in the order of their codes: those of one section.
+/// The most declarations of a list that stays in the order of its codes: the declarations of one section.
 const FEW: usize = 100;
 
-/// Puts single codes before ranges in each long list of CIDs and of notdefs that don't overlap.
+/// Puts single codes before ranges in each long list of CIDs and of notdefs whose declarations don't overlap.
 pub(crate) fn put_single_codes_first(lists: &mut Lists) -> Result<(), AllocError> {
     order_by_length(&mut lists.cids)?;
     order_by_length(&mut lists.notdefs)

@@ -15,7 +15,8 @@ enum Escape {
     Within(u32),
 }
 
-/// The bytes of a name, with its escapes `\\` and `\xHH` resolved; `None` of anything else.
+/// The bytes of a name, with its escapes `\\` and `\xHH` resolved; `None` if there is any other
+/// escape.
 pub(crate) fn name_bytes(alloc: Global, shown: &str) -> Result<Option<Vec<u8>>, AllocError> {
     let mut bytes = Vec::new(alloc);
     let mut escape = Escape::Outside;
@@ -28,7 +29,7 @@ pub(crate) fn name_bytes(alloc: Global, shown: &str) -> Result<Option<Vec<u8>>, 
     Ok(matches!(escape, Escape::Outside).then_some(bytes))
 }
 
-/// Adds a byte, or reads on in an escape; `None` where no name goes on so.
+/// Adds a byte, or reads on in an escape; `None` if no name continues with this byte.
 fn read_byte(bytes: &mut Vec<u8>, escape: Escape, byte: u8) -> Result<Option<Escape>, AllocError> {
     match (escape, byte) {
         (Escape::Outside, b'\\') => Ok(Some(Escape::Begun)),
@@ -48,7 +49,7 @@ fn begun_by(digit: u8) -> Option<Escape> {
     Some(Escape::Within(char::from(digit).to_digit(16)?))
 }
 
-/// Adds the byte of two digits, of which the first has this value.
+/// Adds the byte of two hexadecimal digits, the first of which has the value `high`.
 fn push_numbered(bytes: &mut Vec<u8>, high: u32, digit: u8) -> Result<Option<Escape>, AllocError> {
     let Some(byte) = byte_of(high, digit) else {
         return Ok(None);

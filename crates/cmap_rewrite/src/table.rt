@@ -1,4 +1,4 @@
-//! The table of `cmap make`: the lines that `cmap list` prints of one layer.
+//! The table of `cmap make`: the lines that `cmap list` prints for one layer.
 
 mod codes;
 mod quoted;
@@ -19,7 +19,7 @@ use cmap_values::units::Units;
 use cmap_values::writing_mode::WritingMode;
 use std::alloc::{AllocError, Global};
 
-/// A line of a table that isn't one, counted from 1 on.
+/// An invalid line of a table. Lines are counted from 1.
 #[derive(Clone, Copy, Debug)]
 pub struct TableFault {
     pub line: usize,
@@ -29,25 +29,25 @@ pub struct TableFault {
 /// What is wrong with a line of a table.
 #[derive(Clone, Copy, Debug)]
 pub enum WrongLine {
-    /// It doesn't begin with the word for a declaration.
+    /// The line doesn't begin with the word for a declaration.
     Kind,
-    /// It begins the lines of a further layer.
+    /// The line begins the lines of a further layer.
     Layer,
-    /// It has no first and last code of one to four bytes.
+    /// The line has no first and last code of one to four bytes.
     Codes,
     /// The codes of a codespace range have several lengths.
     Lengths,
-    /// It has no CID of 32 bits, or more than that.
+    /// The line has no CID of 32 bits after the codes, or more than a CID.
     Cid,
-    /// It has no text between quotation marks, or more than that.
+    /// The line has no text between quotation marks after the codes, or more than a text.
     Text,
     /// More follows the codes of a codespace range.
     Codespace,
     /// A comment of `list` has no name.
     Name,
-    /// One has no collection.
+    /// A comment of `list` has no collection.
     Collection,
-    /// One has no writing mode.
+    /// A comment of `list` has no writing mode.
     WritingMode,
 }
 
@@ -69,28 +69,28 @@ impl WrongLine {
     }
 }
 
-/// What the lines of a table declare.
+/// The declarations of a table.
 #[derive(Drop)]
 pub struct Declared {
     pub lists: Lists,
-    /// What the comments say that `list` prints of metadata.
+    /// The metadata in the comments that `cmap list` prints.
     pub metadata: Metadata,
     text_codes: TextCodes,
 }
 
-/// How many bytes the codes of texts have in a table.
+/// The lengths of the codes of texts in a table.
 #[derive(Clone, Copy)]
 enum TextCodes {
-    /// There are none.
+    /// No code has a text.
     Absent,
-    /// All have this length.
+    /// All codes of texts have this length.
     Same(CodeLength),
-    /// They have several.
+    /// The codes of texts have several lengths.
     Several,
 }
 
 impl Declared {
-    /// What no line declares.
+    /// The declarations of an empty table.
     fn new(alloc: Global) -> Declared {
         Declared {
             lists: Lists::new(alloc),
@@ -103,7 +103,8 @@ impl Declared {
         }
     }
 
-    /// How many bytes the codes of texts are written with: as in the table, if all have one length there.
+    /// The lengths with which the codes of texts are written: the length in the table, if all have the same length
+    /// there.
     pub fn text_lengths(&self) -> TextLengths {
         match self.text_codes {
             TextCodes::Same(len) => TextLengths::same(len),
@@ -111,7 +112,7 @@ impl Declared {
         }
     }
 
-    /// Counts a length of the codes of a text.
+    /// Records the length of the codes of a text declaration.
     fn add_text_length(&mut self, len: CodeLength) {
         let before = self.text_codes;
         self.text_codes = match before {
@@ -122,7 +123,8 @@ impl Declared {
     }
 }
 
-/// What the lines of a table declare. Empty lines say nothing, and no comments but those that `list` prints.
+/// The declarations of a table. Empty lines are ignored, and so are comments that `cmap list` doesn't print for
+/// metadata.
 pub fn declared_by(alloc: Global, table: &str) -> Result<Declared, Fault<TableFault>> {
     let mut declared = Declared::new(alloc);
     let mut number = Count::of(0);
@@ -135,7 +137,7 @@ pub fn declared_by(alloc: Global, table: &str) -> Result<Declared, Fault<TableFa
     Ok(declared)
 }
 
-/// The fault of a line.
+/// The fault of the line with this number.
 fn at_line(line: Count, fault: Fault<WrongLine>) -> Fault<TableFault> {
     match fault {
         Fault::Refused(wrong) => Fault::Refused(TableFault {
@@ -146,7 +148,7 @@ fn at_line(line: Count, fault: Fault<WrongLine>) -> Fault<TableFault> {
     }
 }
 
-/// Adds what a line declares.
+/// Adds the declaration of a line.
 fn add_line(alloc: Global, declared: &mut Declared, line: &str) -> Result<(), Fault<WrongLine>> {
     if line.is_empty() {
         return Ok(());
@@ -167,7 +169,7 @@ fn add_line(alloc: Global, declared: &mut Declared, line: &str) -> Result<(), Fa
     }
 }
 
-/// Adds the metadata that a comment says, as `list` prints it.
+/// Adds the metadata in a comment, in the form that `cmap list` prints.
 fn add_comment(alloc: Global, metadata: &mut Metadata, line: &str) -> Result<(), Fault<WrongLine>> {
     let Some((key, value)) = line.split_once(": ") else {
         return Ok(());
@@ -197,7 +199,7 @@ fn mode_of(word: &str) -> Result<WritingMode, Fault<WrongLine>> {
     }
 }
 
-/// Adds a codespace range, as `<8140> <9FFC>`.
+/// Adds a codespace range, such as `<8140> <9FFC>`.
 fn add_codespace(lists: &mut Lists, line: &str) -> Result<(), Fault<WrongLine>> {
     let (CodePair { first, last }, rest) = pair_and_rest(line)?;
     if first.len != last.len {
@@ -214,7 +216,7 @@ fn add_codespace(lists: &mut Lists, line: &str) -> Result<(), Fault<WrongLine>> 
     Ok(())
 }
 
-/// Adds a declaration of CIDs, as `<8140> <817E> 633`.
+/// Adds a declaration of CIDs, such as `<8140> <817E> 633`.
 fn add_cids(lists: &mut Lists, line: &str) -> Result<(), Fault<WrongLine>> {
     let (codes, rest) = pair_and_rest(line)?;
     let cid = cid_of(rest)?;
@@ -223,7 +225,7 @@ fn add_cids(lists: &mut Lists, line: &str) -> Result<(), Fault<WrongLine>> {
     Ok(())
 }
 
-/// Adds a notdef declaration, as `<00> <1F> 231`.
+/// Adds a notdef declaration, such as `<00> <1F> 231`.
 fn add_notdefs(lists: &mut Lists, line: &str) -> Result<(), Fault<WrongLine>> {
     let (codes, rest) = pair_and_rest(line)?;
     let cid = cid_of(rest)?;
@@ -232,7 +234,7 @@ fn add_notdefs(lists: &mut Lists, line: &str) -> Result<(), Fault<WrongLine>> {
     Ok(())
 }
 
-/// Adds a declaration of texts, as `<41> <5A> "A"`.
+/// Adds a declaration of texts, such as `<41> <5A> "A"`.
 fn add_texts(alloc: Global, declared: &mut Declared, line: &str) -> Result<(), Fault<WrongLine>> {
     let (codes, rest) = pair_and_rest(line)?;
     let Some(text) = unquoted(alloc, rest)? else {
@@ -245,7 +247,7 @@ fn add_texts(alloc: Global, declared: &mut Declared, line: &str) -> Result<(), F
     Ok(())
 }
 
-/// The codes that the rest of a line begins with, and what follows them.
+/// The two codes at the start of the rest of a line, and the text after them.
 fn pair_and_rest(line: &str) -> Result<(CodePair, &str), Fault<WrongLine>> {
     code_pair(line).ok_or(Fault::Refused(WrongLine::Codes))
 }
@@ -256,7 +258,7 @@ fn cid_of(digits: &str) -> Result<u32, Fault<WrongLine>> {
     u32::try_from(number).map_err(|_| Fault::Refused(WrongLine::Cid))
 }
 
-/// The units of a text.
+/// The UTF-16 units of a text.
 fn units_of(alloc: Global, text: &str) -> Result<Units, AllocError> {
     let units: Vec<u16> = text.encode_utf16().collect(alloc)?;
     Units::from_slice(alloc, &units)

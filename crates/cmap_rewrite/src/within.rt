@@ -1,5 +1,5 @@
-//! Ranges of texts that lie within codespace ranges, or outside of them. MuPDF drops a range of which a single code
-//! lies in none; numbers of codes count there, and not their lengths.
+//! Ranges of texts that lie within codespace ranges, or outside of them. MuPDF drops a range if a single code of the
+//! range lies in no codespace range. MuPDF compares the numbers of codes, and not their lengths.
 
 use cmap_values::declarations::{BfRange, Codespace};
 use cmap_values::range::Range;
@@ -24,7 +24,7 @@ pub(crate) fn cut_texts(
     Ok(cut)
 }
 
-/// The first codes of codespace ranges, and the codes after their last ones, in order.
+/// The first codes of codespace ranges, and the codes after the last codes, in ascending order.
 fn edges_of(alloc: Global, spaces: &[Codespace]) -> Result<Vec<u32>, AllocError> {
     let mut edges = Vec::new(alloc);
     for space in spaces {
@@ -37,7 +37,7 @@ fn edges_of(alloc: Global, spaces: &[Codespace]) -> Result<Vec<u32>, AllocError>
     Ok(edges)
 }
 
-/// Whether the last unit counts on from code to code without passing 16 bits.
+/// Whether all codes of the range have a text: the last unit, counted up from code to code, stays within 16 bits.
 fn has_all_texts(text: &BfRange) -> bool {
     let Some(last) = text.units.as_slice().last() else {
         return false;
@@ -72,7 +72,7 @@ fn add_parts(
     Ok(())
 }
 
-/// The texts of codes from `first`, which has one, to `last`.
+/// The declaration of the texts of codes from `first`, which has a text, to `last`.
 pub(crate) fn part_of(
     alloc: Global,
     text: &BfRange,

@@ -1,4 +1,4 @@
-//! What one file says by itself, whatever files it uses.
+//! The contents of one file alone, without the contents of the files that it uses.
 
 use crate::bases::Bases;
 use crate::fault_line::LineCounter;
@@ -11,7 +11,8 @@ use cmap_text::{read_text, salvage_text};
 use cmap_values::fault::{Fault, Stop};
 use cmap_values::file::{File, Salvaged};
 
-/// What a file says. Its faults are reported. If it isn't read past them, it is refused at the first.
+/// The contents of a file. The faults are reported. A file that isn't read past its faults is refused at the first
+/// fault.
 pub fn file_of<'d>(
     rt: &HostRuntime,
     input: Input<'d>,
@@ -61,7 +62,7 @@ fn read_past<'d>(
     Ok(file)
 }
 
-/// Reports the first faults of a file, each with its byte and its line, and how many more there are.
+/// Reports the first faults of a file, each with its byte and its line, and the number of further faults.
 fn report_stops(
     rt: &HostRuntime,
     input: Input<'_>,
@@ -79,7 +80,7 @@ fn report_stops(
     report_others(rt, input.path, others.len())
 }
 
-/// Reports how many more faults there are.
+/// Reports the number of further faults, if there are any.
 fn report_others(rt: &HostRuntime, path: &str, count: usize) -> Result<(), Failure> {
     if count > 0 {
         let line = more_line(rt.alloc(), path, count)?;

@@ -1,4 +1,4 @@
-//! Bases: the files that others use, by their names. A base is read only if a file uses it.
+//! Bases: the files that other files use, by their names. A base is read only if a file uses the base.
 
 ghost use Rattle.cmap_files.specs.BytesSeen.{bytes_seen};
 
@@ -39,7 +39,7 @@ impl<'b> NamedFile for Base<'b> {
 /// The bases that were read.
 pub type Files<'f> = NamedFiles<'f, Base<'f>, Bundle<'f>>;
 
-/// The bases that were read, as a parse asks for them: one that isn't read yet is missing, also Identity-H.
+/// The bases that were read, as the source of a parse. A base that isn't read yet is missing, even Identity-H.
 #[derive(Drop)]
 pub struct ReadBases<'f> {
     pub files: Files<'f>,
@@ -68,7 +68,7 @@ struct Unreadable {
     error: io::Error,
 }
 
-/// What was found of a name.
+/// The result of looking up a name.
 #[derive(Drop)]
 enum Found<'b> {
     File(FileBytes<'b>),
@@ -76,22 +76,22 @@ enum Found<'b> {
     Nothing,
 }
 
-/// The files that others may use. A name is looked up in the folders of bases, then in the bundle, then by
+/// The files that other files may use. A name is looked up in the folders of bases, then in the bundle, then by
 /// `search`; Identity-H and Identity-V need no file.
 #[derive(Drop)]
 pub struct Bases<'b> {
     pub bundle: Option<&'b Bundle<'b>>,
     /// The paths of bases that aren't read yet, by their names.
     paths: BTreeMap<Vec<u8>, String>,
-    /// The last folders in which a name is looked up: none at first.
+    /// The folders in which a name is looked up last. At first there are none.
     pub search: Search,
     /// The bases that were read.
     read: Vec<Base<'b>>,
-    /// Of how many of these the files that they use were read ahead.
+    /// The number of bases at the start of `read` whose used files were read ahead.
     asked: usize,
-    /// Files that can't be read, and aren't reported yet.
+    /// Files that can't be read and that aren't reported yet.
     unreadable: Vec<Unreadable>,
-    /// Whether something can't be read.
+    /// Whether a path couldn't be read.
     has_failed: bool,
 }
 
@@ -109,7 +109,7 @@ impl<'b> Bases<'b> {
         }
     }
 
-    /// Adds the files of these folders.
+    /// Adds the paths of the files in these folders.
     pub fn add_folders(&mut self, rt: &HostRuntime, folders: &[&str]) -> Result<(), Failure> {
         for folder in folders {
             self.add_folder(rt, folder)?;
@@ -130,7 +130,7 @@ impl<'b> Bases<'b> {
         Ok(())
     }
 
-    /// Adds the path of a file, unless an earlier one has its name.
+    /// Adds the path of a file, unless an earlier path has the same file name.
     fn add_path(&mut self, alloc: Global, path: &str) -> Result<(), AllocError> {
         let name = path_bytes(alloc, name_of(path))?;
         if self.path(&name).is_none() {
@@ -147,8 +147,8 @@ impl<'b> Bases<'b> {
         }
     }
 
-    /// The bases that were read, without the bundle. A file of the bundle is added to them when it is used, so
-    /// that the base of its name comes first.
+    /// The bases that were read, without the bundle. A file of the bundle is added to the bases when it is used, so
+    /// that a base of the same name comes first.
     pub fn read_files(&self) -> ReadBases<'_> {
         ReadBases {
             files: NamedFiles::alone(self.read.as_slice()),
@@ -175,7 +175,7 @@ impl<'b> Bases<'b> {
         self.bundle?.file_of(name)
     }
 
-    /// Reads the files of these names, but for those that were read.
+    /// Reads the files of these names, except for files that were read before.
     pub fn read_all(&mut self, rt: &HostRuntime, names: &[Vec<u8>]) -> Result<(), Failure> {
         for name in names {
             self.read(rt, name)?;
@@ -183,7 +183,7 @@ impl<'b> Bases<'b> {
         Ok(())
     }
 
-    /// Reads the file of this name, unless it was read. A base that can't be read is kept for the report, and
+    /// Reads the file of this name, unless it was read before. A base that can't be read is kept for the report, and
     /// the name is looked up once more: in the bundle and by `search`.
     fn read(&mut self, rt: &HostRuntime, name: &[u8]) -> Result<(), Failure> {
         if !self.has_unread(name) {
@@ -202,7 +202,7 @@ impl<'b> Bases<'b> {
         Ok(())
     }
 
-    /// Reads the files ahead that this one uses.
+    /// Reads ahead the files that a file of these bytes uses.
     pub fn read_used_by(&mut self, rt: &HostRuntime, file: &[u8]) -> Result<(), Failure> {
         if let Some(names) = CMap::uses(rt.alloc(), file, self.bundle)? {
             for name in &names {
@@ -212,7 +212,7 @@ impl<'b> Bases<'b> {
         Ok(())
     }
 
-    /// Reads the files ahead that the bases use. Each base is asked once.
+    /// Reads ahead the files that the bases use. Each base is considered once.
     pub fn read_used(&mut self, rt: &HostRuntime) -> Result<(), Failure> {
         let count = self.read.len();
         for index in self.asked..count {
@@ -226,8 +226,8 @@ impl<'b> Bases<'b> {
         Ok(())
     }
 
-    /// Reads the file of this name ahead, unless it was read. If it can't be read, nothing changes: it is
-    /// reported only if a parse misses it.
+    /// Reads ahead the file of this name, unless it was read before. A file that can't be read changes nothing: the
+    /// file is reported only if a parse misses it.
     fn read_ahead(&mut self, rt: &HostRuntime, name: &[u8]) -> Result<(), Failure> {
         if !self.has_unread(name) {
             return Ok(());
@@ -270,7 +270,7 @@ impl<'b> Bases<'b> {
         }
     }
 
-    /// Keeps the file of this name for the report, and takes it out of where the name is looked up.
+    /// Keeps the unreadable file of this name for the report, and removes the file from further look-ups of the name.
     fn set_unreadable(
         &mut self,
         alloc: Global,
@@ -306,7 +306,7 @@ impl<'b> Bases<'b> {
         self.read.iter().find(|base| base.name.as_slice() == name)
     }
 
-    /// The path of the file of this name. For a file of the bundle it is this path of the bundle.
+    /// The path of the file of this name. The path of a file in the bundle is `bundle`, the path of the bundle.
     pub fn locate(
         &mut self,
         rt: &HostRuntime,
@@ -319,7 +319,7 @@ impl<'b> Bases<'b> {
         }
     }
 
-    /// The path of the base of this name, or else of the bundle if it has the name.
+    /// The path of the base of this name; else the path of the bundle, if the bundle has a file of this name.
     fn known_path<'p>(&'p self, name: &[u8], bundle: Option<&'p str>) -> Option<&'p str> {
         match self.path(name) {
             Some(path) => Some(path),
@@ -333,7 +333,7 @@ impl<'b> Bases<'b> {
         self.search.is_of_system() && file_name(name).is_some()
     }
 
-    /// Whether there is something to report.
+    /// Whether there are unreadable files to report.
     pub fn has_unreported(&self) -> bool {
         !self.unreadable.is_empty()
     }
@@ -348,7 +348,7 @@ impl<'b> Bases<'b> {
         Ok(())
     }
 
-    /// The status of the bases: whether all that were used could be read.
+    /// The exit status for the bases: `FAILED` if a path couldn't be read, else `ACCEPTED`.
     pub fn status(&self) -> u8 {
         if self.has_failed { FAILED } else { ACCEPTED }
     }

@@ -5,8 +5,8 @@ ghost use Rattle.cmap_sources.specs.LineEnds.{line_ends};
 
 use cmap_escape::count::Count;
 
-/// How many lines end in these bytes. A line ends with LF, CR, or CR and LF: after a carriage return a line feed at their
-/// start ends no further line.
+/// The number of lines that end in these bytes. A line ends with LF, CR, or CR and LF. If the bytes follow a carriage
+/// return, a line feed at their start ends no further line.
 pub fn ends_in(bytes: &[u8], is_after_return: bool) -> usize
     ensures { result ≡ line_ends is_after_return bytes.now }
 {
@@ -22,21 +22,21 @@ pub fn ends_in(bytes: &[u8], is_after_return: bool) -> usize
     ends
 }
 
-/// Finds the lines of bytes in files. For bytes of one file, in the order of their offsets, it passes over the
-/// file once.
+/// Finds the line numbers of bytes in files. Bytes of one file in the order of their offsets take one pass over the
+/// file.
 #[derive(Drop)]
 pub struct LineCounter<'n> {
     /// The name of the file, if it has one.
     name: Option<&'n [u8]>,
-    /// The offset of the last byte.
+    /// The offset of the byte whose line was found last.
     offset: usize,
-    /// The line of that byte.
+    /// The line number of the byte at `offset`.
     line: Count,
     is_after_return: bool,
 }
 
 impl<'n> LineCounter<'n> {
-    /// Before any file.
+    /// A counter that has read no file yet.
     pub fn new() -> Self {
         LineCounter {
             name: None,
@@ -46,8 +46,8 @@ impl<'n> LineCounter<'n> {
         }
     }
 
-    /// The line of the byte at this offset of a file; the first line is 1. `None` if the offset is past the end.
-    /// A name stands for one file.
+    /// The line number of the byte at this offset of a file; the first line is 1. `None` if the offset is past the
+    /// end. Equal names stand for the same file.
     pub fn line_of(&mut self, name: Option<&'n [u8]>, file: &[u8], offset: usize) -> Option<usize> {
         if name != self.name || offset < self.offset {
             *self = LineCounter {

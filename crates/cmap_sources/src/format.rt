@@ -5,7 +5,7 @@ use cmap_files::failure::{Failure, fault, report_message};
 use hayro_cmap::Bundle;
 use std::alloc::{AllocError, Global};
 
-/// Reports a file that has another format, or one in the binary form without a bundle.
+/// Reports a file that has another format, or a file in the binary form if there is no bundle.
 pub fn report_format(
     rt: &HostRuntime,
     path: &str,
@@ -18,7 +18,8 @@ pub fn report_format(
     Ok(())
 }
 
-/// Which format a file has, if it is none of a CMap that is read with this bundle, or without one.
+/// A message about the format of a file, if the file isn't a CMap that can be read with this
+/// bundle, or without a bundle.
 pub fn format_of(
     alloc: Global,
     bytes: &[u8],
@@ -37,7 +38,7 @@ pub fn format_of(
     }
 }
 
-/// How a file is compressed, or of which units its text is, if its first bytes tell.
+/// A message about the compression or the text encoding of a file, if the first bytes show one.
 fn encoding_of(bytes: &[u8]) -> Option<&'static str> {
     match bytes {
         [0x1F, 0x8B, ..] => Some("this is compressed by gzip"),

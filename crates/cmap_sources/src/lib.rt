@@ -1,5 +1,4 @@
-//! Where the command finds CMap files, how it reads them over the files that they use, and how it reports why a file is
-//! refused.
+//! Finds CMap files for the command, reads them over the files that they use, and reports why a file is refused.
 #![tactic(auto)]
 
 pub mod alone;

@@ -18,8 +18,8 @@ pub struct Opened<'b> {
     pub map: CMap,
 }
 
-/// The file of this path, or if no file has the path, of this name. Its faults are reported. A file that can't be read
-/// is a failure with a message.
+/// Opens the file of this path, or the file of this name if no file has the path. The faults are reported. A file that
+/// can't be read is a failure with a message.
 pub fn open<'b>(
     rt: &HostRuntime,
     argument: &str,
@@ -32,7 +32,8 @@ pub fn open<'b>(
     }
 }
 
-/// The bytes of the file of this path, or if no file has the path, of this name; `None` if no file has the name either.
+/// The bytes of the file of this path, or of the file of this name if no file has the path; `None` if no file has the
+/// name either.
 fn bytes_of<'b>(
     rt: &HostRuntime,
     argument: &str,
@@ -86,7 +87,7 @@ fn open_bytes<'b>(
     Ok(Opened { bytes, map })
 }
 
-/// The map of a file that a run needs. Its faults are reported.
+/// The map of a file that a run needs. The faults of the file are reported.
 pub fn map_needed(
     rt: &HostRuntime,
     argument: &str,
@@ -97,7 +98,8 @@ pub fn map_needed(
     Ok(map)
 }
 
-/// The map of a file of these bytes. Its faults are reported. If it isn't read past them, it is refused at the first.
+/// The map of a file of these bytes. The faults are reported. A file that isn't read past its faults is refused at the
+/// first fault.
 pub fn map_of(
     rt: &HostRuntime,
     path: &str,

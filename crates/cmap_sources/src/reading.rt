@@ -14,23 +14,23 @@ pub struct Input<'i> {
     pub bytes: &'i [u8],
 }
 
-/// What a file and the files that it uses say.
+/// The result of reading a file over the files that it uses.
 #[derive(Drop)]
 pub struct Reading {
-    /// The map. With `Faults::All` a file with faults has one too.
+    /// The map. With `Faults::All`, a file with faults has a map too.
     pub map: Option<CMap>,
     /// A line for each fault, without its line end.
     pub faults: Vec<String>,
-    /// The names of bases that aren't read yet. If there are any, parse again.
+    /// The names of missing bases that aren't read yet. If there are any, the file is parsed again.
     missing: Vec<Vec<u8>>,
 }
 
 /// Which faults of a file are looked for.
 #[derive(Clone, Copy)]
 pub enum Faults {
-    /// The first. The file is then refused.
+    /// The first fault. The file is then refused.
     First,
-    /// All. The file is read past each of them.
+    /// All faults. The file is read past each fault.
     All,
 }
 
@@ -55,9 +55,9 @@ pub struct Manner {
 /// The most faults of a file that are printed, if no option says otherwise.
 pub const MOST_FAULTS: u64 = 100;
 
-/// How often a file is parsed at most. The loop ends because each parse but the last misses a name that wasn't looked
-/// up before, and files use a limited number of names. But no clause says how many, so it has this bound, which no
-/// run reaches.
+/// The most times that a file is parsed. The loop ends because each parse but the last misses a name that wasn't looked
+/// up before, and files use a limited number of names. No clause states that number, so the loop has this bound, which
+/// no run reaches.
 const MOST_PARSES: u32 = u32::MAX;
 
 /// Reads a file over the files that it uses.
@@ -77,7 +77,7 @@ pub fn read_over(
 }
 
 impl Reading {
-    /// Parses a file until no base is missing that can be read.
+    /// Parses a file again until no base that can be read is missing.
     fn read_over(
         &mut self,
         rt: &HostRuntime,
@@ -149,7 +149,7 @@ impl Reading {
         self.set_faults(alloc, input, manner, bases, &faults)
     }
 
-    /// Sets the names of bases that are missing and can be read, or if there are none, the lines of the faults.
+    /// Sets the names of bases that are missing and can be read, or the lines of the faults if there are no such names.
     fn set_faults(
         &mut self,
         alloc: Global,
@@ -166,7 +166,7 @@ impl Reading {
     }
 }
 
-/// The faults past which a file was read over these files.
+/// The faults of a file that is read over these files past its faults. With `Faults::First`, there are none.
 pub fn faults_of<'f>(
     alloc: Global,
     input: Input<'f>,
@@ -183,8 +183,8 @@ pub fn faults_of<'f>(
     }
 }
 
-/// Reads bases ahead, since a parse up to the first fault finds one missing base alone. Nothing is read ahead after the
-/// first parse: most files use one base.
+/// Reads bases ahead, since a parse up to the first fault finds only one missing base. After the first parse, nothing
+/// is read ahead, since most files use one base.
 fn read_ahead(
     rt: &HostRuntime,
     parses: u32,
@@ -226,7 +226,7 @@ fn missing_name<'n>(fault: &Refusal<'n>) -> Option<&'n [u8]> {
     }
 }
 
-/// The lines of faults, and one that counts those which aren't printed.
+/// The lines of the printed faults, and a line with the number of the other faults.
 fn lines_of(
     alloc: Global,
     input: Input<'_>,
@@ -246,13 +246,13 @@ fn lines_of(
     Ok(lines)
 }
 
-/// The faults that are printed, at most this many, and the others.
+/// The faults that are printed, at most `most`, and the other faults.
 pub(crate) fn first_of<T>(faults: &[T], most: u64) -> (&[T], &[T]) {
     let most = usize::try_from(most).unwrap_or(usize::MAX);
     faults.split_at(faults.len().min(most))
 }
 
-/// The line that counts the faults which aren't printed.
+/// The line with the number of faults that aren't printed.
 fn more_of(alloc: Global, path: &str, form: Form, count: usize) -> Result<String, AllocError> {
     match form {
         Form::Text => more_line(alloc, path, count),

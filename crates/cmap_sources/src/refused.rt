@@ -1,4 +1,4 @@
-//! Why a file is refused: as a line for people, and as an object of JSON.
+//! The reason why a file is refused, as a line for people and as a JSON object.
 
 use crate::fault_line::LineCounter;
 use crate::reading::{Faults, Input};
@@ -13,7 +13,7 @@ use hayro_cmap::{Bundle, Cause, NamedFile, NamedFiles, Reason, Refusal, Stop};
 use std::alloc::{AllocError, Global};
 use std::fmt::Write;
 
-/// Where the fault of a file is reported, and why.
+/// The place where the fault of a file is reported, and the reason.
 #[derive(Clone, Copy)]
 struct LocatedStop {
     stop: Stop,
@@ -23,8 +23,8 @@ struct LocatedStop {
     read_as: Option<ReadAs>,
 }
 
-/// Where reading stopped in the file at fault: the file of these bytes or one that it uses. `None` if no file is
-/// malformed.
+/// The place where reading stopped in the file at fault, which is the file of these bytes or a file that it uses.
+/// `None` if no file is malformed.
 fn stop_of<'n, N: NamedFile>(
     bytes: &[u8],
     files: &NamedFiles<'_, N, Bundle<'_>>,
@@ -63,8 +63,8 @@ fn read_as(text: &[u8], fault: Stop, faults: Faults) -> Option<ReadAs> {
     }
 }
 
-/// Where the fault of a text is reported. A string that isn't closed refuses a text at its end, and is
-/// reported at its bracket.
+/// The offset at which the fault of a text is reported. A text is refused at its end for an unclosed string, and the
+/// fault is reported at the bracket of the string.
 fn reported_offset(text: &[u8], stop: Stop) -> usize {
     if stop.reason == Reason::UnclosedString && stop.offset == text.len() {
         first_malformed(text)
@@ -84,7 +84,7 @@ fn first_malformed(text: &[u8]) -> usize {
     scanner.next_start()
 }
 
-/// The bytes of the file at fault: the one of the last name, or the top file.
+/// The bytes of the file at fault: the file of the last name, or the top file if there is no name.
 fn file_at_fault<'f, N: NamedFile>(
     bytes: &'f [u8],
     files: &NamedFiles<'f, N, Bundle<'f>>,
@@ -96,9 +96,9 @@ fn file_at_fault<'f, N: NamedFile>(
     }
 }
 
-/// Adds why a file of these bytes is refused over `files`: the byte and the line at which reading stopped, what
-/// is wrong there, the file at fault if it is another one, and what the part at fault is read as. `lines` is the same
-/// for all faults of one file, and new for another file.
+/// Adds the reason why a file of these bytes is refused over `files`: the byte and the line at which reading stopped,
+/// what is wrong there, the file at fault if it is another file, and what the part at fault is read as. All faults of
+/// one file take the same `lines`, and another file takes a new counter.
 pub fn push_refusal<'n, N: NamedFile>(
     out: &mut String,
     bytes: &[u8],
@@ -120,7 +120,7 @@ pub fn push_refusal<'n, N: NamedFile>(
     push_read_as(out, located.read_as)
 }
 
-/// Adds the line of a refusal without its line end: the path, and why the file is refused.
+/// Adds the line of a refusal without its line end: the path, and the reason why the file is refused.
 pub fn push_refusal_line<'n, N: NamedFile>(
     out: &mut String,
     input: Input<'_>,
@@ -152,7 +152,7 @@ pub fn stop_line<N: NamedFile>(
     Ok(line)
 }
 
-/// The line that counts the faults of a file which aren't printed.
+/// The line with the number of faults of a file that aren't printed.
 pub fn more_line(alloc: Global, path: &str, count: usize) -> Result<String, AllocError> {
     let mut line = String::new(alloc);
     push_text(&mut line, path)?;
@@ -161,7 +161,7 @@ pub fn more_line(alloc: Global, path: &str, count: usize) -> Result<String, Allo
     Ok(line)
 }
 
-/// The same as an object.
+/// The JSON object with the number of faults of a file that aren't printed.
 pub fn more_json(alloc: Global, path: &str, count: usize) -> Result<String, AllocError> {
     let mut object = Object::new(alloc);
     object.set_text("file", path);
@@ -181,7 +181,7 @@ fn push_named(out: &mut String, text: &str, name: Option<&[u8]>) -> Result<(), A
     push_name(out, name)
 }
 
-/// Adds where reading stopped and why, as `byte 42 (line 3): a CID was expected`.
+/// Adds the place where reading stopped and the reason, such as `byte 42 (line 3): a CID was expected`.
 fn push_stop(out: &mut String, located: LocatedStop) -> Result<(), AllocError> {
     let Stop { offset, reason } = located.stop;
     match located.line {
@@ -242,7 +242,7 @@ fn set_read_as(alloc: Global, object: &mut Object, read_as: Option<ReadAs>) {
     }
 }
 
-/// What is wrong: where reading stopped, or with the file as a whole.
+/// The words for what is wrong, either where reading stopped or with the file as a whole.
 fn reason_of(alloc: Global, refusal: &Refusal<'_>) -> Result<String, AllocError> {
     match refusal.cause {
         Cause::Malformed(stop) => format!(in alloc; "{}", stop.reason),

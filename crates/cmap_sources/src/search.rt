@@ -1,4 +1,4 @@
-//! Folders in which a name is looked up that neither a base nor a file of the bundle has.
+//! Folders in which a name is looked up if neither a base nor a file of the bundle has the name.
 
 use cmap_files::failure::{Failure, fault};
 use cmap_files::file_names::file_name;
@@ -23,16 +23,16 @@ const SYSTEM_FOLDERS: &[&str] = &[
 pub struct Search {
     /// The folders, in the order of the search.
     folders: Vec<String>,
-    /// Whether their subfolders are among them.
+    /// Whether `folders` includes the subfolders.
     has_subfolders: bool,
-    /// Whether they are those where systems keep the predefined CMaps.
+    /// Whether `folders` are the folders in which systems keep the predefined CMaps.
     is_of_system: bool,
     /// Names that were looked up in vain.
     absent: BTreeSet<String>,
 }
 
 impl Search {
-    /// In no folder.
+    /// A search in no folder.
     pub fn nowhere(alloc: Global) -> Search {
         Search {
             folders: Vec::new(alloc),
@@ -42,8 +42,8 @@ impl Search {
         }
     }
 
-    /// Adds the folders that the environment names, or if it names none, those where systems keep the predefined
-    /// CMaps.
+    /// Adds the folders that the environment variable lists. If the variable isn't set, the folders in which systems
+    /// keep the predefined CMaps are added.
     pub fn add_environment(&mut self, rt: &HostRuntime) -> Result<(), Failure> {
         match env::var(rt, VARIABLE) {
             Ok(folders) => Ok(self.add_listed(rt.alloc(), folders.as_str())?),
@@ -73,7 +73,7 @@ impl Search {
         Ok(())
     }
 
-    /// Whether a file may have this name, which wasn't looked up in vain.
+    /// Whether a file may have this name: there are folders, and the name wasn't looked up in vain before.
     pub fn may_have(&self, name: &[u8]) -> bool {
         match file_name(name) {
             Some(name) => !self.folders.is_empty() && !self.absent.contains(name),
@@ -107,7 +107,7 @@ impl Search {
         Ok(None)
     }
 
-    /// Adds the subfolders of each folder after it, unless they are there.
+    /// Adds the subfolders of each folder after the folder, unless they were added before.
     fn add_subfolders(&mut self, rt: &HostRuntime) -> Result<(), Failure> {
         if !self.has_subfolders {
             self.folders = with_subfolders(rt, &self.folders)?;
@@ -116,7 +116,7 @@ impl Search {
         Ok(())
     }
 
-    /// Notes that no file has this name.
+    /// Records that no file has this name.
     pub fn set_absent(&mut self, alloc: Global, name: &[u8]) -> Result<(), AllocError> {
         if let Some(name) = file_name(name) {
             self.absent.insert(String::from_str(alloc, name)?)?;
@@ -125,7 +125,7 @@ impl Search {
     }
 }
 
-/// The folders, and after each its subfolders.
+/// The folders, each followed by its subfolders.
 fn with_subfolders(rt: &HostRuntime, folders: &[String]) -> Result<Vec<String>, Failure> {
     let mut all = Vec::new(rt.alloc());
     for folder in folders {

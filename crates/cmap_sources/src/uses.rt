@@ -6,9 +6,8 @@ use cmap_values::file::Salvaged;
 use hayro_cmap::{Bundle, CMap, Cause, NamedFile, NamedFiles, Refusal};
 use std::alloc::{AllocError, Global};
 
-/// The names that the file of each layer uses, the top layer first. The map is that of a file of these
-/// bytes over `files`, read past these faults, and has this number of layers. A file that passes the budget
-/// isn't read, and uses none.
+/// The names that the file of each layer uses, the top layer first. The map was read from these bytes over `files`,
+/// past these faults, and has this number of layers. A file that exceeds the budget isn't read and uses no names.
 pub fn uses_by_layer<'f, N: NamedFile>(
     alloc: Global,
     bytes: &'f [u8],
@@ -34,7 +33,7 @@ pub fn uses_by_layer<'f, N: NamedFile>(
     Ok(uses)
 }
 
-/// Whether the file that these names lead to passes the budget. Such a file has one fault, wherever it is used.
+/// Whether the file that these names lead to exceeds the budget. Such a file has one fault, wherever it is used.
 fn is_over_budget(faults: &[Refusal<'_>], path: &[&[u8]]) -> bool {
     faults.iter().any(|fault| fault.cause == Cause::OverBudget && fault.names.last() == path.last())
 }
@@ -54,7 +53,7 @@ fn uses_of<'d>(
     }
 }
 
-/// What a file says, also past its faults.
+/// The contents of a file, read past its faults.
 fn salvaged<'d>(
     alloc: Global,
     file: &'d [u8],
@@ -66,7 +65,8 @@ fn salvaged<'d>(
     }
 }
 
-/// The file under one that uses these names, and that the path leads to. Its name is added to the path.
+/// The file of the next layer, under the file that `path` leads to and that uses these names. The name of the next
+/// file is added to the path.
 fn open_base<'f, N: NamedFile>(
     files: &NamedFiles<'f, N, Bundle<'f>>,
     faults: &[Refusal<'f>],
@@ -80,8 +80,8 @@ fn open_base<'f, N: NamedFile>(
     Ok(files.find(name))
 }
 
-/// The name of that file: the last one, or the one under which a chain was too long, since the uses after it
-/// are passed over.
+/// The name of the file of the next layer: the last name, or the name that leads to a chain that was too long, since
+/// the uses after that name are passed over.
 fn base_of<'f>(faults: &[Refusal<'f>], names: &[&'f [u8]], path: &[&'f [u8]]) -> Option<&'f [u8]> {
     match too_long(faults) {
         Some(chain) if chain.starts_with(path) => chain.get(path.len()).copied(),
@@ -89,7 +89,7 @@ fn base_of<'f>(faults: &[Refusal<'f>], names: &[&'f [u8]], path: &[&'f [u8]]) ->
     }
 }
 
-/// The names of the chain that was too long, if one was.
+/// The names of the chain that was too long, if there is one.
 fn too_long<'a, 'f>(faults: &'a [Refusal<'f>]) -> Option<&'a [&'f [u8]]> {
     let fault = faults
         .iter()

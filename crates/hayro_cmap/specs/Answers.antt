@@ -1,2 +1,2 @@
 -- What a caller's function and a bundle answer, by name.
-pub use Rattle.cmap_chains.specs.Answers.{Answers, AnswersByName, IsByName, embedded, stored, unless_absent}
+pub use Rattle.cmap_load.specs.Answers.{Answers, AnswersByName, IsByName, embedded, stored, unless_absent}

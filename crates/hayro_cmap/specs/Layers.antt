@@ -1,2 +1,2 @@
 -- Files over the files that they use: the layers of a map.
-pub use Rattle.cmap_chains.specs.Layers.{AreLayers, AreUses, IsBase, Means, OfAnswer}
+pub use Rattle.cmap_load.specs.Layers.{AreLayers, AreUses, IsBase, Means, OfAnswer}

@@ -1,2 +1,2 @@
 -- Files by their names.
-pub use Rattle.cmap_chains.specs.NamedFiles.{file_named, first_named, text_named}
+pub use Rattle.cmap_load.specs.NamedFiles.{file_named, first_named, text_named}

@@ -1,8 +1,8 @@
 //! Files that a caller's function finds by their names.
 
-ghost use Rattle.cmap_chains.specs.Answers.{Answers};
+ghost use Rattle.cmap_load.specs.Answers.{Answers};
 
-use cmap_chains::Source;
+use cmap_load::Source;
 use cmap_values::names::CMapName;
 use std::marker::PhantomData;
 

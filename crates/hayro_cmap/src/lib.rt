@@ -7,8 +7,8 @@ mod files_by_name;
 mod map;
 
 pub use budget::ParseError;
-pub use cmap_chains::named_files::{BundleFiles, NamedFile, NamedFiles};
-pub use cmap_chains::{Cause, Refusal, Source, identity_text};
+pub use cmap_load::named_files::{BundleFiles, NamedFile, NamedFiles};
+pub use cmap_load::{Cause, Refusal, Source, identity_text};
 pub use cmap_layers::code_lengths;
 pub use cmap_layers::layer::{DeclarationCounts, Layer};
 pub use cmap_layers::layers::Layers;

@@ -2,18 +2,18 @@
 
 ghost use Rattle.std.specs.Prelude.{◌⊎◌, ◌≡◌, ◌≢◌, [], ◌∷◌, ◌≤◌, IfErr, IfOk, IfSome, IfNone, IsErrOf, IsSome, MatchOption, OnOk, Some, codes, length};
 ghost use Rattle.std.specs.List.{All};
-ghost use Rattle.cmap_chains.specs.Answers.{Answers, AnswersByName, IsByName};
+ghost use Rattle.cmap_load.specs.Answers.{Answers, AnswersByName, IsByName};
 ghost use Rattle.cmap_values.specs.Files as files;
 ghost use Rattle.cmap_values.specs.NamesSeen.{names_seen};
-ghost use Rattle.cmap_chains.specs.Identity.{identity_layer};
+ghost use Rattle.cmap_load.specs.Identity.{identity_layer};
 ghost use Rattle.cmap_packed.specs.BundleSeen.{tables_given};
-ghost use Rattle.cmap_chains.specs.Layers.{AreUses, Means};
-ghost use Rattle.cmap_chains.specs.Maps.{ExceedsBudget, FitsBudget, HasNoMap, IsMapOf, LeadsToFault};
-ghost use Rattle.cmap_chains.specs.Opened.{ExceedsBudgetNamed, FitsBudgetNamed, HasNoMapNamed, IsMapNamed, IsUnknown, LeadsToFaultNamed};
+ghost use Rattle.cmap_load.specs.Layers.{AreUses, Means};
+ghost use Rattle.cmap_load.specs.Maps.{ExceedsBudget, FitsBudget, HasNoMap, IsMapOf, LeadsToFault};
+ghost use Rattle.cmap_load.specs.Opened.{ExceedsBudgetNamed, FitsBudgetNamed, HasNoMapNamed, IsMapNamed, IsUnknown, LeadsToFaultNamed};
 ghost use Rattle.cmap_layers.specs.LayersSeen.{metadata_seen};
 ghost use Rattle.cmap_layers.specs.Layers.{top_metadata};
-ghost use Rattle.cmap_chains.specs.Salvage.{AreOfBundle, BeginsWithFault, GivesMap, IsFirstPastFaults, SalvagesMap};
-ghost use Rattle.cmap_chains.specs.SalvageSeen.{faults_seen};
+ghost use Rattle.cmap_load.specs.Salvage.{AreOfBundle, BeginsWithFault, GivesMap, IsFirstPastFaults, SalvagesMap};
+ghost use Rattle.cmap_load.specs.SalvageSeen.{faults_seen};
 ghost use Rattle.std.specs.Str.{chars};
 ghost use Rattle.cmap_layers.specs.CodeStretches.{AreCodesOfCid, AreCodesOfText};
 ghost use Rattle.cmap_layers.specs.Lookups.{cid_of};
@@ -24,11 +24,11 @@ ghost use Rattle.cmap_values.specs.Only.{IsOnly};
 ghost use Rattle.cmap_values.specs.Outcomes.{Finds, RefusesWith};
 ghost use Rattle.cmap_values.specs.declared.fault.Fault.TheVariants as fault;
 ghost use Rattle.hayro_cmap.specs.declared.budget.ParseError.TheVariants as parse_error;
-ghost use Rattle.cmap_chains.specs.declared.refusal.Cause.TheVariants as Cause;
+ghost use Rattle.cmap_load.specs.declared.refusal.Cause.TheVariants as Cause;
 
 use crate::budget::ParseError;
 use crate::files_by_name::FilesByName;
-use cmap_chains::{
+use cmap_load::{
     Cause, Refusal, SalvagedLayers, Source, identity_h, identity_v, salvaged_layers, uses,
 };
 use cmap_layers::layers::Layers;

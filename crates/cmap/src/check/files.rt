@@ -15,16 +15,16 @@ use cmap_sources::reading::{Form, Input, Manner, Reading, read_over};
 use std::alloc::{AllocError, Global};
 use std::io;
 
-/// What the arguments of `check` ask for.
+/// The parsed arguments of `check`.
 #[derive(Clone, Copy)]
 pub(crate) struct CheckOptions<'m, 'w> {
     /// The files and the folders.
     pub(crate) paths: &'m [&'w str],
-    /// A file that lists more of them.
+    /// A file that lists more files and folders.
     pub(crate) list: Option<PathList<'w>>,
     /// How files are read.
     pub(crate) manner: Manner,
-    /// Which warnings are asked for.
+    /// The warnings that are asked for.
     pub(crate) lint: LintOptions<'m, 'w>,
     /// Whether the last line, with the number of files, is left out.
     pub(crate) is_quiet: bool,
@@ -38,7 +38,7 @@ struct Run<'r, 'm, 'w> {
     tally: Tally,
 }
 
-/// Checks the files, and those in the folders, and gives the status.
+/// Checks the files and the files in the folders, and returns the exit status.
 pub(crate) fn check(
     rt: &HostRuntime,
     options: &CheckOptions<'_, '_>,
@@ -135,7 +135,7 @@ impl Run<'_, '_, '_> {
         Ok(rt.print(lines.as_str())?)
     }
 
-    /// Adds the lines of a file, and counts it.
+    /// Adds the lines of a file, and counts the file.
     fn push_lines(
         &mut self,
         alloc: Global,
@@ -151,7 +151,8 @@ impl Run<'_, '_, '_> {
     }
 }
 
-/// Adds the warnings about a file that is accepted, and gives whether one of them is denied.
+/// Adds the warnings about a file that is accepted. The result states whether one of the warnings
+/// is denied.
 fn push_lint(
     alloc: Global,
     lines: &mut String,
@@ -176,7 +177,7 @@ fn push_lint(
     }
 }
 
-/// Adds one line if the file is accepted, or else one for each fault.
+/// Adds one line if the file is accepted, else one line for each fault.
 fn push_reading(
     alloc: Global,
     lines: &mut String,

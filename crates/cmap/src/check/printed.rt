@@ -1,4 +1,4 @@
-//! Warnings as they are printed: as lines for people, and as objects of JSON.
+//! The printed forms of warnings: lines for people, and JSON objects.
 
 ghost use Rattle.std.specs.Prelude.{OnOk, string_bytes};
 ghost use Rattle.cmap_escape.specs.Escapes.{AddsLine, AddsOfLine};
@@ -13,7 +13,7 @@ use cmap_queries::code_lengths::printed_len;
 use hayro_cmap::runs::Range;
 use std::alloc::{AllocError, Global};
 
-/// Adds a warning about a file, as `FILE: warning: overlap: 25 codes, first <8140>`, and ends the line.
+/// Adds a warning about a file, such as `FILE: warning: overlap: 25 codes, first <8140>`, and ends the line.
 pub(crate) fn push_finding(
     out: &mut String,
     file: &str,
@@ -37,9 +37,9 @@ fn push_detail(out: &mut String, finding: &Finding<'_>) -> Result<(), AllocError
 /// The words of a warning.
 #[derive(Clone, Copy)]
 enum Words {
-    /// What a warning about a whole file says.
+    /// The sentence of a warning about a whole file.
     Sentence(&'static str),
-    /// What is counted.
+    /// The unit that a warning counts.
     Unit(&'static str),
 }
 
@@ -69,13 +69,13 @@ fn words_of(warning: Warning) -> Words {
     }
 }
 
-/// Adds how many codes, declarations, sections or strings a warning concerns.
+/// Adds the number of codes, declarations, sections or strings that a warning concerns.
 fn push_count(out: &mut String, count: u64, unit: &str) -> Result<(), AllocError> {
     let plural = if count == 1 { "" } else { "s" };
     write!(out, "{count} {unit}{plural}")
 }
 
-/// Adds where the first of what a warning concerns is, or the name that it is about.
+/// Adds the first place that a warning concerns, or the name that the warning is about.
 fn push_place(out: &mut String, place: Place<'_>) -> Result<(), AllocError> {
     match place {
         Place::File => Ok(()),
@@ -116,7 +116,7 @@ pub(crate) fn push_json(
 ) -> Result<(), AllocError>
     ensures line { OnOk result (AddsLine (string_bytes out.old) (string_bytes out.new)) }
 
-    // Also where memory runs out.
+    // This holds even if memory runs out.
     ensures printable { AddsOfLine (string_bytes out.old) (string_bytes out.new) }
 {
     let object = finding_object(alloc, file, finding)?;
@@ -132,7 +132,8 @@ fn finding_object(alloc: Global, file: &str, finding: &Finding<'_>) -> Result<Va
     object.finish()
 }
 
-/// Sets where a warning is: a name as it is printed and by its bytes, the ends of a range, or an offset.
+/// Sets the place of a warning: a name in its printed form and by its bytes, a code, the ends of a range, or an
+/// offset.
 fn set_place(alloc: Global, object: &mut Object, place: Place<'_>) {
     match place {
         Place::File => {}

@@ -1,14 +1,14 @@
-//! How far a run over many files has come.
+//! The progress of a run over many files.
 
 use cmap_escape::count::Count;
 use cmap_files::failure::Failure;
 use std::io::{self, IsTerminal};
 
-/// How many characters the bar has.
+/// The number of cells of the bar.
 const WIDTH: usize = 30;
 
-/// A bar on a terminal. It is shown only if the lines of the files go elsewhere: on a terminal these
-/// show how far the run has come.
+/// A progress bar on a terminal. The bar is shown only if the lines of the files go elsewhere, since lines on a
+/// terminal show the progress themselves.
 #[derive(Drop)]
 pub(crate) struct Progress {
     done: Count,
@@ -17,7 +17,7 @@ pub(crate) struct Progress {
 }
 
 impl Progress {
-    /// At the start of a run over this many files.
+    /// The bar at the start of a run over this many files.
     pub(crate) fn new(rt: &HostRuntime, total: usize) -> Progress {
         Progress {
             done: Count::of(0),
@@ -36,7 +36,7 @@ impl Progress {
         Ok(())
     }
 
-    /// The bar, filled by the part of the files that is done.
+    /// The bar, filled in proportion to the files that are done.
     fn bar(&self, rt: &HostRuntime) -> Result<String, Failure> {
         let mut bar = String::new(rt.alloc());
         bar.push('[')?;

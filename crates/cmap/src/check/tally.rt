@@ -1,4 +1,4 @@
-//! How many files a run checks, and what is wrong with them.
+//! The numbers of files that a run checks, refuses or can't read.
 
 ghost use Rattle.std.specs.Prelude.{◌≡◌};
 ghost use Rattle.cmap_escape.specs.Counts.{number_seen};
@@ -8,19 +8,19 @@ use cmap_escape::count::Count;
 use cmap_files::status::{ACCEPTED, FAILED, REFUSED};
 use std::io;
 
-/// What a run over many files finds.
+/// The counts of a run over many files.
 #[derive(Drop)]
 pub(crate) struct Tally {
     checked: Count,
     refused: Count,
-    /// How many files have a warning that is denied.
+    /// The number of files with a warning that is denied.
     denied: Count,
-    /// How many paths can't be read.
+    /// The number of paths that can't be read.
     unreadable: Count,
 }
 
 impl Tally {
-    /// No file yet; this many paths can't be read.
+    /// The tally before the first file, with this many paths that can't be read.
     pub(crate) fn new(unreadable: Count) -> Tally
         ensures { tally_seen result ≡ none_but (number_seen unreadable) }
     {
@@ -39,7 +39,7 @@ impl Tally {
         self.unreadable.add_one();
     }
 
-    /// Counts a file that was read. It may be refused, or a warning about it denied.
+    /// Counts a file that was read. The file may be refused, or have a denied warning.
     pub(crate) fn count(&mut self, is_refused: bool, is_denied: bool)
         ensures { tally_seen self.new ≡ with_file is_refused is_denied (tally_seen self.old) }
     {
@@ -52,7 +52,7 @@ impl Tally {
         }
     }
 
-    /// The status of the command.
+    /// The exit status of the command.
     pub(crate) fn status(&self) -> u8
         ensures { IsStatus (tally_seen self.now) result }
     {
@@ -65,7 +65,7 @@ impl Tally {
         }
     }
 
-    /// Reports how many files are checked.
+    /// Reports the number of checked files.
     pub(crate) fn report(&self, rt: &HostRuntime) -> io::Result<()> {
         let files = if self.checked.get() == 1 {
             "file"

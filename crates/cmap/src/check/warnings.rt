@@ -1,4 +1,4 @@
-//! `cmap check --lint`: what looks wrong in a file that is accepted.
+//! `cmap check --lint`: warnings about a file that is accepted.
 
 use crate::check::printed::{push_finding, push_json};
 use cmap_binary::is_marked_binary;
@@ -16,7 +16,7 @@ use std::alloc::{AllocError, Global};
 /// The argument of `--deny` that stands for all warnings.
 const ALL: &str = "all";
 
-/// Which warnings are asked for.
+/// The warnings that are asked for.
 #[derive(Clone, Copy)]
 pub(crate) struct LintOptions<'m, 'w> {
     /// Whether all warnings are asked for, and not only `nothing-declared`.
@@ -26,9 +26,9 @@ pub(crate) struct LintOptions<'m, 'w> {
 }
 
 impl<'m, 'w> LintOptions<'m, 'w> {
-    /// All warnings, where they are asked for, where the files are meant as maps to Unicode (`to_unicode`), or where
-    /// `denied` has a name; else only `nothing-declared`. A warning makes the status 1 where `denied` has its name or
-    /// `all`.
+    /// Asks for all warnings if `is_asked` or `to_unicode` is set or `denied` has a name, else only for
+    /// `nothing-declared`. With `to_unicode`, the files are meant as maps to Unicode. A warning makes the status 1 if
+    /// `denied` has its name or `all`.
     pub(crate) fn new(
         is_asked: bool,
         to_unicode: bool,
@@ -51,8 +51,8 @@ impl<'m, 'w> LintOptions<'m, 'w> {
         Ok(())
     }
 
-    /// Whether a warning is printed. Most ToUnicode CMaps have the name of all others, and texts for some codes alone:
-    /// there the warnings about this are printed only where `denied` has their names.
+    /// Whether a warning is printed. Most ToUnicode CMaps have the same name as all others, and texts for only some
+    /// codes. With `to_unicode`, the warnings about this are printed only if `denied` has their names.
     fn prints(&self, warning: Warning) -> bool {
         match warning {
             Warning::NameDiffers | Warning::NoMapping if self.to_unicode => self.names(warning),
@@ -76,7 +76,7 @@ impl<'m, 'w> LintOptions<'m, 'w> {
     }
 }
 
-/// Adds a line for each warning about a file, and gives whether one of them is denied.
+/// Adds a line for each warning about a file. The result states whether one of the warnings is denied.
 pub(crate) fn push_warnings(
     alloc: Global,
     lines: &mut String,
@@ -115,7 +115,7 @@ fn push_line(
     }
 }
 
-/// What is asked for warnings: a file with its map.
+/// The subject of the warnings: a file with its map.
 pub(crate) fn subject_of<'m>(
     map: &'m CMap,
     input: Input<'m>,
@@ -132,7 +132,7 @@ pub(crate) fn subject_of<'m>(
     }
 }
 
-/// The name of the file of a path; the standard input has none.
+/// The file name of a path; the standard input has no name.
 fn name_in(path: &str) -> Option<&[u8]> {
     (path != STANDARD_INPUT).then_some(name_of(path).as_bytes())
 }

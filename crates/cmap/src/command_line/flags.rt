@@ -141,7 +141,7 @@ pub(crate) const EFFECTIVE: Flag = Flag {
     help: "What codes have over all layers, in place of what each layer declares",
 };
 
-/// Of `find`, `decode`, `text` and `encode`; `check` has an option of this name too.
+/// An option of `find`, `decode`, `text` and `encode`; `check` has an option of this name too.
 pub(crate) const TO_UNICODE: Flag = Flag {
     id: "to-unicode-file",
     short: None,
@@ -158,7 +158,7 @@ pub(crate) const MISSING: Flag = Flag {
     help: "The code that stands for each character that no string shows",
 };
 
-/// Of the same ones.
+/// An option of `find`, `decode`, `text` and `encode`.
 pub(crate) const OF_COLLECTION: Flag = Flag {
     id: "of-collection",
     short: None,
@@ -167,7 +167,7 @@ pub(crate) const OF_COLLECTION: Flag = Flag {
     help: "The character collection of the font's CIDs, as Adobe-Japan1",
 };
 
-/// Of the same ones.
+/// An option of `find`, `decode`, `text` and `encode`.
 pub(crate) const SIMPLE: Flag = Flag {
     id: "simple",
     short: None,

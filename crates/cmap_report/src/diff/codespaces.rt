@@ -6,8 +6,8 @@ use hayro_cmap::runs::Range;
 use hayro_cmap::{CMap, Codespace};
 use std::alloc::{AllocError, Global};
 
-/// The lines of the ranges that a layer of one map has, and no layer of the other one: by the lengths of their codes,
-/// then by their first codes.
+/// Adds a line for each range that a layer of one map has and no layer of the other map has. The ranges of each map
+/// are sorted by the lengths of their codes, then by their first codes.
 pub(crate) fn add_codespaces(
     alloc: Global,
     lines: &mut Vec<DiffLine>,
@@ -19,7 +19,7 @@ pub(crate) fn add_codespaces(
     add_absent(lines, Side::Right, &right, &left)
 }
 
-/// The ranges of all layers in order, each once.
+/// The ranges of all layers, sorted, each once.
 fn spaces_of(alloc: Global, map: &CMap) -> Result<Vec<Codespace>, AllocError> {
     let mut spaces = Vec::new(alloc);
     for layer in map.layers().as_slice() {
@@ -49,7 +49,7 @@ fn add_absent(
     Ok(())
 }
 
-/// Whether a range is among ranges in order.
+/// Whether a range is among sorted ranges.
 fn has(spaces: &[Codespace], space: &Codespace) -> bool {
     let key = order_of(space);
     let before = spaces.partition_point(|other| order_of(other) < key);

@@ -1,4 +1,4 @@
-//! What two files state about themselves, where that differs.
+//! The metadata in which two files differ.
 
 use crate::diff::Side;
 use crate::info::{mode_name, push_collection};
@@ -8,7 +8,7 @@ use cmap_escape::object::Object;
 use hayro_cmap::{CMap, CharacterCollection, Layers, WritingMode};
 use std::alloc::{AllocError, Global};
 
-/// What is compared.
+/// A part of the metadata that is compared.
 #[derive(Clone, Copy)]
 enum Key {
     Name,
@@ -17,7 +17,7 @@ enum Key {
 }
 
 impl Key {
-    /// The word for it.
+    /// The word for the part in a line.
     fn word(self) -> &'static str {
         match self {
             Key::Name => "name",
@@ -26,7 +26,7 @@ impl Key {
         }
     }
 
-    /// The key of its value in an object.
+    /// The member name of the part's value in an object.
     fn member(self) -> &'static str {
         match self {
             Key::WritingMode => "writing_mode",
@@ -34,7 +34,7 @@ impl Key {
         }
     }
 
-    /// Its value as it is printed; `None` if the map has none.
+    /// The printed value of the part; `None` if the map has no value.
     fn value(self, alloc: Global, map: &CMap) -> Result<Option<String>, AllocError> {
         match self {
             Key::Name => name_of(alloc, map),
@@ -47,7 +47,7 @@ impl Key {
     }
 }
 
-/// What a file states, and other files don't.
+/// A value in the metadata of one file that the other file doesn't have.
 #[derive(Drop)]
 pub struct Statement {
     side: Side,
@@ -55,8 +55,8 @@ pub struct Statement {
     value: String,
 }
 
-/// What two files state differently: their names; and by the first layer of each that has one, their collections and
-/// writing modes. Without a layer that has a mode, text is horizontal.
+/// The differences between the metadata of two files: in the names, and in the collections and writing modes of the
+/// first layers that have them. Without a layer that has a writing mode, text is horizontal.
 pub fn statements(alloc: Global, left: &CMap, right: &CMap) -> Result<Vec<Statement>, AllocError> {
     let mut found = Vec::new(alloc);
     for key in &[Key::Name, Key::Collection, Key::WritingMode] {
@@ -123,7 +123,7 @@ fn mode_of(layers: &Layers) -> WritingMode {
     WritingMode::Horizontal
 }
 
-/// Adds a line, as `- name Small-H`, and ends it.
+/// Adds a line, such as `- name Small-H`, and ends it.
 pub fn push_statement(out: &mut String, statement: &Statement) -> Result<(), AllocError> {
     out.push_str(statement.side.mark())?;
     out.push_str(statement.key.word())?;

@@ -1,4 +1,4 @@
-//! What codes have over all layers, run by run: the CIDs that are declared for them, and their texts.
+//! The declared CIDs and the texts of codes over all layers, run by run.
 
 use crate::list::line::{Given, Line, add_texts_of};
 use cmap_queries::code_lengths::{LENGTHS, has_codes};
@@ -7,7 +7,7 @@ use hayro_cmap::runs::Range;
 use hayro_cmap::{CMap, CidStretch, Cids, CodeLength, TextStretch};
 use std::alloc::{AllocError, Global};
 
-/// What codes have: first their CIDs, for each length that codes of the map have, then their texts.
+/// The lines of the codes of a map: first the CIDs, for each length that codes of the map have, then the texts.
 pub fn effective_lines(alloc: Global, map: &CMap) -> Result<Vec<Line>, AllocError> {
     let mut lines = Vec::new(alloc);
     for len in LENGTHS {

@@ -1,4 +1,4 @@
-//! The lines of `cmap list`: declarations, or what codes in a row have.
+//! The lines of `cmap list`: declarations, or the values of consecutive codes.
 
 ghost use Rattle.std.specs.Prelude.{OnOk, string_bytes};
 ghost use Rattle.cmap_escape.specs.Escapes.{AddsLine, AddsOfLine};
@@ -15,18 +15,18 @@ use hayro_cmap::runs::Range;
 use hayro_cmap::{BfRange, CMap, utf16};
 use std::alloc::{AllocError, Global};
 
-/// A declaration of a layer, or what codes in a row have over all layers.
+/// A declaration of a layer, or the values of consecutive codes over all layers.
 #[derive(Drop)]
 pub struct Line {
-    /// How many bytes its codes have.
+    /// The number of bytes of the codes.
     pub(crate) byte_len: u8,
-    /// Its first code and its last one.
+    /// The first and the last code.
     pub(crate) range: Range,
     pub(crate) given: Given,
 }
 
 impl Line {
-    /// Whether the codes and the CIDs of another line continue those of this one.
+    /// Whether the codes and the CIDs of another line continue the codes and the CIDs of this line.
     pub(crate) fn is_continued_by(&self, next: &Line) -> bool {
         if self.byte_len != next.byte_len
             || self.range.end.checked_add(1) != Some(next.range.start)
@@ -44,21 +44,21 @@ impl Line {
     }
 }
 
-/// What codes are given.
+/// The values that codes are given.
 #[derive(Drop)]
 pub(crate) enum Given {
-    /// They lie in a codespace range.
+    /// No value: the codes are a codespace range.
     Codespace,
-    /// CIDs, of which this is the first.
+    /// CIDs that count up from this CID.
     Cids(u32),
-    /// This CID, each of them.
+    /// This CID for each code.
     Notdef(u32),
-    /// Texts, of which this is the first.
+    /// Texts, the first of which is this text.
     Texts(Option<String>),
 }
 
 impl Given {
-    /// The word for it.
+    /// The word for the kind of values.
     fn kind(&self) -> &'static str {
         match self {
             Given::Codespace => "codespace",
@@ -87,7 +87,7 @@ pub(crate) fn add_texts_of(
     Ok(())
 }
 
-/// Adds a declaration, as `cid <8140> <817E> 633`, and ends the line.
+/// Adds a declaration, such as `cid <8140> <817E> 633`, and ends the line.
 pub fn push_line(out: &mut String, line: &Line) -> Result<(), AllocError> {
     out.push_str(line.given.kind())?;
     out.push(' ')?;
@@ -96,7 +96,8 @@ pub fn push_line(out: &mut String, line: &Line) -> Result<(), AllocError> {
     out.push('\n')
 }
 
-/// Adds a range of codes as `<8140> <817E>`. The last one has more bytes where it needs them.
+/// Adds a range of codes in the form `<8140> <817E>`. The last code has more bytes if it needs
+/// them.
 pub(crate) fn push_range(out: &mut String, byte_len: u8, range: Range) -> Result<(), AllocError> {
     out.push('<')?;
     push_code(out, byte_len, range.start)?;
@@ -119,12 +120,12 @@ fn push_given(out: &mut String, given: &Given) -> Result<(), AllocError> {
     }
 }
 
-/// Where a line was found, as its object says.
+/// The place of a line, as its object states.
 #[derive(Clone, Copy)]
 pub enum Place {
-    /// In this layer; the top one is layer 1.
+    /// In this layer; the top layer is layer 1.
     Layer(usize),
-    /// Over all layers, which the object doesn't say.
+    /// Over all layers; the object doesn't state this place.
     AllLayers,
     /// In one of two maps.
     Side(Side),
@@ -139,7 +140,7 @@ pub fn push_json(
 ) -> Result<(), AllocError>
     ensures line { OnOk result (AddsLine (string_bytes out.old) (string_bytes out.new)) }
 
-    // Also where memory runs out.
+    // This holds even if memory runs out.
     ensures printable { AddsOfLine (string_bytes out.old) (string_bytes out.new) }
 {
     let object = line_object(alloc, line, place)?;

@@ -3,7 +3,7 @@
 use cmap_values::code_length::CodeLength;
 use cmap_values::range::Range;
 
-/// A code, and how many bytes it has.
+/// A code and its length.
 #[derive(Clone, Copy)]
 pub(super) struct Code {
     pub(super) len: CodeLength,
@@ -27,14 +27,14 @@ impl CodePair {
     }
 }
 
-/// The two codes that a line begins with, as `<8140> <817E>`, and what follows them.
+/// The two codes at the start of a line, such as `<8140> <817E>`, and the rest of the line.
 pub(super) fn code_pair(line: &str) -> Option<(CodePair, &str)> {
     let (first, rest) = code_and_rest(line)?;
     let (last, rest) = code_and_rest(rest)?;
     Some((CodePair { first, last }, rest))
 }
 
-/// The code that a line begins with, and what follows it and the white space behind it.
+/// The code at the start of a line, and the rest of the line without leading white space.
 fn code_and_rest(line: &str) -> Option<(Code, &str)> {
     let (digits, rest) = line.strip_prefix('<')?.split_once('>')?;
     Some((code_of(digits)?, rest.trim_start()))

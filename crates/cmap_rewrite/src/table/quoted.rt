@@ -11,12 +11,12 @@ enum Escape {
     Begun,
     /// `\u`
     Numbered,
-    /// `\u{` and digits, of which this is the number.
+    /// `\u{` and digits with this value.
     Within(u32),
 }
 
-/// The text that stands between quotation marks, with its escapes `\\`, `\"` and `\u{H..}` resolved; `None` of anything
-/// else.
+/// The text between quotation marks, with its escapes `\\`, `\"` and `\u{H..}` resolved; `None` if there is no such
+/// text.
 pub(super) fn unquoted(alloc: Global, quoted: &str) -> Result<Option<String>, AllocError> {
     let Some(inner) = inner_of(quoted) else {
         return Ok(None);
@@ -32,12 +32,12 @@ pub(super) fn unquoted(alloc: Global, quoted: &str) -> Result<Option<String>, Al
     Ok(matches!(escape, Escape::Outside).then_some(text))
 }
 
-/// What stands between the marks.
+/// The characters between the quotation marks.
 fn inner_of(quoted: &str) -> Option<&str> {
     quoted.strip_prefix('"')?.strip_suffix('"')
 }
 
-/// Adds a character, or reads on in an escape; `None` where no text goes on so.
+/// Adds a character, or reads on in an escape; `None` if no text continues with this character.
 fn read_character(
     text: &mut String,
     escape: Escape,
@@ -67,7 +67,7 @@ fn push_numbered(text: &mut String, number: u32) -> Result<Option<Escape>, Alloc
     Ok(Some(Escape::Outside))
 }
 
-/// The escape with one hexadecimal digit more; `None` where that is no digit, or the number too large.
+/// The escape with one more hexadecimal digit; `None` if the character isn't a digit or the number is too large.
 fn with_digit(number: u32, digit: char) -> Option<Escape> {
     let digit = digit.to_digit(16)?;
     let number = number.checked_mul(16)?.checked_add(digit)?;

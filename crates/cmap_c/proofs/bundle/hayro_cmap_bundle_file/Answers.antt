@@ -1,5 +1,5 @@
 use Rattle.std.proofs.Common.{Some, None, refl}
-use Rattle.cmap_chains.specs.Answers.{embedded}
+use Rattle.cmap_load.specs.Answers.{embedded}
 use Rattle.cmap_handles.proofs.HandlesRead.{given_in}
 use Rattle.cmap_c.proofs.bundle.hayro_cmap_bundle_file.Goals as goal
 

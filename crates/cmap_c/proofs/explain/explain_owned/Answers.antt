@@ -2,9 +2,9 @@ use Rattle.std.proofs.Common.{◌≡◌, ◌≢◌, ◌∙◌, subst, sym}
 use Rattle.std.specs.Option.{option_copied}
 use Rattle.cmap_values.specs.NamesSeen.{names_seen}
 use Rattle.cmap_values.specs.Outcomes.{RefusesWith}
-use Rattle.cmap_chains.specs.Maps as maps
-use Rattle.cmap_chains.specs.declared.refusal.Cause.TheVariants as cause
-use Rattle.cmap_chains.specs.declared.refusal.Refusal.{Refusal}
+use Rattle.cmap_load.specs.Maps as maps
+use Rattle.cmap_load.specs.declared.refusal.Cause.TheVariants as cause
+use Rattle.cmap_load.specs.declared.refusal.Refusal.{Refusal}
 use Rattle.cmap_c.specs.NamedFiles.{ExceedsBudgetOver, FitsBudgetOver, HasNoMapOver, IsMapOver, LeadsToFaultOver, answers}
 use Rattle.cmap_c.proofs.MapsExplained.{told}
 use Rattle.cmap_c.proofs.explain.explain_owned.Goals as goal

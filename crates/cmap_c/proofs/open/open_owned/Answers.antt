@@ -3,9 +3,9 @@ use Rattle.std.specs.Prelude.{IfNone}
 use Rattle.std.specs.Option.{option_copied}
 use Rattle.cmap_packed.specs.BundleSeen.{tables_given}
 use Rattle.cmap_values.specs.Outcomes.{RefusesWith}
-use Rattle.cmap_chains.specs.Opened as opened
-use Rattle.cmap_chains.specs.declared.refusal.Cause.TheVariants as cause
-use Rattle.cmap_chains.specs.declared.refusal.Refusal.{Refusal}
+use Rattle.cmap_load.specs.Opened as opened
+use Rattle.cmap_load.specs.declared.refusal.Cause.TheVariants as cause
+use Rattle.cmap_load.specs.declared.refusal.Refusal.{Refusal}
 use Rattle.cmap_c.specs.NamedFiles.{answers}
 use Rattle.cmap_c.specs.Opened.{ExceedsBudgetNamed, FitsBudgetNamed, HasNoMapNamed, IsMapNamed, IsUnknownOver}
 use Rattle.cmap_c.proofs.StatusOfCauses.{refused}

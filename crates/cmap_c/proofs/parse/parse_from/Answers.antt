@@ -1,6 +1,6 @@
 use Rattle.std.proofs.Common.{◌∙◌, sym}
 use Rattle.cmap_packed.specs.BundleSeen.{tables_given}
-use Rattle.cmap_chains.specs.Maps.{ExceedsBudget, FitsBudget, HasNoMap, IsMapOf}
+use Rattle.cmap_load.specs.Maps.{ExceedsBudget, FitsBudget, HasNoMap, IsMapOf}
 use Rattle.cmap_c.specs.NamedFiles.{answers, bundle_in}
 use Rattle.cmap_c.proofs.StatusOfCauses.{refused}
 use Rattle.cmap_c.proofs.parse.parse_from.Goals as goal

@@ -2,7 +2,7 @@ use Rattle.std.proofs.Common.{◌≡◌, ℕ, List, Option, Some, None, subst}
 use Rattle.cmap_values.specs.Only.{IsOnly}
 use Rattle.cmap_values.specs.Outcomes.{Finds}
 use Rattle.cmap_values.specs.declared.fault.Stop.{Stop}
-use Rattle.cmap_chains.specs.declared.refusal.Cause.TheVariants.{Malformed}
+use Rattle.cmap_load.specs.declared.refusal.Cause.TheVariants.{Malformed}
 use Rattle.cmap_lint.specs.PartsRead.{IsReadAs}
 use Rattle.cmap_lint.specs.declared.read_as.ReadAs.{ReadAs}
 use Rattle.cmap_c.specs.Faults.{HasNumbers}

@@ -5,8 +5,8 @@ use Rattle.std.specs.Option.{option_copied}
 use Rattle.cmap_packed.specs.BundleSeen.{tables_given}
 use Rattle.cmap_packed.specs.Bundles.{PrefixTables}
 use Rattle.cmap_layers.specs.Layers.{Layer}
-use Rattle.cmap_chains.specs.SalvageSeen.{faults_seen}
-use Rattle.cmap_chains.specs.declared.refusal.Refusal.{Refusal}
+use Rattle.cmap_load.specs.SalvageSeen.{faults_seen}
+use Rattle.cmap_load.specs.declared.refusal.Refusal.{Refusal}
 use Rattle.cmap_c.specs.NamedFiles.{answers}
 use Rattle.cmap_c.specs.Salvaged.{AreFaultsShown, IsSalvage, IsSalvageOver, IsSalvagedWith}
 use Rattle.cmap_c.specs.declared.salvage.Salvaged.{Salvaged}

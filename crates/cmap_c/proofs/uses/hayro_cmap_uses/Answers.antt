@@ -4,7 +4,7 @@ use Rattle.cmap_packed.specs.BundleSeen.{tables_given}
 use Rattle.cmap_packed.specs.Bundles.{Bundle, PrefixTables}
 use Rattle.cmap_values.specs.NamesSeen.{names_seen}
 use Rattle.cmap_values.specs.Only.{IsOnly, HoldsOfNone}
-use Rattle.cmap_chains.specs.Layers.{AreUses, Means}
+use Rattle.cmap_load.specs.Layers.{AreUses, Means}
 use Rattle.cmap_c.specs.NamedFiles.{AreUsesOver}
 use Rattle.cmap_handles.specs.Rooms.{AreBothPut}
 use Rattle.cmap_handles.specs.Statuses.{number}

@@ -3,7 +3,7 @@ use Rattle.std.specs.Prelude.{IfNone, IfSome, MatchOption, Option, Some, None}
 use Rattle.cmap_packed.specs.BundleSeen.{tables_given}
 use Rattle.cmap_packed.specs.Bundles.{PrefixTables}
 use Rattle.cmap_layers.specs.Layers.{Layer}
-use Rattle.cmap_chains.specs.Opened.{IsIdentity, IsMapNamed, IsNoIdentity, IsUnknown}
+use Rattle.cmap_load.specs.Opened.{IsIdentity, IsMapNamed, IsNoIdentity, IsUnknown}
 use Rattle.cmap_values.proofs.Outcomes.{refused_as}
 use Rattle.cmap_load.proofs.from_source.open_layers.Goals as goal
 

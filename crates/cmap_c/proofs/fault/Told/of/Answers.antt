@@ -4,7 +4,7 @@ use Rattle.cmap_values.specs.NamesSeen.{names_seen}
 use Rattle.cmap_values.specs.Outcomes.{RefusesWith}
 use Rattle.cmap_values.specs.declared.fault.Fault.{Fault}
 use Rattle.cmap_values.specs.declared.fault.Fault.TheVariants as fault
-use Rattle.cmap_chains.specs.declared.refusal.Refusal.{Refusal}
+use Rattle.cmap_load.specs.declared.refusal.Refusal.{Refusal}
 use Rattle.cmap_c.specs.Faults.{HasNames, IsToldFrom, IsToldOf}
 use Rattle.cmap_c.specs.declared.fault.Told.{Told}
 use Rattle.cmap_c.proofs.fault.Told.of.Goals as goal

@@ -3,8 +3,8 @@ use Rattle.std.specs.Borrow.{Bor}
 use Rattle.std.specs.List.{concat}
 use Rattle.std.proofs.lemmas.Result.{IfOk-from_err}
 use Rattle.cmap_values.specs.NamesSeen.{names_seen}
-use Rattle.cmap_chains.specs.SalvageSeen.{fault_seen, faults_seen}
-use Rattle.cmap_chains.specs.declared.refusal.Refusal.{Refusal}
+use Rattle.cmap_load.specs.SalvageSeen.{fault_seen, faults_seen}
+use Rattle.cmap_load.specs.declared.refusal.Refusal.{Refusal}
 use Rattle.cmap_c.specs.Faults.{fault_numbers}
 use Rattle.cmap_c.specs.Salvaged.{names_joined, numbers_of_all}
 use Rattle.cmap_c.specs.declared.fault.FaultNumbers.{FaultNumbers}

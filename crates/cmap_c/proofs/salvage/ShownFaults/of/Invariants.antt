@@ -1,5 +1,5 @@
 use Rattle.std.proofs.Common.{◌≡◌, ◌++◌, drop, vec_items}
-use Rattle.cmap_chains.specs.SalvageSeen.{faults_seen}
+use Rattle.cmap_load.specs.SalvageSeen.{faults_seen}
 use Rattle.cmap_c.specs.Salvaged.{names_joined, numbers_of_all}
 use Rattle.cmap_c.proofs.salvage.ShownFaults.of.Given as goal
 

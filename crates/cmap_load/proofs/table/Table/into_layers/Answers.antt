@@ -1,6 +1,6 @@
 use Rattle.std.proofs.Common.{refl, sym, subst, Some, None}
 use Rattle.cmap_load.specs.Loading.{AreLoaded, given, tables_of}
-use Rattle.cmap_load.proofs.Chain.{Left, answered, found_at, finished, goes_down, layers_few, readable, shorter, started, taken_file}
+use Rattle.cmap_load.proofs.LastUses.{Left, answered, found_at, finished, goes_down, layers_few, readable, shorter, started, taken_file}
 use Rattle.cmap_load.proofs.table.Table.into_layers.Goals as goal
 
 pub down-init : goal.down-init

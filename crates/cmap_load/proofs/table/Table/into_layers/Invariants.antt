@@ -1,6 +1,6 @@
 use Rattle.std.proofs.Common.{◌≡◌, ◌-◌, length}
 use Rattle.cmap_load.specs.Loading.{given, tables_of}
-use Rattle.cmap_load.proofs.Chain.{Left}
+use Rattle.cmap_load.proofs.LastUses.{Left}
 use Rattle.cmap_load.proofs.table.Table.into_layers.Given as goal
 
 abbrev pub invariant-down : goal.invariant-down

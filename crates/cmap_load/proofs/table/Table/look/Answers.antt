@@ -1,6 +1,6 @@
 use Rattle.std.proofs.Common.{◌-◌, arith, subst}
 use Rattle.cmap_values.specs.FilesSeen.{file_seen}
-use Rattle.cmap_chains.specs.BytesSpent.{Leaves}
+use Rattle.cmap_load.specs.BytesSpent.{Leaves}
 use Rattle.cmap_load.specs.Loading.{MeansOnly, bytes_at, given, tables_of}
 use Rattle.cmap_load.proofs.Passing.{IsLeft-less, file_at, has_stuck, of_bytes, whole_at}
 use Rattle.cmap_load.proofs.table.Table.look.Goals as goal

@@ -1,5 +1,5 @@
 use Rattle.std.proofs.Common.{arith, refl, subst, sym}
-use Rattle.cmap_chains.specs.BytesSpent.{Leaves}
+use Rattle.cmap_load.specs.BytesSpent.{Leaves}
 use Rattle.cmap_load.specs.Loading.{IsFound, IsStuck, given}
 use Rattle.cmap_load.proofs.Passing.{IsLeft-over, passed_more, stuck_at}
 use Rattle.cmap_load.proofs.table.Table.pass.Goals as goal

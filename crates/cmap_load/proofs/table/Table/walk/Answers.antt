@@ -1,6 +1,6 @@
 use Rattle.std.proofs.Common.{◌<◌, ◌∙◌, ap, arith, inl, refl, Some, length, sum, ◌∷◌}
 use Rattle.std.proofs.Math.ListN.{length-map}
-use Rattle.cmap_chains.proofs.BudgetLeft.{Leaves-none}
+use Rattle.cmap_load.proofs.BudgetLeft.{Leaves-none}
 use Rattle.cmap_values.specs.NamesSeen.{names_seen}
 use Rattle.cmap_load.proofs.Heights.{lowers}
 use Rattle.cmap_load.proofs.Leading.{names_pushed}

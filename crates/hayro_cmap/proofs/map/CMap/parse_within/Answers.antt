@@ -3,12 +3,12 @@ use Rattle.std.specs.Prelude.{◌≢◌, IsErrOf, IsSome, IfOk, IfErr, IfNone, I
 use Rattle.cmap_values.specs.Outcomes.{RefusesWith}
 use Rattle.cmap_values.specs.declared.fault.Fault.{Fault}
 use Rattle.cmap_values.specs.declared.fault.Fault.TheVariants.{Refused, Memory}
-use Rattle.cmap_chains.specs.Budgets.{Passes, Trail}
+use Rattle.cmap_load.specs.Budgets.{Passes, Trail}
 use Rattle.hayro_cmap.specs.declared.budget.ParseError.{ParseError}
 use Rattle.hayro_cmap.specs.declared.budget.ParseError.TheVariants as parse_error
-use Rattle.cmap_chains.specs.declared.refusal.Cause.{Cause}
-use Rattle.cmap_chains.specs.declared.refusal.Cause.TheVariants.{Malformed, NoFile, ChainLength, OverBudget}
-use Rattle.cmap_chains.proofs.OneName.{IsByName-from_answers}
+use Rattle.cmap_load.specs.declared.refusal.Cause.{Cause}
+use Rattle.cmap_load.specs.declared.refusal.Cause.TheVariants.{Malformed, NoFile, ChainLength, OverBudget}
+use Rattle.cmap_load.proofs.OneName.{IsByName-from_answers}
 use Rattle.hayro_cmap.proofs.map.CMap.parse_within.Goals as goal
 
 -- what is passed is there

@@ -1,0 +1,72 @@
+-- No more names lead to a fault than files may stand in a chain, where files are read past their faults.
+use Rattle.std.proofs.Common.{◌≡◌, ℕ, zero, suc, ◌≤◌, ◌+◌, sym, subst, List, [], ◌∷◌, ◌++◌, length, inl, inr, arith}
+use Rattle.std.specs.Prelude.{Option}
+use Rattle.std.specs.List.{All}
+use Rattle.std.proofs.Math.ListN.{length-append}
+use Rattle.std.proofs.Math.ListN.{length-map}
+use Rattle.std.proofs.lemmas.List.Elements.{All-append, All-cons, All-head, All-nil, All-tail}
+use Rattle.cmap_packed.specs.Bundles.{PrefixTables}
+use Rattle.cmap_values.specs.NamesSeen.{names_seen}
+use Rattle.cmap_layers.specs.Layers.{Layer}
+use Rattle.cmap_load.specs.Salvage.{Found, NamedFault, Opening, Reading, Salvages, SalvagesEach, SalvagesMap, SalvagesNamed, SalvagesUse}
+use Rattle.cmap_load.specs.SalvageSeen.{fault_seen, faults_seen}
+use Rattle.cmap_load.specs.declared.refusal.Cause.{Cause}
+use Rattle.cmap_load.specs.declared.refusal.Cause.TheVariants.{ChainLength, NoFile}
+use Rattle.cmap_load.specs.declared.refusal.Refusal.{Refusal}
+use Rattle.cmap_load.proofs.Listed.{list_each-All}
+
+abbrev AreFew : List (List ℕ) → Type 0
+AreFew names = length names ≤ 16
+
+abbrev HasFew : Reading → Type 0
+HasFew reading = AreFew reading.names
+
+abbrev HaveFew : Found → Type 0
+HaveFew found = All HasFew found.readings
+
+one_few : (names : List (List ℕ)) (causes : List Cause) → AreFew names → All HasFew (record { names = names; causes = causes } ∷ [])
+one_few names causes few = All-cons HasFew (record { names = names; causes = causes }) [] few (All-nil HasFew)
+
+each_few : (salvages : List ℕ → List Layer → Opening → Found → Type 0) → ((name : List ℕ) (base : List Layer) (opening : Opening) (found : Found) → salvages name base opening found → HaveFew found)
+    → (names : List (List ℕ)) (base : List Layer) (opening : Opening) (found : Found) → SalvagesEach salvages names base opening found → HaveFew found
+each_few salvages few [] base opening found is = subst HaveFew (sym is) (All-nil HasFew)
+each_few salvages few (name ∷ names) base opening found (first, last, finds, others, is) =
+    subst HaveFew (sym is) (All-append HasFew first.readings last.readings (few name base opening first finds) (each_few salvages few names first.layers first.after last others))
+
+module _ (tables : Option PrefixTables) (answers : List ℕ → Option (List ℕ) → Type 0) where
+  named_few : (salvages : List (List ℕ) → List ℕ → Opening → Found → Type 0) (room : ℕ) (names : List (List ℕ)) (name : List ℕ) (now : Opening) (found : Found) → length names ≤ 16 → ((bytes : List ℕ) → salvages names bytes now found → HaveFew found)
+      → SalvagesNamed answers salvages room names name now found → HaveFew found
+  named_few salvages zero names name now found short few is = subst HaveFew (sym is) (one_few names (ChainLength ∷ []) short)
+  named_few salvages (suc room) names name now found short few finds = elim finds [
+    | inl (said, is) ↦ subst HaveFew (sym is) (one_few names (NoFile ∷ []) short)
+    | inr (bytes, said, salvaged) ↦ few bytes salvaged
+  ]
+
+  salvages_few : (most : ℕ) (names : List (List ℕ)) (bytes : List ℕ) (opening : Opening) (found : Found) → length names + most ≤ 16 → Salvages tables answers most names bytes opening found → HaveFew found
+  salvages_few zero names bytes opening found short salvages = absurd salvages
+  salvages_few (suc most) names bytes opening found short (file, causes, rest, below, reads, uses, is) =
+      let use_few : (name : List ℕ) (base : List Layer) (now : Opening) (one : Found) → SalvagesUse answers (Salvages tables answers most) most names name base now one → HaveFew one = λ name base now one finds. elim finds [
+        | inl (closed, stays) ↦ subst HaveFew (sym stays) (All-nil HasFew)
+        | inr (opens, named) ↦ (let longer : length (names ++ name ∷ []) ≡ length names + 1 = length-append names (name ∷ []) in
+            named_few (Salvages tables answers most) most (names ++ name ∷ []) name now one (omega (arith, longer, short)) (λ under salvaged. salvages_few most (names ++ name ∷ []) under now one (omega (arith, longer, short)) salvaged) named)
+      ] in
+      subst HaveFew (sym is) (All-cons HasFew (record { names = names; causes = causes }) below.readings (omega (arith, short)) (each_few (SalvagesUse answers (Salvages tables answers most) most names) use_few file.uses [] _ below uses))
+
+abbrev pub HasFewNames : Refusal → Type 0
+HasFewNames refusal = length refusal.names.items ≤ 16
+
+abbrev FaultHasFew : NamedFault → Type 0
+FaultHasFew fault = AreFew fault.names
+
+refusals_few : (faults : List Refusal) → All FaultHasFew (faults_seen faults) → All HasFewNames faults
+refusals_few [] few = All-nil HasFewNames
+refusals_few (fault ∷ faults) few =
+    let here : length (names_seen fault.names.items) ≤ 16 = All-head FaultHasFew (fault_seen fault) (faults_seen faults) few in
+    let same : length (names_seen fault.names.items) ≡ length fault.names.items = simp length-map in
+    All-cons HasFewNames fault faults (omega (arith, here, same)) (refusals_few faults (All-tail FaultHasFew (fault_seen fault) (faults_seen faults) few))
+
+-- at most 16 names lead to each fault
+pub map_few : (tables : Option PrefixTables) (answers : List ℕ → Option (List ℕ) → Type 0) (bytes : List ℕ) (budget : Option ℕ) (layers : List Layer) (faults : List Refusal) → SalvagesMap tables answers bytes budget layers (faults_seen faults) → All HasFewNames faults
+map_few tables answers bytes budget layers faults (readings, after, is, listed) =
+    let few = salvages_few tables answers 16 [] bytes _ _ (omega arith) is in
+    refusals_few faults (subst (All FaultHasFew) (sym listed) (list_each-All AreFew [] readings (All-nil FaultHasFew) few))
