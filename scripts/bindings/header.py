@@ -15,7 +15,7 @@ from .library import C_TESTS, COMPILERS, TOP, WARNINGS
 HEADER = re.sub(r"/\*.*?\*/", "", (TOP / "include" / "hayro_cmap.h").read_text(), flags=re.S)
 CRATES = TOP / "crates"
 # the crates with calls of the header
-WITH_CALLS = ["cmap_c", "cmap_c_encoder", "cmap_c_maps", "cmap_c_writer"]
+WITH_CALLS = ["cmap_c", "cmap_c_writer"]
 VERSION = (TOP / "VERSION").read_text().strip()
 
 # how a type of the crates is written in the header
@@ -68,9 +68,9 @@ RESULTS = {
 # structs of the header, with their files and their names in the crates
 STRUCTS = [
     ("hayro_cmap_file", "cmap_c/src/files.rt", "BaseFile"),
-    ("hayro_cmap_code", "cmap_c_maps/src/decode.rt", "Code"),
-    ("hayro_cmap_character", "cmap_c_maps/src/extract.rt", "ExtractedCharacter"),
-    ("hayro_cmap_extracted", "cmap_c_maps/src/extract.rt", "Extracted"),
+    ("hayro_cmap_code", "cmap_c/src/decode.rt", "Code"),
+    ("hayro_cmap_character", "cmap_c/src/extract.rt", "ExtractedCharacter"),
+    ("hayro_cmap_extracted", "cmap_c/src/extract.rt", "Extracted"),
     ("hayro_cmap_codespace", "cmap_handles/src/ranges.rt", "CodespaceRange"),
     ("hayro_cmap_cid_range", "cmap_handles/src/ranges.rt", "DeclaredCids"),
     ("hayro_cmap_text_range", "cmap_handles/src/ranges.rt", "DeclaredTexts"),
@@ -80,21 +80,21 @@ STRUCTS = [
     ("hayro_cmap_facts", "cmap_c_writer/src/facts.rt", "Facts"),
     ("hayro_cmap_declaration", "cmap_c_writer/src/declaration.rt", "Declaration"),
     ("hayro_cmap_codes", "cmap_c_writer/src/chosen.rt", "ChosenCodes"),
-    ("hayro_cmap_piece", "cmap_c_encoder/src/pieces.rt", "EncodedPiece"),
+    ("hayro_cmap_piece", "cmap_c_writer/src/pieces.rt", "EncodedPiece"),
 ]
 # handles of the header, with their files, the files of their slots, and their names in the crates
 HANDLES = [
     ("hayro_cmap", "cmap_handles/src/handle.rt", "cmap_handles/src/slot.rt", "Map"),
     ("hayro_cmap_bundle", "cmap_handles/src/bundle.rt", "cmap_handles/src/slot.rt", "Bundle"),
-    ("hayro_cmap_encoder", "cmap_c_encoder/src/handle.rt", "cmap_c_encoder/src/slot.rt", "Encoder"),
+    ("hayro_cmap_encoder", "cmap_c_writer/src/handle.rt", "cmap_c_writer/src/slot.rt", "Encoder"),
 ]
 PLACES = {name: f"AT_{name}" for name in ["CODE", "RANGE", "NAME", "OFFSET"]}
 NUMBERED = r"(?P<number>\d+)(?:, [\w()]+\))? => Some\({}::(?P<name>\w+)"
 # enums of the header, each with the numbers without a variant in the crates, the pattern and the file of the variants
 # and their numbers, and the names that differ in the header, since another enum has the name
-STATUSES, MODES, FAULTS = "cmap_handles/src/status.rt", "cmap_c_maps/src/metadata.rt", "cmap_c/src/fault.rt"
+STATUSES, MODES, FAULTS = "cmap_handles/src/status.rt", "cmap_c/src/metadata.rt", "cmap_c/src/fault.rt"
 KINDS, LINT, LINTED = "cmap_c_writer/src/declaration.rt", "cmap_lint/src/warning.rt", "cmap_c/src/lint.rt"
-GRADES, READINGS = "cmap_c_encoder/src/pieces.rt", "cmap_lint/src/read_as.rt"
+GRADES, READINGS = "cmap_c_writer/src/pieces.rt", "cmap_lint/src/read_as.rt"
 ENUMS = [
     ("hayro_cmap_status", {}, r"Status::(?P<name>\w+) => (?P<number>\d+),", STATUSES, {"DONE": "OK"}),
     ("hayro_cmap_mode", {"NO_MODE": "2"}, r"WritingMode::(?P<name>\w+)\) => (?P<number>\d+),", MODES, {}),

@@ -7,7 +7,7 @@ from pathlib import Path
 from .programs import TOP
 
 # the crates whose exports the C library has
-EXPORTS = ["cmap_c", "cmap_c_encoder", "cmap_c_maps", "cmap_c_writer"]
+EXPORTS = ["cmap_c", "cmap_c_writer"]
 
 
 class Toolchain:

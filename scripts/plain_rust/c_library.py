@@ -10,7 +10,7 @@ from .exports import exports_of
 
 BY_HAND = TOP / "bindings" / "plain-c"
 # the crates with calls for C, and the one with their handles
-WITH_CALLS = ["cmap_c", "cmap_c_encoder", "cmap_c_maps", "cmap_c_writer"]
+WITH_CALLS = ["cmap_c", "cmap_c_writer"]
 HANDLES = "cmap_handles"
 VERSION = (TOP / "VERSION").read_text().strip()
 # the result of hayro_cmap_version

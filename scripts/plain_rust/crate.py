@@ -29,14 +29,14 @@ QUERIES = "cmap_queries"
 TESTED = ["cmap_diff", "cmap_maker", "cmap_writer"]
 # functions of lookups that Rust inlines only with an attribute; this replaces other such attributes
 INLINED = {
-    "cmap_c_maps/src/cids.rt": ["hayro_cmap_cid", "hayro_cmap_cid_strict"],
+    "cmap_c/src/cids.rt": ["hayro_cmap_cid", "hayro_cmap_cid_strict"],
     "cmap_layers/src/lookup.rt": ["strict_cid", "text", "find_bf"],
     "cmap_runs/src/runs/search.rt": ["find_after_blocks", "find_among_last"],
     "cmap_tokens/src/utf16.rt": ["one_char"],
     "hayro_cmap/src/map.rt": ["lookup_bf_string", "next_code"],
 }
 # files about the pointers of C
-POINTERS = ["cmap_c_encoder/src/slot.rt", "cmap_handles/src/slot.rt"]
+POINTERS = ["cmap_c_writer/src/slot.rt", "cmap_handles/src/slot.rt"]
 
 
 def crates_of_reader():

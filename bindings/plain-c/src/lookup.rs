@@ -2,7 +2,7 @@
 //! they save no registers for one. All others are made by the functions below, which are the same.
 
 use crate::fallible::alloc::Global;
-use crate::reader::cmap_c_maps::cids;
+use crate::reader::cmap_c::cids;
 use crate::reader::cmap_handles::handle::MapHandle;
 
 /// Whether a lookup is usual: of a code of two bytes, in a map of one layer.

@@ -12,7 +12,6 @@
 //! ```
 
 pub(crate) mod cmap_binary;
-pub(crate) mod cmap_chains;
 pub(crate) mod cmap_codespaces;
 pub(crate) mod cmap_encode;
 pub(crate) mod cmap_flatten;
@@ -29,8 +28,8 @@ pub(crate) mod cmap_unicode;
 pub(crate) mod cmap_values;
 pub(crate) mod hayro_cmap;
 
-pub use cmap_chains::named_files::BundleFiles;
 pub use cmap_encode::{Encoder, Grade, Piece, Unencodable, fold};
 pub use cmap_lint::{finding, lint, read_as, warning};
+pub use cmap_load::named_files::BundleFiles;
 pub use cmap_unicode::{Character, Extractor, declared_cid, ucs2_name, unicode_name};
 pub use hayro_cmap::*;

@@ -2,16 +2,27 @@
 #![tactic(auto)]
 
 mod bundle;
+mod cids;
+mod codes_of_cid;
+mod declared;
+mod decode;
 mod explain;
+mod extract;
 mod fault;
 mod files;
 mod identity;
 mod keep;
+mod layers;
 mod lint;
 mod message;
+mod metadata;
 mod open;
 mod parse;
 mod read_as;
+mod row;
 mod salvage;
+mod share;
+mod unicode_name;
 mod uses;
+mod utf8_text;
 mod version;

@@ -1,3 +1,5 @@
+mod EncoderSlots
+mod StringsPut
 mod AllDeclared
 mod LengthsGiven
 mod TextsGiven

@@ -1,2 +1,0 @@
-mod EncoderSlots
-mod StringsPut

@@ -1,5 +1,0 @@
-use Rattle.cmap_c_encoder.proofs.StringsPut.{folded_put}
-use Rattle.cmap_c_encoder.proofs.fold.hayro_cmap_fold.Goals as goal
-
-pub returns : goal.returns
-returns c = folded_put c.args.text.now c.folded.result _ _ _ _ _ _ _ c.folded.ensures c.put_string.ensures

@@ -1,5 +1,0 @@
-pub mod Encoded
-pub mod Folded
-pub mod PiecesSeen
-pub mod HeldEncoder
-pub mod LentEncoder

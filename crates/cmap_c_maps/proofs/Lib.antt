@@ -1,4 +1,0 @@
-mod CharactersExtracted
-mod StringsCut
-mod TextsOfBytes
-mod TopLayer

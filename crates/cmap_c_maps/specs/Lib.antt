@@ -1,4 +1,0 @@
-pub mod Extracted
-pub mod ExtractedParts
-pub mod Modes
-pub mod Strings
