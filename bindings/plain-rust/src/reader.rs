@@ -18,7 +18,6 @@ pub(crate) mod cmap_flatten;
 pub(crate) mod cmap_layers;
 pub(crate) mod cmap_lint;
 pub(crate) mod cmap_load;
-pub(crate) mod cmap_packed;
 pub(crate) mod cmap_runs;
 pub(crate) mod cmap_text;
 pub(crate) mod cmap_text_writer;

@@ -5,13 +5,13 @@ use Rattle.cmap_values.specs.Faults.{Ascend}
 use Rattle.cmap_values.specs.Files.{File}
 use Rattle.cmap_values.specs.Only.{IsOnly, HoldsOfNone}
 use Rattle.cmap_values.specs.declared.fault.Stop.{Stop}
-use Rattle.cmap_packed.specs.Bundles.{PrefixTables}
+use Rattle.cmap_binary.specs.Bundles.{PrefixTables}
 use Rattle.cmap_binary.specs.BinaryFiles.{BodyOf, Content, IsBinaryFile, SegmentAt, file_of}
 use Rattle.cmap_binary.specs.BinarySalvage.{BeginsWithin, BodyRead, SalvagesBinary, SegmentSays, SegmentsFrom, at_fault, cut_short, ended, no_header, said, whole, wrong_length}
 use Rattle.cmap_binary.specs.BinaryFaults.{IsBinaryFault, SegmentFault, after_segment, no_segment, says_nothing}
-use Rattle.cmap_packed.specs.Fronts.{AllOf, FramedAt}
+use Rattle.cmap_binary.specs.Fronts.{AllOf, FramedAt}
 use Rattle.cmap_binary.proofs.Bodies.{after_alone, after_within, body_alone, body_follows, body_within}
-use Rattle.cmap_packed.proofs.Fronts.{framed_alone, no_frame}
+use Rattle.cmap_binary.proofs.Fronts.{framed_alone, no_frame}
 
 abbrev pub offsets : List Stop → List ℕ
 offsets faults = map (λ stop. stop.offset) faults

@@ -10,8 +10,8 @@ use Rattle.cmap_values.specs.Only.{HoldsOfNone}
 use Rattle.cmap_values.specs.Outcomes.{Finds}
 use Rattle.cmap_binary.specs.BinaryFiles.{BodyOf, magic}
 use Rattle.cmap_binary.specs.BinarySalvage.{AfterHeader}
-use Rattle.cmap_packed.specs.Fronts.{BytesAt}
-use Rattle.cmap_packed.proofs.Fronts.{framed_alone, gives_if, split_only, then_none, then_only}
+use Rattle.cmap_binary.specs.Fronts.{BytesAt}
+use Rattle.cmap_binary.proofs.Fronts.{framed_alone, gives_if, split_only, then_none, then_only}
 
 module _ (bytes : List ℕ) where
   -- the body stands after a header of ten bytes

@@ -5,10 +5,10 @@ use Rattle.std.proofs.Math.Dec.{eqb-suc-zero}
 use Rattle.std.proofs.lemmas.List.Elements.{All-cons, All-head, All-nil, All-tail}
 use Rattle.cmap_values.specs.Files.{BfEntry, CidEntry}
 use Rattle.cmap_values.specs.Spans.{Span}
-use Rattle.cmap_packed.specs.Bundles.{PrefixTables}
-use Rattle.cmap_packed.specs.Fronts.{FieldAt, RowOf, SizedAt}
-use Rattle.cmap_packed.specs.PrefixWords.{CodeWord, bits}
-use Rattle.cmap_packed.proofs.Fronts.{pair, pair_is}
+use Rattle.cmap_binary.specs.Bundles.{PrefixTables}
+use Rattle.cmap_binary.specs.Fronts.{FieldAt, RowOf, SizedAt}
+use Rattle.cmap_binary.specs.PrefixWords.{CodeWord, bits}
+use Rattle.cmap_binary.proofs.Fronts.{pair, pair_is}
 use Rattle.cmap_binary.specs.BinaryEntries.{BfEntriesOf, CidEntriesOf, DestinationAt, Shape, SpansAt, SymbolAt, SymbolsAt, cid_entries, ranges, singles, spans_from}
 use Rattle.cmap_binary.specs.EntryByEntry.{BfEntryAt, BfsByEntry, CidColumns, CidEntryAt, CidsByEntry, Columns, ColumnsAt, SpanAt, WidthAt, cid_from}
 

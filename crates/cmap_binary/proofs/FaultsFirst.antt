@@ -6,10 +6,10 @@ use Rattle.cmap_values.specs.Outcomes.{RefusesWith}
 use Rattle.cmap_values.specs.declared.fault.Fault.{Fault}
 use Rattle.cmap_values.specs.declared.fault.Stop.{Stop}
 use Rattle.cmap_values.proofs.Outcomes.{refused_as}
-use Rattle.cmap_packed.specs.Bundles.{PrefixTables}
-use Rattle.cmap_packed.specs.Fronts.{FramedAt}
-use Rattle.cmap_packed.proofs.Fronts.{framed_alone}
-use Rattle.cmap_packed.proofs.FrontsAlone.{ArePrefixFree}
+use Rattle.cmap_binary.specs.Bundles.{PrefixTables}
+use Rattle.cmap_binary.specs.Fronts.{FramedAt}
+use Rattle.cmap_binary.proofs.Fronts.{framed_alone}
+use Rattle.cmap_binary.proofs.FrontsAlone.{ArePrefixFree}
 use Rattle.cmap_binary.specs.BinaryFaults.{IsBinaryFault, SegmentFault, after_segment, no_segment, says_nothing}
 use Rattle.cmap_binary.specs.BinaryFiles.{BodyOf, Content}
 use Rattle.cmap_binary.specs.BinarySalvage.{SaysNothing, SegmentSays}

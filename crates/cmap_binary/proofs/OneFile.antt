@@ -2,11 +2,11 @@
 use Rattle.std.proofs.Common.{ℕ, zero, suc, ◌+◌, sym, ap, ◌∙◌, subst, List, [], drop, Some, None}
 use Rattle.std.specs.Prelude.{Option, slice_index}
 use Rattle.std.proofs.lemmas.Option.{same_Some}
-use Rattle.cmap_packed.specs.Bundles.{PrefixTables}
-use Rattle.cmap_packed.specs.Fronts.{AllOf, ByteAt, CodeAt, FieldAt, RowOf, SizedAt, TerminatedAt, Then}
-use Rattle.cmap_packed.specs.PrefixWords.{CodeWord, IsPrefixFree, bits}
-use Rattle.cmap_packed.proofs.Fronts.{framed_alone, no_frame, pair_is}
-use Rattle.cmap_packed.proofs.FrontsAlone.{Alone, ArePrefixFree, all_alone, byte_alone, code_alone, field_alone, gives_alone, gives_if_alone, list_alone, row_alone, sized_alone, symbol_alone, terminated_alone, then_alone}
+use Rattle.cmap_binary.specs.Bundles.{PrefixTables}
+use Rattle.cmap_binary.specs.Fronts.{AllOf, ByteAt, CodeAt, FieldAt, RowOf, SizedAt, TerminatedAt, Then}
+use Rattle.cmap_binary.specs.PrefixWords.{CodeWord, IsPrefixFree, bits}
+use Rattle.cmap_binary.proofs.Fronts.{framed_alone, no_frame, pair_is}
+use Rattle.cmap_binary.proofs.FrontsAlone.{Alone, ArePrefixFree, all_alone, byte_alone, code_alone, field_alone, gives_alone, gives_if_alone, list_alone, row_alone, sized_alone, symbol_alone, terminated_alone, then_alone}
 use Rattle.cmap_binary.specs.BinaryEntries.{BfEntriesOf, CidEntriesOf, DestinationAt, Shape, SymbolAt, ranges, singles}
 use Rattle.cmap_binary.specs.EntryByEntry.{BfEntryAt, BfsByEntry, CidColumns, CidEntryAt, CidsByEntry, Columns, ColumnsAfter, ColumnsAt, CountsAt, SpanAt, WidthAt}
 use Rattle.cmap_binary.specs.BinaryFiles as files

@@ -3,10 +3,10 @@ use Rattle.std.proofs.Common.{◌≡◌, ℕ, ◌+◌, ◌-◌, ◌*◌, ◌^◌
 use Rattle.std.proofs.lemmas.Bool.{le-leb}
 use Rattle.std.proofs.lemmas.List.{drop-drop, get_or-drop, length-drop}
 use Rattle.cmap_values.specs.Only.{IsOnly}
-use Rattle.cmap_packed.specs.Fronts.{FieldAt}
-use Rattle.cmap_packed.specs.Reader.{number_at}
-use Rattle.cmap_packed.specs.Bundles.{PrefixTables}
-use Rattle.cmap_packed.proofs.Fronts.{field_only, gives_if, then_only}
+use Rattle.cmap_binary.specs.Fronts.{FieldAt}
+use Rattle.cmap_binary.specs.Reader.{number_at}
+use Rattle.cmap_binary.specs.Bundles.{PrefixTables}
+use Rattle.cmap_binary.proofs.Fronts.{field_only, gives_if, then_only}
 use Rattle.cmap_values.specs.Spans.{Span}
 use Rattle.cmap_binary.specs.EntryByEntry.{CidColumns, CidEntryAt, Columns, SpanAt, cid_from}
 

@@ -1,9 +1,9 @@
 -- What is wrong with a segment has one reason, where no code word of the tables begins another one.
 use Rattle.std.proofs.Common.{◌≡◌, ℕ, zero, suc, ◌+◌, ◌≤◌, ◌^◌, sym, ◌∙◌, subst, List, Some, None, inl, inr, arith}
 use Rattle.std.specs.Prelude.{Option, slice_get}
-use Rattle.cmap_packed.specs.Bundles.{PrefixTables}
-use Rattle.cmap_packed.specs.Fronts.{ByteAt, FieldAt, RowOf, Then}
-use Rattle.cmap_packed.proofs.FrontsAlone.{Alone, ArePrefixFree, byte_alone, field_alone}
+use Rattle.cmap_binary.specs.Bundles.{PrefixTables}
+use Rattle.cmap_binary.specs.Fronts.{ByteAt, FieldAt, RowOf, Then}
+use Rattle.cmap_binary.proofs.FrontsAlone.{Alone, ArePrefixFree, byte_alone, field_alone}
 use Rattle.cmap_values.specs.declared.fault.Reason.{Reason}
 use Rattle.cmap_values.specs.declared.fault.Reason.TheVariants.{CidTooLarge, CodeTooLarge, Entry, Field}
 use Rattle.cmap_values.specs.declared.fault.Segment.{Segment}

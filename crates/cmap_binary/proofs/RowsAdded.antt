@@ -13,8 +13,8 @@ use Rattle.cmap_values.proofs.ListsMade.{added_more, append_lists-none}
 use Rattle.cmap_binary.specs.BinaryFiles.{Content, declares}
 use Rattle.cmap_binary.specs.BinarySeen.{Adds, Declares, IsWrong}
 use Rattle.cmap_binary.specs.WrongSegments.{WrongInRow}
-use Rattle.cmap_packed.specs.Fronts.{RowOf}
-use Rattle.cmap_packed.proofs.Fronts.{HasRow, row_start, row_more, row_wrong, row_end}
+use Rattle.cmap_binary.specs.Fronts.{RowOf}
+use Rattle.cmap_binary.proofs.Fronts.{HasRow, row_start, row_more, row_wrong, row_end}
 
 -- n things in a row: those before index i are added to the lists, as declarations of this kind
 pub record HasAdded {A S : Type 0} (item : S → A × S → Type 0) (kind : A → Declaration) (n : ℕ) (start : S) (old : Lists) (i : ℕ) (here : S) (now : Lists) : Type 0 where

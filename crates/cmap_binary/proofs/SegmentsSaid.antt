@@ -10,9 +10,9 @@ use Rattle.cmap_values.specs.ListsAppended.{append_lists}
 use Rattle.cmap_values.proofs.ListsMade.{append_lists-none, lists_of-append}
 use Rattle.cmap_binary.specs.BinaryFiles.{Content, declares, uses, sets_mode, sets_name, sets_collection, declared_in, metadata_after, name_used, SegmentAt, file_of}
 use Rattle.cmap_binary.specs.BinarySeen.{with_content}
-use Rattle.cmap_packed.specs.Bundles.{PrefixTables}
-use Rattle.cmap_packed.specs.Fronts.{AllOf}
-use Rattle.cmap_packed.proofs.Fronts.{Continues}
+use Rattle.cmap_binary.specs.Bundles.{PrefixTables}
+use Rattle.cmap_binary.specs.Fronts.{AllOf}
+use Rattle.cmap_binary.proofs.Fronts.{Continues}
 
 -- ---- the last segment that sets something decides
 abbrev pub mode_set : Content → Option (Option Mode)

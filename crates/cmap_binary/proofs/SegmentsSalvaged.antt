@@ -9,8 +9,8 @@ use Rattle.cmap_values.specs.declared.fault.Stop.{Stop}
 use Rattle.cmap_binary.specs.BinaryFiles.{Content, file_of}
 use Rattle.cmap_binary.specs.BinarySalvage.{SaysNothing, SegmentSays, SegmentsFrom, SegmentsSalvaged, at_fault, cut_short, ended, said}
 use Rattle.cmap_binary.specs.BinarySeen.{with_content}
-use Rattle.cmap_packed.specs.Bundles.{PrefixTables}
-use Rattle.cmap_packed.specs.Fronts.{FramedAt}
+use Rattle.cmap_binary.specs.Bundles.{PrefixTables}
+use Rattle.cmap_binary.specs.Fronts.{FramedAt}
 use Rattle.cmap_binary.proofs.SegmentsSaid.{file_more}
 
 -- where in the file the bytes stand that are left of a body

@@ -1,10 +1,10 @@
 -- The entries of a segment of a binary file, by the columns in which their numbers stand.
 use Rattle.std.specs.Prelude.{◌≡◌, ℕ, zero, ◌+◌, ◌-◌, ◌<◌, ◌^◌, ◌==◌, List, [], ◌∷◌, map, zip, replicate, Option, Some, None, All, if◌then◌else◌}
-use Rattle.cmap_packed.specs.PrefixWords.{CodeWord, Decodes, bits}
+use Rattle.cmap_binary.specs.PrefixWords.{CodeWord, Decodes, bits}
 use Rattle.cmap_values.specs.Spans.{Span}
 use Rattle.cmap_values.specs.Files.{CidEntry, BfEntry}
-use Rattle.cmap_packed.specs.Bundles.{PrefixTables}
-use Rattle.cmap_packed.specs.Fronts.{Then, Gives, RowOf, ByteAt, FieldAt, SizedAt}
+use Rattle.cmap_binary.specs.Bundles.{PrefixTables}
+use Rattle.cmap_binary.specs.Fronts.{Then, Gives, RowOf, ByteAt, FieldAt, SizedAt}
 
 -- whether the entries of a segment are ranges, or single codes
 pub data Shape : Type 0 where

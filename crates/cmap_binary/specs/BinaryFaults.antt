@@ -4,8 +4,8 @@ use Rattle.cmap_values.specs.Only.{IsOnly, HoldsOfNone}
 use Rattle.cmap_values.specs.declared.fault.Reason.{Reason}
 use Rattle.cmap_values.specs.declared.fault.Reason.TheVariants.{SegmentLength}
 use Rattle.cmap_values.specs.declared.fault.Stop.{Stop}
-use Rattle.cmap_packed.specs.Bundles.{PrefixTables}
-use Rattle.cmap_packed.specs.Fronts.{FramedAt}
+use Rattle.cmap_binary.specs.Bundles.{PrefixTables}
+use Rattle.cmap_binary.specs.Fronts.{FramedAt}
 use Rattle.cmap_binary.specs.BinaryFiles.{BodyOf, Content}
 use Rattle.cmap_binary.specs.BinarySalvage.{SaysNothing, SegmentSays, header_fault}
 

@@ -3,9 +3,9 @@ use Rattle.std.specs.Prelude.{◌≡◌, ℕ, zero, suc, pos, List, [], ◌∷�
 use Rattle.std.specs.List.{fold}
 use Rattle.cmap_values.specs.Names.{family_of}
 use Rattle.cmap_values.specs.Files.{CidEntry, Codespace, Declaration, Mode, Collection, File, FileMetadata, lists_of, mode_numbered}
-use Rattle.cmap_packed.specs.Bundles.{PrefixTables}
+use Rattle.cmap_binary.specs.Bundles.{PrefixTables}
 use Rattle.cmap_binary.specs.BinaryEntries.{Shape, ranges, singles, CidEntriesOf, BfEntriesOf}
-use Rattle.cmap_packed.specs.Fronts.{Then, Gives, GivesIf, RowOf, AllOf, ByteAt, FieldAt, CodeAt, FramedAt, TerminatedAt}
+use Rattle.cmap_binary.specs.Fronts.{Then, Gives, GivesIf, RowOf, AllOf, ByteAt, FieldAt, CodeAt, FramedAt, TerminatedAt}
 
 -- what a segment says
 pub data Content : Type 0 where

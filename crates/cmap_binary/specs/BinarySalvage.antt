@@ -5,9 +5,9 @@ use Rattle.cmap_values.specs.Only.{IsOnly, HoldsOfNone}
 use Rattle.cmap_values.specs.declared.fault.Reason.{Reason}
 use Rattle.cmap_values.specs.declared.fault.Reason.TheVariants.{Header, SegmentLength}
 use Rattle.cmap_values.specs.declared.fault.Stop.{Stop}
-use Rattle.cmap_packed.specs.Bundles.{PrefixTables}
+use Rattle.cmap_binary.specs.Bundles.{PrefixTables}
 use Rattle.cmap_binary.specs.BinaryFiles.{BodyOf, Content, IsSegment, file_of, magic}
-use Rattle.cmap_packed.specs.Fronts.{BytesAt, FramedAt, GivesIf, Then}
+use Rattle.cmap_binary.specs.Fronts.{BytesAt, FramedAt, GivesIf, Then}
 use Rattle.cmap_binary.specs.WrongSegments.{WrongSegment}
 
 -- a segment, with its type and its length, says this

@@ -10,10 +10,10 @@ use Rattle.cmap_values.specs.declared.declarations.CidRange.{CidRange}
 use Rattle.cmap_values.specs.declared.declarations.Lists as declarations
 use Rattle.cmap_values.specs.declared.fault.Fault.{Fault}
 use Rattle.cmap_values.specs.declared.fault.Reason.{Reason}
-use Rattle.cmap_packed.specs.Bundles.{PrefixTables}
+use Rattle.cmap_binary.specs.Bundles.{PrefixTables}
 use Rattle.cmap_binary.specs.BinaryFiles as files
 use Rattle.cmap_binary.specs.BinaryFiles.{Content, declares, uses, SegmentAt, file_of, metadata_after}
-use Rattle.cmap_packed.specs.Fronts.{AllOf, RowOf}
+use Rattle.cmap_binary.specs.Fronts.{AllOf, RowOf}
 use Rattle.cmap_binary.specs.declared.kinds.Kind.{Kind}
 use Rattle.cmap_binary.specs.declared.kinds.Kind.TheVariants.{Cids, Texts, Base, Notdefs, Mode, Codespaces, Name, Collection}
 use Rattle.cmap_binary.specs.ColumnsSeen.{shape_seen}

@@ -1,6 +1,6 @@
 -- Private aid: what contracts see of the columns of a segment.
 use Rattle.std.specs.Prelude.{option_map}
-use Rattle.cmap_packed.specs.BitQueues.{bits_ahead}
+use Rattle.cmap_binary.specs.BitQueues.{bits_ahead}
 use Rattle.cmap_values.specs.Spans.{Span}
 use Rattle.cmap_values.specs.declared.range.Range.{Range}
 use Rattle.cmap_binary.specs.BinaryEntries as entries

@@ -1,10 +1,10 @@
 -- The entries of a segment read one after another, each by what the one before leaves: so it is known which of them is at fault first.
 use Rattle.std.specs.Prelude.{ℕ, zero, suc, ◌+◌, ◌-◌, ◌<◌, ◌^◌, List, [], Option, Some, None}
-use Rattle.cmap_packed.specs.PrefixWords.{CodeWord, bits}
+use Rattle.cmap_binary.specs.PrefixWords.{CodeWord, bits}
 use Rattle.cmap_values.specs.Spans.{Span}
 use Rattle.cmap_values.specs.Files.{CidEntry, BfEntry}
-use Rattle.cmap_packed.specs.Bundles.{PrefixTables}
-use Rattle.cmap_packed.specs.Fronts.{Then, Gives, GivesIf, RowOf, FieldAt, SizedAt}
+use Rattle.cmap_binary.specs.Bundles.{PrefixTables}
+use Rattle.cmap_binary.specs.Fronts.{Then, Gives, GivesIf, RowOf, FieldAt, SizedAt}
 use Rattle.cmap_binary.specs.BinaryEntries.{DestinationAt, Shape, SymbolAt, ranges, singles}
 
 -- What the columns have for the entries that are left: the bits of the deltas, and of ranges those of the counts. `base` is the code after the entry before.

@@ -1,3 +1,14 @@
+pub mod BitQueues
+pub mod BundleSeen
+pub mod Bundles
+pub mod Copies
+pub mod Fronts
+pub mod PrefixWords
+pub mod Reader
+pub mod TableTaken
+pub mod TableFronts
+pub mod WordsByLength
+pub mod WordsFound
 pub mod BinaryEntries
 pub mod BinaryFaults
 pub mod BinaryFiles

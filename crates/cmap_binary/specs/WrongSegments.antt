@@ -6,8 +6,8 @@ use Rattle.cmap_values.specs.declared.fault.Reason.{Reason}
 use Rattle.cmap_values.specs.declared.fault.Reason.TheVariants.{CidTooLarge, CodeLength, CodeTooLarge, Entry, Field, SegmentType}
 use Rattle.cmap_values.specs.declared.fault.Segment.{Segment}
 use Rattle.cmap_values.specs.declared.fault.Segment.TheVariants as segment
-use Rattle.cmap_packed.specs.Bundles.{PrefixTables}
-use Rattle.cmap_packed.specs.Fronts.{ByteAt, FieldAt, RowOf}
+use Rattle.cmap_binary.specs.Bundles.{PrefixTables}
+use Rattle.cmap_binary.specs.Fronts.{ByteAt, FieldAt, RowOf}
 use Rattle.cmap_binary.specs.BinaryEntries.{DestinationAt, Shape, SymbolAt}
 use Rattle.cmap_binary.specs.EntryByEntry.{CidColumns, CidEntryAt, Columns, ColumnsAt, BfEntryAt, SpanAt, WidthAt, cid_from}
 use Rattle.cmap_binary.specs.BinaryFiles.{CodespaceAt, CollectionIn, Kind, NotdefAt, base, cids, codespaces, collection, kind_of, mode, name, notdefs, texts}

@@ -1,19 +1,19 @@
 //! Columns of the segments of a binary file: where the codes of the entries lie.
 
 ghost use Rattle.std.specs.Prelude.{◌≡◌, ◌+◌, ◌<◌, ◌≤◌, ◌^◌, IfOk, MatchOption, option_map};
-ghost use Rattle.cmap_packed.specs.BitQueues.{bits_ahead};
+ghost use Rattle.cmap_binary.specs.BitQueues.{bits_ahead};
 ghost use Rattle.cmap_binary.specs.BinaryEntries.{SymbolAt};
 ghost use Rattle.cmap_binary.specs.EntryByEntry.{ColumnsAfter, ColumnsAt, CountsAt, SpanAt, WidthAt};
-ghost use Rattle.cmap_packed.specs.BundleSeen.{tables_seen};
+ghost use Rattle.cmap_binary.specs.BundleSeen.{tables_seen};
 ghost use Rattle.cmap_binary.specs.ColumnsSeen.{columns_seen, shape_seen, span_seen};
 ghost use Rattle.cmap_binary.specs.BinarySeen.{ReadsOr};
 ghost use Rattle.cmap_binary.specs.WrongSegments.{WrongSpan};
 ghost use Rattle.cmap_values.specs.Outcomes.{Finds};
 
-use cmap_packed::Tables;
-use cmap_packed::bit_queue::BitQueue;
-use cmap_packed::pieces::take_sized;
-use cmap_packed::prefix::{PrefixTable, take_symbol};
+use crate::Tables;
+use crate::bit_queue::BitQueue;
+use crate::pieces::take_sized;
+use crate::prefix::{PrefixTable, take_symbol};
 use cmap_values::fault::{Fault, Reason, Segment};
 use cmap_values::range::Range;
 

@@ -9,7 +9,7 @@ ghost use Rattle.cmap_values.specs.Outcomes.{Finds};
 ghost use Rattle.cmap_values.specs.DeclarationsSeen.{cid_entry_seen, codespace_seen, lists_seen};
 ghost use Rattle.cmap_values.specs.FilesSeen.{file_seen};
 
-use cmap_packed::pieces::{take_byte, take_code, take_terminated, take_u16};
+use crate::pieces::{take_byte, take_code, take_terminated, take_u16};
 use cmap_values::character_collection::{CharacterCollection, CidFamily};
 use cmap_values::code_length::CodeLength;
 use cmap_values::declarations::{CidRange, Codespace, Lists};

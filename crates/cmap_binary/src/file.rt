@@ -4,15 +4,15 @@ ghost use Rattle.std.specs.Prelude.{◌≡◌, ◌↔◌, ◌+◌, IfErr, IfOk, 
 ghost use Rattle.cmap_binary.specs.BinaryFaults.{IsBinaryFault, SegmentFault};
 ghost use Rattle.cmap_binary.specs.BinaryFiles.{BodyOf, IsBinaryFile, IsMarkedBinary};
 ghost use Rattle.cmap_binary.specs.BinarySeen.{SegmentsSay};
-ghost use Rattle.cmap_packed.specs.BundleSeen.{bundle_seen, tables_seen};
+ghost use Rattle.cmap_binary.specs.BundleSeen.{bundle_seen, tables_seen};
 ghost use Rattle.cmap_values.specs.Only.{IsOnly, HoldsOfNone};
 ghost use Rattle.cmap_values.specs.Outcomes.{Finds, ReadsFile, RefusesWith, StopsWithin};
 ghost use Rattle.cmap_values.specs.FilesSeen.{file_seen};
 ghost use Rattle.cmap_values.specs.ListsAppended.{no_file};
 
 use crate::segments::read_segment;
-use cmap_packed::pieces::take_framed;
-use cmap_packed::{Bundle, Tables};
+use crate::pieces::take_framed;
+use crate::{Bundle, Tables};
 use cmap_values::fault::{Fault, Reason, Stop};
 use cmap_values::file::File;
 use std::alloc::Global;

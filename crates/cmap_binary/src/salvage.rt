@@ -11,12 +11,12 @@ ghost use Rattle.cmap_binary.specs.BinaryFiles.{Content, IsBinaryFile, IsSegment
 ghost use Rattle.cmap_binary.specs.BinarySalvage.{AfterHeader, BeginsWithin, BodyRead, SalvagesBinary, SegmentsSalvaged};
 ghost use Rattle.cmap_binary.specs.BinarySeen.{AddsWhole, IsWrong};
 ghost use Rattle.cmap_binary.specs.WrongSegments.{WrongSegment};
-ghost use Rattle.cmap_packed.specs.BundleSeen.{bundle_seen, tables_seen};
+ghost use Rattle.cmap_binary.specs.BundleSeen.{bundle_seen, tables_seen};
 
 use crate::file::{HEAD, HEADER_LEN, SEGMENT_HEAD, TYPE_LEN, split_body};
 use crate::segments::read_segment;
-use cmap_packed::pieces::take_framed;
-use cmap_packed::{Bundle, Tables};
+use crate::pieces::take_framed;
+use crate::{Bundle, Tables};
 use cmap_values::fault::{Fault, Reason, Stop};
 use cmap_values::file::{File, Salvaged};
 use std::alloc::{AllocError, Global};

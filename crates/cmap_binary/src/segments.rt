@@ -4,14 +4,14 @@ ghost use Rattle.cmap_binary.specs.BinaryFiles as files;
 ghost use Rattle.cmap_binary.specs.BinaryFiles.{IsSegment, SaysAs};
 ghost use Rattle.cmap_binary.specs.BinarySeen.{Adds, kind_seen, no_tables};
 ghost use Rattle.cmap_binary.specs.WrongSegments.{WrongAs, WrongSegment};
-ghost use Rattle.cmap_packed.specs.BundleSeen.{tables_seen};
+ghost use Rattle.cmap_binary.specs.BundleSeen.{tables_seen};
 ghost use Rattle.cmap_values.specs.FilesSeen.{file_seen};
 
 use crate::entries::{add_cids, add_texts};
 use crate::fields::{add_codespaces, add_notdefs, set_collection};
 use crate::kinds::Kind;
-use cmap_packed::Tables;
-use cmap_packed::pieces::take_byte;
+use crate::Tables;
+use crate::pieces::take_byte;
 use cmap_values::fault::{Fault, Reason, Segment};
 use cmap_values::file::File;
 use cmap_values::writing_mode::WritingMode;

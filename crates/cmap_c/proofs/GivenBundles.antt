@@ -1,7 +1,7 @@
 -- What holds of the bundle that C hands in, or of none.
 use Rattle.std.proofs.Common.{◌≡◌, ◌≢◌, ℕ, List, [], ◌∷◌, Option, Some, None, suc, length, refl, ap, arith}
 use Rattle.std.proofs.lemmas.List.{nil_from_length}
-use Rattle.cmap_packed.specs.Bundles.{Bundle, IsBundle}
+use Rattle.cmap_binary.specs.Bundles.{Bundle, IsBundle}
 use Rattle.cmap_values.specs.Only.{IsOnly}
 use Rattle.cmap_c.specs.NamedFiles.{OfGiven}
 

@@ -1,6 +1,6 @@
 -- What C is told of a file that has no map, and how the call then ends.
 use Rattle.std.proofs.Common.{◌≡◌, ◌≢◌, ◌⊎◌, ◌∙◌, ℕ, List, Option, Ok, Err, Result, arith, inl, inr, refl, sym}
-use Rattle.cmap_packed.specs.Bundles.{Bundle}
+use Rattle.cmap_binary.specs.Bundles.{Bundle}
 use Rattle.cmap_values.specs.NamesSeen.{names_seen}
 use Rattle.cmap_values.specs.Outcomes.{RefusesWith}
 use Rattle.cmap_values.specs.declared.fault.Fault.{Fault}

@@ -1,6 +1,6 @@
 -- Private aid: how calls that read a map end, and what C then gets.
 use Rattle.std.specs.Prelude.{◌≡◌, ◌≢◌, ℕ, ◌⊎◌, List, Option, Some, None, Result, Ok, Err}
-use Rattle.cmap_packed.specs.Bundles.{Bundle, PrefixTables}
+use Rattle.cmap_binary.specs.Bundles.{Bundle, PrefixTables}
 use Rattle.cmap_values.specs.Outcomes.{Outcome}
 use Rattle.cmap_values.specs.declared.fault.Fault.{Fault}
 use Rattle.cmap_values.specs.declared.fault.Fault.TheVariants as fault

@@ -2,7 +2,7 @@
 use Rattle.std.specs.Prelude.{◌≡◌, ℕ, ◌-◌, ◌^◌, ◌==◌, List, [], Option, Some, None, option_map, if◌then◌else◌}
 use Rattle.std.specs.Borrow.{Bor}
 use Rattle.std.specs.Option.{option_or}
-use Rattle.cmap_packed.specs.Bundles.{Bundle, IsBundle}
+use Rattle.cmap_binary.specs.Bundles.{Bundle, IsBundle}
 use Rattle.cmap_values.specs.Only.{IsOnly}
 use Rattle.cmap_layers.specs.Layers.{Layer}
 use Rattle.cmap_load.specs.Answers.{embedded}

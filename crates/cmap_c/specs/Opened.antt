@@ -1,6 +1,6 @@
 -- Maps of files that C opens by their names.
 use Rattle.std.specs.Prelude.{ℕ, List, Option, option_map}
-use Rattle.cmap_packed.specs.Bundles.{Bundle}
+use Rattle.cmap_binary.specs.Bundles.{Bundle}
 use Rattle.cmap_layers.specs.Layers.{Layer}
 use Rattle.cmap_load.specs.Opened as opened
 use Rattle.cmap_c.specs.NamedFiles.{answers}

@@ -1,7 +1,7 @@
 -- What C gets of a file that is read past its faults: a map, as many faults as fit, and the names that lead to each fault.
 use Rattle.std.specs.Prelude.{◌≡◌, ℕ, ◌⊎◌, List, ◌++◌, Option, Some, drop, length, map, option_map, take}
 use Rattle.std.specs.List.{concat}
-use Rattle.cmap_packed.specs.Bundles.{Bundle, PrefixTables}
+use Rattle.cmap_binary.specs.Bundles.{Bundle, PrefixTables}
 use Rattle.cmap_layers.specs.Layers.{Layer}
 use Rattle.cmap_load.specs.Maps.{ExceedsBudget, HasNoMap}
 use Rattle.cmap_load.specs.Salvage.{BeginsWithFault, GivesMap, NamedFault, SalvagesMap}

@@ -1,7 +1,7 @@
 //! Bundles that C opens once for many files.
 
 ghost use Rattle.std.specs.Prelude.{◌≡◌, ◌⊎◌, None, IsSomeAnd, MatchOption};
-ghost use Rattle.cmap_packed.specs.Bundles.{IsBundle};
+ghost use Rattle.cmap_binary.specs.Bundles.{IsBundle};
 ghost use Rattle.cmap_values.specs.Only.{IsOnly, HoldsOfNone};
 ghost use Rattle.cmap_load.specs.Answers.{embedded};
 ghost use Rattle.cmap_handles.specs.Rooms.{IsPut};
@@ -13,7 +13,7 @@ use cmap_handles::bundle::BundleHandle;
 use cmap_handles::room::put_found;
 use cmap_handles::shared::Shared;
 use cmap_handles::status::Status;
-use cmap_packed::OwnedBundle;
+use cmap_binary::OwnedBundle;
 use std::alloc::Global;
 
 /// Opens the bundle with these bytes. The bundle that the handle held is freed.

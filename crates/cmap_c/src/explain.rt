@@ -19,7 +19,7 @@ use cmap_handles::room::put;
 use cmap_handles::status::Status;
 use cmap_layers::layers::Layers;
 use cmap_load::read_layers;
-use cmap_packed::OwnedBundle;
+use cmap_binary::OwnedBundle;
 use cmap_values::fault::Fault;
 use std::alloc::Global;
 

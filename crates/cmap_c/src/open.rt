@@ -18,7 +18,7 @@ use cmap_handles::handle::MapHandle;
 use cmap_handles::status::Status;
 use cmap_layers::layers::Layers;
 use cmap_load::open_layers;
-use cmap_packed::OwnedBundle;
+use cmap_binary::OwnedBundle;
 use std::alloc::Global;
 
 /// The map of the file of this name: the first of `files` with the name, else the bundle's file with the name. If

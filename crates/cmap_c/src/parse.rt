@@ -2,8 +2,8 @@
 
 ghost use Rattle.std.specs.Prelude.{◌≡◌, ◌≢◌, ◌⊎◌, ◌≤◌, [], None, Some, IsSomeAnd, option_map};
 ghost use Rattle.std.specs.Option.{option_copied};
-ghost use Rattle.cmap_packed.specs.BundleSeen.{tables_given};
-ghost use Rattle.cmap_packed.specs.Bundles.{IsBundle};
+ghost use Rattle.cmap_binary.specs.BundleSeen.{tables_given};
+ghost use Rattle.cmap_binary.specs.Bundles.{IsBundle};
 ghost use Rattle.cmap_values.specs.Only.{HoldsOfNone};
 ghost use Rattle.cmap_c.specs.Endings.{Ends, EndsBy, EndsOver};
 ghost use Rattle.cmap_c.specs.NamedFiles.{ExceedsBudgetOver, FitsBudgetOver, HasNoMapOver, IsMapOver, OfGiven, answers, budget_of, bundle_in};
@@ -19,7 +19,7 @@ use cmap_handles::handle::MapHandle;
 use cmap_handles::status::Status;
 use cmap_layers::layers::Layers;
 use cmap_load::read_layers;
-use cmap_packed::{Bundle, OwnedBundle};
+use cmap_binary::{Bundle, OwnedBundle};
 use std::alloc::Global;
 
 /// The map of the file `data`, over files by their names: the first of `files` with the name, else the bundle's file

@@ -21,7 +21,7 @@ use cmap_handles::room::{put, put_head};
 use cmap_handles::shared::Shared;
 use cmap_handles::status::Status;
 use cmap_layers::layers::Layers;
-use cmap_packed::OwnedBundle;
+use cmap_binary::OwnedBundle;
 use cmap_values::memory::both;
 use std::alloc::{AllocError, Global};
 

@@ -7,7 +7,7 @@ use Rattle.std.specs.Box.Ownership.{box_owns}
 use Rattle.std.specs.declared.alloc.Global.{Global}
 use Rattle.std.specs.contracts.impls.GlobalAllocator.TheImpl.{ghosts}
 use Rattle.cmap_layers.specs.contracts.layers.Layers as map
-use Rattle.cmap_packed.specs.contracts.owned_bundle.OwnedBundle as bundle
+use Rattle.cmap_binary.specs.contracts.owned_bundle.OwnedBundle as bundle
 use Rattle.cmap_handles.specs.contracts.shared.Shared as shared
 
 -- the value at the pointer with its block, where there is one

@@ -3,7 +3,7 @@ use mathlib.Core.Option.{none}
 use Rattle.std.specs.Prelude.{◌≡◌, List, Some, ⊤}
 use Rattle.std.specs.Borrow.{Lends, MutBor, Fml, follows_so}
 use Rattle.cmap_layers.specs.Layers.{Layer}
-use Rattle.cmap_packed.specs.Bundles.{Bundle}
+use Rattle.cmap_binary.specs.Bundles.{Bundle}
 use Rattle.cmap_handles.specs.Held.{shared_bundle, shared_map}
 use Rattle.cmap_handles.specs.declared.bundle.BundleHandle.{BundleHandle}
 use Rattle.cmap_handles.specs.declared.handle.MapHandle.{MapHandle}

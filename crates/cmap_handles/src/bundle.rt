@@ -9,7 +9,7 @@ use crate::loose::Loose;
 use crate::shared::Shared;
 use crate::slot::BundleSlot;
 use crate::status::Status;
-use cmap_packed::OwnedBundle;
+use cmap_binary::OwnedBundle;
 use std::alloc::{AllocError, Global};
 use std::mem;
 

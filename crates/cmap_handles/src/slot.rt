@@ -3,13 +3,13 @@
 //! An export takes no type with a parameter, so a map and a bundle have a slot each.
 
 ghost use Rattle.std.specs.Prelude.{◌≡◌, List, Option, None, Some, IsSome};
-ghost use Rattle.cmap_packed.specs.Bundles.{Bundle};
+ghost use Rattle.cmap_binary.specs.Bundles.{Bundle};
 ghost use Rattle.cmap_layers.specs.Layers.{Layer};
 
 use crate::loose::Loose;
 use crate::shared::Shared;
 use cmap_layers::layers::Layers;
-use cmap_packed::OwnedBundle;
+use cmap_binary::OwnedBundle;
 use std::alloc::Global;
 use std::marker::Model;
 

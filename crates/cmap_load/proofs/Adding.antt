@@ -9,8 +9,8 @@ use Rattle.std.proofs.Math.Seq.{get_or-append_seam}
 use Rattle.std.proofs.lemmas.List.{get_or_append_left, map-append}
 use Rattle.std.proofs.lemmas.Bool.{cases_lt}
 use Rattle.std.proofs.lemmas.Option.{slice_get_within}
-use Rattle.cmap_packed.specs.BundleSeen.{tables_given}
-use Rattle.cmap_packed.specs.Bundles.{PrefixTables}
+use Rattle.cmap_binary.specs.BundleSeen.{tables_given}
+use Rattle.cmap_binary.specs.Bundles.{PrefixTables}
 use Rattle.cmap_values.specs.FilesSeen.{file_seen}
 use Rattle.cmap_values.specs.declared.file.File.{File as FileDeclared}
 use Rattle.cmap_load.specs.declared.answer.Answer as declared

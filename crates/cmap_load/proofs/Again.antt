@@ -4,7 +4,7 @@ use Rattle.std.specs.List.{All, AllZip}
 use Rattle.std.proofs.Math.ListN.{length-append}
 use Rattle.std.proofs.lemmas.List.Elements.{All-cons, All-head, All-nil, All-tail}
 use Rattle.cmap_values.specs.Files.{File}
-use Rattle.cmap_packed.specs.Bundles.{PrefixTables}
+use Rattle.cmap_binary.specs.Bundles.{PrefixTables}
 use Rattle.cmap_layers.specs.Layers.{Layer, layer_of}
 use Rattle.cmap_load.specs.BytesSpent.{Leaves}
 use Rattle.cmap_load.specs.Salvage.{Found, IsReadWithin, Opening, Reading, Salvages, SalvagesEach, SalvagesNamed, SalvagesUse, no_layers}

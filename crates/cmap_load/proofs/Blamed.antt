@@ -3,7 +3,7 @@ use Rattle.std.proofs.Common.{◌≡◌, ℕ, suc, refl, sym, subst, List, [], �
 use Rattle.std.specs.Prelude.{◌⊎◌, Option, Some}
 use Rattle.cmap_values.specs.Files.{File}
 use Rattle.cmap_values.specs.Only.{IsOnly}
-use Rattle.cmap_packed.specs.Bundles.{PrefixTables}
+use Rattle.cmap_binary.specs.Bundles.{PrefixTables}
 use Rattle.cmap_load.specs.BytesSpent.{About, Refuses, GoesOver, GoesOverAt, of_file, of_use}
 use Rattle.cmap_load.specs.Layers.{Means}
 use Rattle.cmap_load.specs.Refusals.{Fails, HasLayers, IsFault, IsFaultWithin, IsMissing, IsUseFault, IsUseFaultWithin, IsUsedAfter}

@@ -4,7 +4,7 @@ use Rattle.std.specs.Prelude.{Option, Some, None}
 use Rattle.cmap_values.specs.Files.{File}
 use Rattle.cmap_values.specs.Only.{HoldsOfNone}
 use Rattle.cmap_values.specs.declared.fault.Stop.{Stop}
-use Rattle.cmap_packed.specs.Bundles.{PrefixTables}
+use Rattle.cmap_binary.specs.Bundles.{PrefixTables}
 use Rattle.cmap_binary.proofs.BinarySalvaged.{file_where_no_fault, first_binary_fault, no_file_where_fault}
 use Rattle.cmap_text.proofs.TextFaults as text
 use Rattle.cmap_load.specs.Layers.{Means}

@@ -1,7 +1,7 @@
 -- No more names lead to a fault than files may stand in a chain.
 use Rattle.std.proofs.Common.{◌≡◌, ℕ, zero, suc, ◌≤◌, List, [], ◌∷◌, length, Option, ap, arith, inl, inr}
 use Rattle.cmap_values.specs.Files.{File}
-use Rattle.cmap_packed.specs.Bundles.{PrefixTables}
+use Rattle.cmap_binary.specs.Bundles.{PrefixTables}
 use Rattle.cmap_load.specs.Budgets.{Trail, OpensFirst, OpensUse, OpensUseFirst, OpensEachFirst, Opens}
 use Rattle.cmap_load.specs.Layers.{Means}
 use Rattle.cmap_load.specs.Refusals.{IsFault, IsFaultWithin}

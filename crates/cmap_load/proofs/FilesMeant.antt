@@ -12,7 +12,7 @@ use Rattle.cmap_values.specs.declared.file.File as declared
 use Rattle.cmap_values.specs.Files.{File}
 use Rattle.cmap_text.specs.TextFiles.{IsTextFile}
 use Rattle.cmap_text.specs.TextReading.{StopsText}
-use Rattle.cmap_packed.specs.Bundles.{PrefixTables}
+use Rattle.cmap_binary.specs.Bundles.{PrefixTables}
 use Rattle.cmap_binary.specs.BinaryFaults.{IsBinaryFault}
 use Rattle.cmap_binary.specs.BinaryFiles.{IsMarkedBinary, IsBinaryFile}
 use Rattle.cmap_load.specs.Layers.{Means}

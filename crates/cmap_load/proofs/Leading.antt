@@ -5,7 +5,7 @@ use Rattle.std.specs.Borrow.{Bor}
 use Rattle.std.proofs.lemmas.List.{map-append}
 use Rattle.std.proofs.lemmas.List.Elements.{Contains-append_right}
 use Rattle.cmap_values.specs.NamesSeen.{names_seen}
-use Rattle.cmap_packed.specs.Bundles.{PrefixTables}
+use Rattle.cmap_binary.specs.Bundles.{PrefixTables}
 use Rattle.cmap_load.specs.Budgets.{IsOver, OpensEach, OpensEachFirst, OpensUse, OpensUseFirst, PassesAt, Trail}
 use Rattle.cmap_load.specs.BytesSpent.{Leaves}
 use Rattle.cmap_load.specs.Refusals.{HasLayers, IsFault, IsMissing, IsOwnFault, IsUsedAfter}

@@ -7,7 +7,7 @@ use Rattle.cmap_values.specs.NamesSeen.{names_seen}
 use Rattle.cmap_values.specs.Outcomes.{RefusesWith}
 use Rattle.cmap_values.specs.declared.fault.Fault.{Fault}
 use Rattle.cmap_values.specs.declared.fault.Fault.TheVariants as fault
-use Rattle.cmap_packed.specs.Bundles.{PrefixTables}
+use Rattle.cmap_binary.specs.Bundles.{PrefixTables}
 use Rattle.cmap_layers.specs.Layers.{Layer}
 use Rattle.cmap_load.specs.Answers.{IsByName}
 use Rattle.cmap_load.specs.Budgets.{IsOver, OpensFirst, PassesAt, Trail}

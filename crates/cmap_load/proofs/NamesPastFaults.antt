@@ -5,7 +5,7 @@ use Rattle.std.specs.List.{All}
 use Rattle.std.proofs.Math.ListN.{length-append}
 use Rattle.std.proofs.Math.ListN.{length-map}
 use Rattle.std.proofs.lemmas.List.Elements.{All-append, All-cons, All-head, All-nil, All-tail}
-use Rattle.cmap_packed.specs.Bundles.{PrefixTables}
+use Rattle.cmap_binary.specs.Bundles.{PrefixTables}
 use Rattle.cmap_values.specs.NamesSeen.{names_seen}
 use Rattle.cmap_layers.specs.Layers.{Layer}
 use Rattle.cmap_load.specs.Salvage.{Found, NamedFault, Opening, Reading, Salvages, SalvagesEach, SalvagesMap, SalvagesNamed, SalvagesUse}

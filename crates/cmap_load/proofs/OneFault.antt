@@ -5,8 +5,8 @@ use Rattle.std.specs.List.{AllZip}
 use Rattle.std.proofs.lemmas.List.Elements.{All-head, All-tail}
 use Rattle.cmap_values.specs.Only.{HoldsOfNone}
 use Rattle.cmap_values.specs.declared.fault.Stop.{Stop}
-use Rattle.cmap_packed.specs.Bundles.{PrefixTables}
-use Rattle.cmap_packed.proofs.FrontsAlone.{ArePrefixFree, tables_free}
+use Rattle.cmap_binary.specs.Bundles.{PrefixTables}
+use Rattle.cmap_binary.proofs.FrontsAlone.{ArePrefixFree, tables_free}
 use Rattle.cmap_binary.proofs.FaultsFirst.{one_binary_fault}
 use Rattle.cmap_text.specs.TextReading.{StopsText}
 use Rattle.cmap_text.specs.TokenParsers.{Refused, offset_of}

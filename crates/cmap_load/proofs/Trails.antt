@@ -2,7 +2,7 @@
 use Rattle.std.proofs.Common.{◌≡◌, refl, sym, ap, ◌∙◌, subst, arith, ℕ, zero, suc, ◌≤◌, true, false, List, [], ◌∷◌, ◌++◌, append_assoc, length, Option, Some, None, inl, inr}
 use Rattle.cmap_values.specs.Files.{File}
 use Rattle.cmap_values.specs.Only.{IsOnly}
-use Rattle.cmap_packed.specs.Bundles.{PrefixTables}
+use Rattle.cmap_binary.specs.Bundles.{PrefixTables}
 use Rattle.cmap_load.specs.Answers.{IsByName}
 use Rattle.cmap_load.specs.Budgets.{Opens, OpensEach, OpensEachFirst, OpensFirst, OpensUse, OpensUseFirst, Trail}
 use Rattle.cmap_load.specs.Layers.{Means}

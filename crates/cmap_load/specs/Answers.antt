@@ -4,7 +4,7 @@ use Rattle.std.specs.Borrow.{Bor}
 use Rattle.std.specs.Option.{option_copied}
 use Rattle.std.specs.Fn.{Shared}
 use Rattle.cmap_values.specs.declared.names.CMapName.{CMapName}
-use Rattle.cmap_packed.specs.Bundles.{Bundle, no_file_bytes}
+use Rattle.cmap_binary.specs.Bundles.{Bundle, no_file_bytes}
 use Rattle.cmap_values.specs.CMapNames.{IsNameOf, IsSameName}
 use Rattle.cmap_values.specs.Names.{index_of_text}
 

@@ -4,7 +4,7 @@ use Rattle.std.specs.List.{AllZip, last_or}
 use Rattle.cmap_values.specs.Files.{File}
 use Rattle.cmap_layers.specs.Layers.{Layer, layer_of}
 use Rattle.cmap_text.specs.TextFiles.{IsTextFile}
-use Rattle.cmap_packed.specs.Bundles.{PrefixTables}
+use Rattle.cmap_binary.specs.Bundles.{PrefixTables}
 use Rattle.cmap_binary.specs.BinaryFiles.{IsMarkedBinary, IsBinaryFile}
 
 -- the file that bytes mean: with a bundle, bytes that are marked as a binary file are a binary file by its tables; all other bytes are a text file

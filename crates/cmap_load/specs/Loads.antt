@@ -1,7 +1,7 @@
 -- The answers that a loader was given, and its results.
 use Rattle.std.specs.Prelude.{◌≡◌, ℕ, List, Option, Some, None}
 use Rattle.std.specs.Option.{option_copied}
-use Rattle.cmap_packed.specs.Bundles.{PrefixTables}
+use Rattle.cmap_binary.specs.Bundles.{PrefixTables}
 use Rattle.cmap_load.specs.declared.refusal.Cause.{Cause}
 pub use Rattle.cmap_load.specs.Loading.{AreLoaded}
 use Rattle.cmap_load.specs.Loading.{Agrees, Answer, IsAnswered, IsNext, IsReady, IsRefusal, IsWithin, OfBytes, bytes_at, given, tables_of}

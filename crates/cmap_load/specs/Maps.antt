@@ -1,6 +1,6 @@
 -- The map of a file over the files that it uses, by the tables of a bundle, if there is one, and with these answers to names.
 use Rattle.std.specs.Prelude.{ℕ, List, Option}
-use Rattle.cmap_packed.specs.Bundles.{PrefixTables}
+use Rattle.cmap_binary.specs.Bundles.{PrefixTables}
 use Rattle.cmap_values.specs.Only.{IsOnly, HoldsOfNone}
 use Rattle.cmap_layers.specs.Layers.{Layer}
 use Rattle.cmap_load.specs.Budgets.{PassesBudget, StaysWithin}

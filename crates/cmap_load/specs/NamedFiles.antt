@@ -2,7 +2,7 @@
 use Rattle.std.specs.Prelude.{ℕ, List, [], ◌∷◌, bytes_eq, Option, Some, None, option_map, if◌then◌else◌}
 use Rattle.std.specs.Borrow.{Bor}
 use Rattle.std.specs.Option.{option_or}
-use Rattle.cmap_packed.specs.Bundles.{Bundle}
+use Rattle.cmap_binary.specs.Bundles.{Bundle}
 use Rattle.cmap_load.specs.Answers.{embedded}
 use Rattle.cmap_load.specs.Identity.{identity_text}
 

@@ -7,7 +7,7 @@ use Rattle.cmap_values.specs.Only.{IsOnly, HoldsOfNone}
 use Rattle.cmap_values.specs.declared.fault.Stop.{Stop}
 use Rattle.cmap_binary.specs.BinaryFiles.{IsMarkedBinary}
 use Rattle.cmap_binary.specs.BinarySalvage.{SalvagesBinary}
-use Rattle.cmap_packed.specs.Bundles.{HoldsTables, PrefixTables}
+use Rattle.cmap_binary.specs.Bundles.{HoldsTables, PrefixTables}
 use Rattle.cmap_layers.specs.Layers.{Layer, layer_of}
 use Rattle.cmap_text.specs.FaultyTexts.{SalvagesFile}
 use Rattle.cmap_text.specs.FirstFaults.{IsFirstOf}

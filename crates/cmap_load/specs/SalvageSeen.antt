@@ -6,7 +6,7 @@ use Rattle.std.specs.List.{last_or, list_any}
 use Rattle.std.specs.Ordering.{nat_cmp}
 use Rattle.cmap_values.specs.NamesSeen.{names_seen}
 use Rattle.cmap_values.specs.Files.{File}
-use Rattle.cmap_packed.specs.Bundles.{PrefixTables}
+use Rattle.cmap_binary.specs.Bundles.{PrefixTables}
 use Rattle.cmap_load.specs.KnownFiles.{IsSpent, file_known}
 use Rattle.cmap_load.specs.Salvage.{Found, IsReadWithin, NamedFault, Opening, Reading, Salvages, SalvagesEach, SalvagesNamed, SalvagesUse, is_fault_of, list_causes, list_each}
 use Rattle.cmap_load.specs.declared.faults.Faults.{Faults}

@@ -1,7 +1,7 @@
 //! Reading one file, and its layer over the layers of its base.
 
 ghost use Rattle.std.specs.Prelude.{◌≡◌, ◌∷◌, IfErr, IfOk};
-ghost use Rattle.cmap_packed.specs.BundleSeen.{tables_given};
+ghost use Rattle.cmap_binary.specs.BundleSeen.{tables_given};
 ghost use Rattle.cmap_values.specs.DeclarationsSeen.{lists_seen};
 ghost use Rattle.cmap_values.specs.FilesSeen.{file_seen};
 ghost use Rattle.cmap_values.specs.Outcomes.{ReadsFile, RefusesWith};
@@ -9,10 +9,9 @@ ghost use Rattle.cmap_layers.specs.LayersSeen.{layers_seen, metadata_seen};
 ghost use Rattle.cmap_load.specs.Layers.{Means};
 ghost use Rattle.cmap_load.specs.Refusals.{IsDecidedAsText, IsFirstFault};
 
-use cmap_binary::{is_marked_binary, read_binary};
+use cmap_binary::{Bundle, is_marked_binary, read_binary};
 use cmap_layers::layer::Layer;
 use cmap_layers::lists::put_first;
-use cmap_packed::Bundle;
 use cmap_text::read_text;
 use cmap_values::declarations::Lists;
 use cmap_values::fault::{Fault, Stop};

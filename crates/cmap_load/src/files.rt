@@ -1,13 +1,13 @@
 //! The files that a file uses.
 
 ghost use Rattle.std.specs.Prelude.{IfOk};
-ghost use Rattle.cmap_packed.specs.BundleSeen.{tables_given};
+ghost use Rattle.cmap_binary.specs.BundleSeen.{tables_given};
 ghost use Rattle.cmap_values.specs.NamesSeen.{names_seen};
 ghost use Rattle.cmap_values.specs.Outcomes.{Finds};
 ghost use Rattle.cmap_load.specs.Layers.{AreUses, Means};
 
 use crate::chain::read_file;
-use cmap_packed::Bundle;
+use cmap_binary::Bundle;
 use cmap_values::fault::Fault;
 use std::alloc::{AllocError, Global};
 

@@ -7,8 +7,8 @@ ghost use Rattle.cmap_load.specs.Opened.{ExceedsBudgetNamed, FitsBudgetNamed, Ha
 ghost use Rattle.cmap_load.specs.Salvage.{AreOfBundle, IsFirstPastFaults};
 ghost use Rattle.cmap_load.specs.declared.refusal.Cause.TheVariants as Cause;
 ghost use Rattle.cmap_load.specs.Loads.{IsLoading, Loads, wanted_of};
-ghost use Rattle.cmap_packed.specs.BundleSeen.{tables_given};
-ghost use Rattle.cmap_packed.specs.Bundles.{PrefixTables};
+ghost use Rattle.cmap_binary.specs.BundleSeen.{tables_given};
+ghost use Rattle.cmap_binary.specs.Bundles.{PrefixTables};
 ghost use Rattle.cmap_values.specs.NamesSeen.{names_seen};
 ghost use Rattle.cmap_values.specs.Outcomes.{RefusesWith};
 
@@ -17,7 +17,7 @@ use crate::loader::Loader;
 use crate::refusal::Refusal;
 use crate::source::Source;
 use cmap_layers::layers::Layers;
-use cmap_packed::Bundle;
+use cmap_binary::Bundle;
 use cmap_values::fault::Fault;
 use std::alloc::{AllocError, Global};
 

@@ -4,7 +4,7 @@ ghost use Rattle.std.specs.Prelude.{◌≡◌, ◌++◌, ◌∷◌, [], IfErr, I
 ghost use Rattle.std.specs.Option.{option_copied};
 ghost use Rattle.cmap_load.specs.Loads.{AreLoaded, FitsGiven, IsLoading, IsRefused, answers_of, budget_of, tables_in, wanted_of};
 ghost use Rattle.cmap_load.specs.Loading.{IsWanted};
-ghost use Rattle.cmap_packed.specs.BundleSeen.{tables_given};
+ghost use Rattle.cmap_binary.specs.BundleSeen.{tables_given};
 ghost use Rattle.cmap_values.specs.NamesSeen.{names_seen};
 ghost use Rattle.cmap_values.specs.Outcomes.{RefusesWith};
 
@@ -12,7 +12,7 @@ use crate::refusal::Refusal;
 use crate::step::{Next, Wanted};
 use crate::table::Table;
 use cmap_layers::layers::Layers;
-use cmap_packed::Bundle;
+use cmap_binary::Bundle;
 use cmap_values::fault::Fault;
 use std::alloc::{AllocError, Global};
 use std::mem;

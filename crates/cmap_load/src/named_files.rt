@@ -7,7 +7,7 @@ ghost use Rattle.cmap_load.specs.NamedFiles.{file_named, text_named};
 
 use crate::identity::identity_text;
 use crate::source::Source;
-use cmap_packed::{Bundle, NO_FILE, OwnedBundle, load_embedded};
+use cmap_binary::{Bundle, NO_FILE, OwnedBundle, load_embedded};
 use cmap_values::names::CMapName;
 
 /// A file and its name.
@@ -45,7 +45,7 @@ impl<'a> NamedFile for (&'a [u8], &'a [u8]) {
 /// A bundle whose files are found by their names. The bundle refers to the bytes that were parsed,
 /// or has copies of its files.
 pub trait BundleFiles {
-    ghost use Rattle.cmap_packed.specs.Bundles.{Bundle};
+    ghost use Rattle.cmap_binary.specs.Bundles.{Bundle};
 
     /// The tables and the files.
     ghost bundle_of: { Self → Bundle };
@@ -57,7 +57,7 @@ pub trait BundleFiles {
 }
 
 impl<'b> BundleFiles for Bundle<'b> {
-    ghost use Rattle.cmap_packed.specs.BundleSeen.{bundle_seen};
+    ghost use Rattle.cmap_binary.specs.BundleSeen.{bundle_seen};
 
     ghost bundle_of = { bundle_seen };
 

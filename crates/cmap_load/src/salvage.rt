@@ -1,7 +1,7 @@
 //! Files over the files that they use, read past their faults.
 
 ghost use Rattle.std.specs.Prelude.{◌≡◌, ◌≤◌, ◌∷◌, ◌⊎◌, [], ℕ, All, IfOk, List, MatchOption, None, Ok, OnOk, false, length, true};
-ghost use Rattle.cmap_packed.specs.BundleSeen.{tables_given};
+ghost use Rattle.cmap_binary.specs.BundleSeen.{tables_given};
 ghost use Rattle.cmap_values.specs.FilesSeen.{file_seen};
 ghost use Rattle.cmap_values.specs.NamesSeen.{names_seen};
 ghost use Rattle.cmap_layers.specs.Layers.{layer_of};
@@ -20,10 +20,9 @@ use crate::known::KnownFile;
 use crate::refusal::{Cause, Refusal};
 use crate::search::Search;
 use crate::source::Source;
-use cmap_binary::{is_marked_binary, salvage_binary};
+use cmap_binary::{Bundle, is_marked_binary, salvage_binary};
 use cmap_layers::layer::Layer;
 use cmap_layers::layers::Layers;
-use cmap_packed::Bundle;
 use cmap_text::salvage_text;
 use cmap_values::fault::Fault;
 use cmap_values::file::{File, Salvaged};

@@ -4,7 +4,7 @@ ghost use Rattle.std.specs.Prelude.{◌≡◌, ◌++◌, ◌<◌, ◌≤◌, ◌
 ghost use Rattle.std.specs.Option.{option_copied};
 ghost use Rattle.cmap_load.specs.Loading.{AreFirst, AreIndexed, AreLoaded, FailsToOpen, IsAwaited, IsBegun, IsLeft, IsLook, IsNext, IsOpened, IsPassed, IsPassedOver, IsReady, IsStep, IsStuck, IsTable, IsTaken, IsWithin, OfBytes, bytes_at, first_answer, given, tables_of};
 ghost use Rattle.cmap_values.specs.declared.file.File.{File};
-ghost use Rattle.cmap_packed.specs.BundleSeen.{tables_given};
+ghost use Rattle.cmap_binary.specs.BundleSeen.{tables_given};
 ghost use Rattle.cmap_values.specs.FilesSeen.{file_seen};
 ghost use Rattle.cmap_values.specs.NamesSeen.{names_seen};
 ghost use Rattle.cmap_values.specs.Outcomes.{Outcome, RefusesWith};
@@ -17,7 +17,7 @@ use crate::refusal::{Cause, Refusal};
 use crate::step::{FirstUses, Look, NO_USES, Next, Passed, Step, Stuck, Wanted};
 use cmap_layers::layer::Layer;
 use cmap_layers::layers::Layers;
-use cmap_packed::Bundle;
+use cmap_binary::Bundle;
 use cmap_values::fault::Fault;
 use cmap_values::file::File;
 use std::alloc::{AllocError, Global};

@@ -14,8 +14,8 @@ use Rattle.cmap_values.specs.FilesSeen.{file_seen}
 use Rattle.cmap_values.specs.Outcomes.{RefusesWith}
 use Rattle.cmap_values.specs.declared.fault.Fault.TheVariants.{Memory, Refused}
 use Rattle.cmap_values.specs.declared.fault.Fault.{Fault}
-use Rattle.cmap_packed.specs.Bundles.{PrefixTables}
-use Rattle.cmap_packed.specs.PrefixWords.{CodeWord}
+use Rattle.cmap_binary.specs.Bundles.{PrefixTables}
+use Rattle.cmap_binary.specs.PrefixWords.{CodeWord}
 use Rattle.cmap_maker.specs.Bundled.{HaveSymbols}
 use Rattle.cmap_maker.specs.Gathered.{AreTablesFor, counts_in, deltas_in, segments_in, slot_segments}
 use Rattle.cmap_maker.specs.Slots.{AllHavePlaces, AreSlotsFor, IsSlotFor, is_index, source_at}

@@ -14,8 +14,8 @@ use Rattle.cmap_values.specs.Names.{index_of_text, known_names}
 use Rattle.cmap_values.specs.Files.{File}
 use Rattle.cmap_values.specs.FilesSeen.{file_seen}
 use Rattle.cmap_text.specs.TextFiles.{IsTextFile}
-use Rattle.cmap_packed.specs.Bundles.{Bundle, IsBundle, PrefixTables, no_file_bytes}
-use Rattle.cmap_packed.proofs.FrontsAlone.{ArePrefixFree, tables_free}
+use Rattle.cmap_binary.specs.Bundles.{Bundle, IsBundle, PrefixTables, no_file_bytes}
+use Rattle.cmap_binary.proofs.FrontsAlone.{ArePrefixFree, tables_free}
 use Rattle.cmap_binary.specs.BinaryFiles.{IsBinaryFile, IsMarkedBinary, magic}
 use Rattle.cmap_binary.proofs.OneFile.{one_file}
 use Rattle.cmap_load.specs.Answers.{embedded, unless_absent}

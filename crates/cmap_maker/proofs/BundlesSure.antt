@@ -11,7 +11,7 @@ use Rattle.cmap_values.specs.declared.names.CMapName.{CMapName}
 use Rattle.cmap_values.specs.declared.names.CMapName.TheVariants.{Custom}
 use Rattle.cmap_values.specs.Files.{File}
 use Rattle.cmap_values.specs.FilesSeen.{file_seen}
-use Rattle.cmap_packed.specs.Bundles.{PrefixTables}
+use Rattle.cmap_binary.specs.Bundles.{PrefixTables}
 use Rattle.cmap_writer.specs.Encoded.{HaveOneWordEach}
 use Rattle.cmap_writer.specs.Obstacles.{IsPreparedFor}
 use Rattle.cmap_writer.specs.declared.obstacle.Obstacle.{Obstacle}

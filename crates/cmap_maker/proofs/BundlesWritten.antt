@@ -10,9 +10,9 @@ use Rattle.std.proofs.lemmas.List.{append-nil, drop_more, take_more}
 use Rattle.cmap_values.specs.CMapNames.{index_of_name}
 use Rattle.cmap_values.specs.Files.{File}
 use Rattle.cmap_values.specs.FilesSeen.{file_seen}
-use Rattle.cmap_packed.specs.TableFronts.{TableAt}
-use Rattle.cmap_packed.specs.Bundles.{HoldsTables, IsBundle, PrefixTables, no_file_bytes}
-use Rattle.cmap_packed.specs.Fronts.{FramedAt, SizedAt}
+use Rattle.cmap_binary.specs.TableFronts.{TableAt}
+use Rattle.cmap_binary.specs.Bundles.{HoldsTables, IsBundle, PrefixTables, no_file_bytes}
+use Rattle.cmap_binary.specs.Fronts.{FramedAt, SizedAt}
 use Rattle.cmap_maker.specs.Bundled.{HaveSymbols, IsFileWritten}
 use Rattle.cmap_writer.specs.Encoded.{HaveOneWordEach}
 use Rattle.cmap_writer.specs.Obstacles.{IsPreparedFor}

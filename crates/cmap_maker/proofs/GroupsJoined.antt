@@ -7,7 +7,7 @@ use Rattle.std.proofs.lemmas.Bool.{le-leb, lt-leb}
 use Rattle.std.proofs.lemmas.List.{append-nil, length-append, length-map}
 use Rattle.std.proofs.lemmas.List.Elements.{All-append, All-cons, All-head, All-map, All-nil, All-push, All-tail, All-weaker}
 use Rattle.std.proofs.lemmas.List.Sums.{sum_by-cons, sum_by_push}
-use Rattle.cmap_packed.specs.PrefixWords.{CodeWord}
+use Rattle.cmap_binary.specs.PrefixWords.{CodeWord}
 use Rattle.cmap_maker.specs.Groups.{AreQueues, AreRising, ComesAtMostTwice, IsJoinedNext, IsSized, TakesRarest, merged}
 use Rattle.cmap_maker.specs.Huffman.{Frequency, Group, alone, behind, both, is_rarer, join, longer, words_joined}
 use Rattle.cmap_maker.specs.InOrder.{AreInOrder}

@@ -7,7 +7,7 @@ use Rattle.std.proofs.lemmas.List.{get_or-map, length-map}
 use Rattle.std.proofs.lemmas.List.Elements.{All-append, All-cons, All-head, All-map, All-nil, All-tail, All-weaker}
 use Rattle.std.proofs.lemmas.List.Sums.{sum_by-append, sum_by-cons}
 use Rattle.std.proofs.Math.Nat.{pow-suc}
-use Rattle.cmap_packed.specs.PrefixWords.{CodeWord}
+use Rattle.cmap_binary.specs.PrefixWords.{CodeWord}
 use Rattle.cmap_writer.proofs.Told.{All-back, All-front}
 use Rattle.cmap_maker.specs.Huffman.{Frequency, Group, alone, behind, both, is_rarer, join, joined, longer, words_joined}
 use Rattle.cmap_maker.specs.Tables.{is_shorter}

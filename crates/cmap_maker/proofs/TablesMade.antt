@@ -13,7 +13,7 @@ use Rattle.std.proofs.lemmas.List.Sorted.{All-permutation, Contains-permutation,
 use Rattle.std.proofs.lemmas.List.Sums.{AllPass-from_list_all, list_all-from_AllPass, sum_by-append, get_or-le-sum_by, sum_by-cons, sum_by-le-sum_by, sum_by-take-le, sum_by_more, sum_by_more_le}
 use Rattle.std.proofs.lemmas.Option.{get_or_from_slice_get, none-some, same_Some, slice_get_within}
 use Rattle.std.proofs.Math.Pow.{pow_mono}
-use Rattle.cmap_packed.specs.PrefixWords.{AreWordLengths, CodeWord, lengths_from, lengths_of, zip_words}
+use Rattle.cmap_binary.specs.PrefixWords.{AreWordLengths, CodeWord, lengths_from, lengths_of, zip_words}
 use Rattle.cmap_writer.proofs.Told.{All-back}
 use Rattle.cmap_writer.specs.Encoded.{HasOneWordEach}
 use Rattle.cmap_maker.specs.Counted.{AreDistinct, AreSortedWords}

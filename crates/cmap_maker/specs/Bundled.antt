@@ -1,7 +1,7 @@
 -- The parts of a bundle.
 use Rattle.std.specs.Prelude.{ℕ, ◌<◌, ◌^◌, List, All}
 use Rattle.cmap_values.specs.Files.{File}
-use Rattle.cmap_packed.specs.Bundles.{PrefixTables}
+use Rattle.cmap_binary.specs.Bundles.{PrefixTables}
 use Rattle.cmap_writer.specs.Encoded.{IsEncodedFor}
 use Rattle.cmap_writer.specs.Keeps.{IsWritten}
 

@@ -2,7 +2,7 @@
 use Rattle.std.specs.Prelude.{◌≡◌, ◌⊎◌, ℕ, ◌+◌, ◌-◌, ◌<◌, ◌≤◌, ◌==◌, List, [], ◌∷◌, ◌++◌, get_or, length, map, nat_lt, sum_by}
 use Rattle.std.specs.List.{All, Contains, count_by}
 use Rattle.std.specs.List.Sorted.{IsPermutation}
-use Rattle.cmap_packed.specs.PrefixWords.{CodeWord}
+use Rattle.cmap_binary.specs.PrefixWords.{CodeWord}
 use Rattle.cmap_maker.specs.Huffman.{Frequency, times_in}
 use Rattle.cmap_maker.specs.InOrder.{AreInOrder}
 use Rattle.cmap_maker.specs.Tables.{is_shorter}

@@ -1,6 +1,6 @@
 -- The numbers that spell files, and the tables for these numbers.
 use Rattle.std.specs.Prelude.{◌≡◌, ℕ, List, [], Some, flat_map}
-use Rattle.cmap_packed.specs.Bundles.{PrefixTables}
+use Rattle.cmap_binary.specs.Bundles.{PrefixTables}
 use Rattle.cmap_writer.specs.declared.segments.Segment.{Segment}
 use Rattle.cmap_maker.specs.Tables.{table_for}
 use Rattle.cmap_maker.specs.declared.slots.Slot.{Slot}

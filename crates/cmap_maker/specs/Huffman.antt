@@ -1,6 +1,6 @@
 -- Huffman's method: code words for numbers, shorter words for more frequent numbers.
 use Rattle.std.specs.Prelude.{ℕ, zero, suc, ◌+◌, Bool, ◌==◌, ◌&&◌, ◌||◌, nat_le, nat_lt, if◌then◌else◌, List, [], ◌∷◌, ◌++◌, count_by, flat_map, length, map}
-use Rattle.cmap_packed.specs.PrefixWords.{CodeWord}
+use Rattle.cmap_binary.specs.PrefixWords.{CodeWord}
 use Rattle.cmap_maker.specs.InOrder.{in_order}
 
 -- ---- how often numbers come

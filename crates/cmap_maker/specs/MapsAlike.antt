@@ -7,7 +7,7 @@ use Rattle.cmap_values.specs.Only.{IsOnly}
 use Rattle.cmap_values.specs.Files.{File}
 use Rattle.cmap_values.specs.FilesSeen.{file_seen}
 use Rattle.cmap_text.specs.TextFiles.{IsTextFile}
-use Rattle.cmap_packed.specs.Bundles.{Bundle, IsBundle, PrefixTables}
+use Rattle.cmap_binary.specs.Bundles.{Bundle, IsBundle, PrefixTables}
 use Rattle.cmap_binary.specs.BinaryFiles.{IsMarkedBinary}
 use Rattle.cmap_layers.specs.Layers.{Layer}
 use Rattle.cmap_load.specs.Answers.{embedded}

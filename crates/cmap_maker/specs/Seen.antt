@@ -1,6 +1,6 @@
 -- Private aid: frequencies, code words and groups as contracts see them.
 use Rattle.std.specs.Prelude.{List, Option, map, option_map}
-use Rattle.cmap_packed.specs.PrefixWords.{CodeWord}
+use Rattle.cmap_binary.specs.PrefixWords.{CodeWord}
 use Rattle.cmap_maker.specs.Groups.{AreQueues, TakesRarest, merged}
 use Rattle.cmap_maker.specs.Huffman as huffman
 use Rattle.cmap_maker.specs.declared.frequencies.Frequency.{Frequency}

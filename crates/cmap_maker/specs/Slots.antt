@@ -5,7 +5,7 @@ use Rattle.cmap_tokens.specs.Gaps.{ends_comment}
 use Rattle.cmap_values.specs.CMapNames.{index_of_name}
 use Rattle.cmap_values.specs.Files.{File}
 use Rattle.cmap_values.specs.FilesSeen.{file_seen}
-use Rattle.cmap_packed.specs.Bundles.{IsBundle, PrefixTables, no_file_bytes}
+use Rattle.cmap_binary.specs.Bundles.{IsBundle, PrefixTables, no_file_bytes}
 use Rattle.cmap_writer.specs.Written.{IsFramedFile}
 use Rattle.cmap_writer.specs.Keeps.{IsWritten}
 use Rattle.cmap_writer.specs.Encoded.{HaveOneWordEach, IsEncoded}

@@ -1,7 +1,7 @@
 -- Tables of code words for numbers.
 use Rattle.std.specs.Prelude.{ℕ, ◌^◌, Bool, ◌==◌, ◌&&◌, ◌||◌, max, nat_le, nat_lt, if◌then◌else◌, List, Option, Some, None, count_by, length, map}
 use Rattle.std.specs.List.{list_all}
-use Rattle.cmap_packed.specs.PrefixWords.{CodeWord}
+use Rattle.cmap_binary.specs.PrefixWords.{CodeWord}
 use Rattle.cmap_maker.specs.Huffman.{Frequency, frequencies_in, huffman_words}
 use Rattle.cmap_maker.specs.InOrder.{in_order}
 

@@ -2,7 +2,7 @@
 
 ghost use Rattle.std.specs.Prelude.{ℕ, IfErr, IfOk, List, Some};
 ghost use Rattle.cmap_values.specs.Outcomes.{RefusesWith};
-ghost use Rattle.cmap_packed.specs.Fronts.{FramedAt};
+ghost use Rattle.cmap_binary.specs.Fronts.{FramedAt};
 ghost use Rattle.cmap_writer.specs.EncodersSeen.{encoders_seen};
 ghost use Rattle.cmap_maker.specs.Slots.{AllHavePlaces, AreSlotsFor, AreSlotsWritten, IsSlotFor, IsSlotWritten, places, source_at};
 ghost use Rattle.cmap_maker.specs.Unwritables.{IsSlotObstacle, IsSlotsObstacle, IsUnwritableAs, IsUnwritableAt, IsUnwritableOf};
@@ -11,7 +11,7 @@ ghost use Rattle.cmap_writer.specs.Written.{Appends, WritesAll};
 use crate::behind::push_text;
 use crate::source::Source;
 use crate::unwritable::Unwritable;
-use cmap_packed::NO_FILE;
+use cmap_binary::NO_FILE;
 use cmap_values::fault::Fault;
 use cmap_values::names::KNOWN_COUNT;
 use cmap_writer::prepared::{Prepared, prepare};

@@ -2,7 +2,7 @@
 //! shorter its word.
 
 ghost use Rattle.std.specs.Prelude.{◌≡◌, ◌⊎◌, ◌<◌, ◌≤◌, ◌^◌, ◌++◌, IfErr, IfOk, MatchOption, None, Some, false, length, map, sum_by, true};
-ghost use Rattle.cmap_packed.specs.PrefixWords.{lengths_from, lengths_of};
+ghost use Rattle.cmap_binary.specs.PrefixWords.{lengths_from, lengths_of};
 ghost use Rattle.cmap_writer.specs.Encoded.{HasOneWordEach, HaveOneWordEach};
 ghost use Rattle.cmap_writer.specs.EncodersSeen.{encoders_seen};
 ghost use Rattle.cmap_maker.specs.Gathered.{AreTablesFor, counts_in, deltas_in, segments_in, slot_segments};

@@ -1,7 +1,7 @@
 //! The files of a bundle as `load_embedded` gives them.
 
 ghost use Rattle.std.specs.Prelude.{◌≡◌, option_map};
-ghost use Rattle.cmap_packed.specs.BundleSeen.{bundle_seen};
+ghost use Rattle.cmap_binary.specs.BundleSeen.{bundle_seen};
 ghost use Rattle.hayro_cmap.specs.Answers.{stored};
 
 use hayro_cmap::{Bundle, CMapName, Source, load_embedded};

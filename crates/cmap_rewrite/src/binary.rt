@@ -2,7 +2,7 @@
 
 use cmap_escape::escape::push_text;
 use cmap_files::failure::{Failure, fault};
-use cmap_packed::Bundle;
+use cmap_binary::Bundle;
 use cmap_values::fault::Fault;
 use cmap_values::file::File;
 use cmap_writer::{Encoders, Obstacle, write_file};

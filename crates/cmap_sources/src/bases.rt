@@ -47,7 +47,7 @@ pub struct ReadBases<'f> {
 
 impl<'f> Source for ReadBases<'f> {
     ghost use Rattle.std.specs.Prelude.{◌≡◌, ⊤};
-    ghost use Rattle.cmap_packed.specs.BundleSeen.{bundle_seen};
+    ghost use Rattle.cmap_binary.specs.BundleSeen.{bundle_seen};
     ghost use Rattle.hayro_cmap.specs.NamedFiles.{file_named};
 
     ghost can_ask = { λ bases. ⊤ };

@@ -14,7 +14,7 @@ use Rattle.cmap_values.specs.Files.{ByLength, CidEntry, Declaration, File}
 use Rattle.cmap_values.specs.declared.code_length.CodeLength.{CodeLength}
 use Rattle.cmap_values.specs.declared.code_length.CodeLength.TheVariants.{One, Two, Three, Four}
 use Rattle.cmap_values.specs.declared.declarations.CidRange.{CidRange}
-use Rattle.cmap_packed.specs.Bundles.{PrefixTables}
+use Rattle.cmap_binary.specs.Bundles.{PrefixTables}
 use Rattle.cmap_binary.specs.BinaryEntries.{Shape, ranges, singles}
 use Rattle.cmap_binary.specs.EntryByEntry.{cid_from}
 use Rattle.cmap_binary.specs.BinaryFiles.{IsSegment, declares}

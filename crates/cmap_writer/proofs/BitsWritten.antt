@@ -5,8 +5,8 @@ use Rattle.std.proofs.lemmas.List.Concat.{flat_map-append}
 use Rattle.std.specs.Prelude.{bit_and}
 use Rattle.std.proofs.lemmas.Nat.{and_mask, pow-add, shl-shr, shl_whole}
 use Rattle.std.proofs.Math.Nat.{mul_assoc, pow-le-pow_right}
-use Rattle.cmap_packed.specs.PrefixWords.{bits, bits_of}
-use Rattle.cmap_packed.proofs.BitsOfBytes.{bits_of-split, length-bits_of}
+use Rattle.cmap_binary.specs.PrefixWords.{bits, bits_of}
+use Rattle.cmap_binary.proofs.BitsOfBytes.{bits_of-split, length-bits_of}
 
 -- one bit more
 pub bits_of-push : (count n bit : ℕ) → bit < 2 → bits_of (count + 1) (n * 2 + bit) ≡ bits_of count n ++ bit ∷ []

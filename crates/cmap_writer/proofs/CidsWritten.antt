@@ -7,13 +7,13 @@ use Rattle.cmap_values.specs.CodeLengths.{length_of}
 use Rattle.cmap_values.specs.Files.{CidEntry, Declaration}
 use Rattle.cmap_values.specs.declared.code_length.CodeLength.{CodeLength}
 use Rattle.cmap_values.specs.declared.code_length.CodeLength.TheVariants.{One, Two, Three, Four}
-use Rattle.cmap_packed.specs.Bundles.{PrefixTables}
+use Rattle.cmap_binary.specs.Bundles.{PrefixTables}
 use Rattle.cmap_binary.specs.BinaryEntries.{CidEntriesOf, Shape, ranges, singles}
 use Rattle.cmap_binary.specs.EntryByEntry.{CidColumns, CidEntryAt, CidsByEntry, Columns}
 use Rattle.cmap_binary.specs.BinaryFiles as files
 use Rattle.cmap_binary.specs.BinaryFiles.{IsSegment, declares}
 use Rattle.cmap_binary.proofs.EntriesByColumns.{cids_same}
-use Rattle.cmap_packed.specs.Fronts.{FieldAt, RowOf, Then}
+use Rattle.cmap_binary.specs.Fronts.{FieldAt, RowOf, Then}
 use Rattle.cmap_writer.specs.ColumnsWritten.{HaveSpans, WritesColumns}
 use Rattle.cmap_writer.specs.Held.{AreHeld, AreOwnCids, entry_span, spans_of}
 use Rattle.cmap_writer.specs.Pieces.{IsShort}

@@ -2,8 +2,8 @@
 use Rattle.std.proofs.Common.{◌≡◌, ℕ, ◌+◌, ◌-◌, List, [], ◌∷◌, ◌++◌, Some, None, Option, refl, ap, ◌∙◌, sym, subst, arith}
 use Rattle.std.proofs.lemmas.List.{append_assoc}
 use Rattle.cmap_runs.specs.Ranges.{Span}
-use Rattle.cmap_packed.specs.PrefixWords.{BeginWithWordsOf, CodeWord, bits}
-use Rattle.cmap_packed.specs.Bundles.{PrefixTables}
+use Rattle.cmap_binary.specs.PrefixWords.{BeginWithWordsOf, CodeWord, bits}
+use Rattle.cmap_binary.specs.Bundles.{PrefixTables}
 use Rattle.cmap_binary.specs.BinaryEntries.{ranges, singles}
 use Rattle.cmap_binary.specs.EntryByEntry.{Columns, ColumnsAt, WidthAt}
 use Rattle.cmap_writer.specs.ColumnsWritten.{HaveSpans, WritesColumn, WritesColumns}

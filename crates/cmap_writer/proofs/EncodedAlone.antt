@@ -7,10 +7,10 @@ use Rattle.std.proofs.lemmas.List.Elements.{All-head, All-tail}
 use Rattle.std.proofs.lemmas.Option.{get_or_from_slice_get, same_Some, slice_get_within}
 use Rattle.cmap_runs.specs.Ranges.{Span}
 use Rattle.cmap_values.specs.Files.{Declaration, File}
-use Rattle.cmap_packed.specs.Bundles.{PrefixTables}
-use Rattle.cmap_packed.specs.PrefixWords.{BeginWithWordsOf, CodeWord, Decodes, bits, bits_of, lengths_of, number_after}
-use Rattle.cmap_packed.specs.WordsByLength.{AreBits}
-use Rattle.cmap_packed.proofs.BitsOfBytes.{length-bits, length-bits_of}
+use Rattle.cmap_binary.specs.Bundles.{PrefixTables}
+use Rattle.cmap_binary.specs.PrefixWords.{BeginWithWordsOf, CodeWord, Decodes, bits, bits_of, lengths_of, number_after}
+use Rattle.cmap_binary.specs.WordsByLength.{AreBits}
+use Rattle.cmap_binary.proofs.BitsOfBytes.{length-bits, length-bits_of}
 use Rattle.cmap_binary.specs.BinaryEntries.{Shape, ranges, singles}
 use Rattle.cmap_writer.specs.Arranged.{SegmentSeen, segment_seen}
 use Rattle.cmap_writer.specs.ColumnsWritten.{WritesColumn}

@@ -1,7 +1,7 @@
 -- Segments in a row, and the file that they make.
 use Rattle.std.proofs.Common.{ℕ, List, [], ◌∷◌, ◌++◌, refl, ap, ◌∙◌, sym, subst}
 use Rattle.std.proofs.lemmas.List.{append_assoc, append-nil}
-use Rattle.cmap_packed.specs.Fronts.{AllOf}
+use Rattle.cmap_binary.specs.Fronts.{AllOf}
 use Rattle.cmap_writer.specs.Written.{Appends, Writes, WritesAll}
 
 module _ {A : Type 0} (item : List ℕ → A × List ℕ → Type 0) where

@@ -3,9 +3,9 @@ use Rattle.std.proofs.Common.{◌≡◌, ℕ, suc, ◌+◌, ◌*◌, ◌^◌, �
 use Rattle.std.specs.List.{All, flat_map}
 use Rattle.std.proofs.lemmas.List.Elements.{All-head, All-tail}
 use Rattle.std.proofs.lemmas.List.{append_assoc, drop_at, length-append, take_at}
-use Rattle.cmap_packed.specs.Bundles.{PrefixTables}
+use Rattle.cmap_binary.specs.Bundles.{PrefixTables}
 use Rattle.cmap_binary.specs.BinaryFiles.{Content, IsSegment, SegmentAt}
-use Rattle.cmap_packed.specs.Fronts.{BytesAt, FieldAt, FramedAt, RowOf, SizedAt}
+use Rattle.cmap_binary.specs.Fronts.{BytesAt, FieldAt, FramedAt, RowOf, SizedAt}
 use Rattle.cmap_writer.specs.Written.{bytes_of, Appends, Writes, IsFramed, IsSized}
 use Rattle.cmap_writer.proofs.BytesWritten.{big_endian-bytes_of, length-bytes_of}
 

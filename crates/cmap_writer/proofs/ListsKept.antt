@@ -9,7 +9,7 @@ use Rattle.cmap_values.specs.Files.{ByLength, CidEntry, Codespace, Declaration}
 use Rattle.cmap_values.specs.ListsByKind.{by_length}
 use Rattle.cmap_binary.specs.BinaryFiles as files
 use Rattle.cmap_binary.specs.BinaryFiles.{Content, SegmentAt, declares}
-use Rattle.cmap_packed.specs.Bundles.{PrefixTables}
+use Rattle.cmap_binary.specs.Bundles.{PrefixTables}
 use Rattle.cmap_writer.specs.Fields.{NotdefFits, NotdefsFit, SpaceFits, notdef_bytes, notdef_lists_bytes, notdefs_bytes, notdefs_payload, part_segments, parts_of, segment_bytes, space_bytes, spaces_bytes, spaces_payload}
 use Rattle.cmap_writer.specs.SegmentsWritten.{DeclareAll, SegmentByAny}
 use Rattle.cmap_writer.specs.Written.{Writes, WritesAll, bytes_of}

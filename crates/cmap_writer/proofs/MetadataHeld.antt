@@ -9,8 +9,8 @@ use Rattle.cmap_values.specs.Metadata.{Collection, FileMetadata, Mode, horizonta
 use Rattle.cmap_values.specs.Names.{family_of, ordering_of, registry_of}
 use Rattle.cmap_binary.specs.BinaryFiles as files
 use Rattle.cmap_binary.specs.BinaryFiles.{CollectionIn, Content, IsSegment}
-use Rattle.cmap_packed.specs.Bundles.{PrefixTables}
-use Rattle.cmap_packed.specs.Fronts.{FieldAt, TerminatedAt}
+use Rattle.cmap_binary.specs.Bundles.{PrefixTables}
+use Rattle.cmap_binary.specs.Fronts.{FieldAt, TerminatedAt}
 use Rattle.cmap_writer.specs.Fields.{CollectionFits, IsSayableCollection, MetadataFits, NameFits, collection_bytes, collection_payload, metadata_bytes, mode_bytes, mode_number, name_bytes, option_bytes, segment_bytes, terminated_bytes, uses_bytes}
 use Rattle.cmap_writer.specs.MetadataWritten.{collection_len, from_option, metadata_contents}
 use Rattle.cmap_writer.specs.SegmentsWritten.{SegmentByAny}

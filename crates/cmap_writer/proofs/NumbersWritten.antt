@@ -5,7 +5,7 @@ use Rattle.cmap_runs.specs.Ranges.{Span}
 use Rattle.cmap_values.specs.Files.{CidEntry}
 use Rattle.cmap_values.specs.DeclarationsSeen.{cid_range_span, entries_seen}
 use Rattle.cmap_values.specs.declared.declarations.CidRange.{CidRange}
-use Rattle.cmap_packed.specs.Bundles.{PrefixTables}
+use Rattle.cmap_binary.specs.Bundles.{PrefixTables}
 use Rattle.cmap_binary.specs.BinaryEntries.{Shape, ranges, singles}
 use Rattle.cmap_writer.specs.ColumnsWritten.{WritesColumns}
 use Rattle.cmap_writer.specs.Held.{AreHeld, AreInOrder, AreShaped, counts_by, deltas_of, entry_span, spans_of}

@@ -6,7 +6,7 @@ use Rattle.std.proofs.lemmas.List.Concat.{flat_map-append}
 use Rattle.cmap_values.specs.Files.{BfEntry, ByLength, Declaration, File, Lists, lists_of}
 use Rattle.cmap_binary.specs.BinaryFiles.{BodyOf, IsBinaryFile, SegmentAt, declares, file_of, magic}
 use Rattle.cmap_binary.specs.BinaryFiles as files
-use Rattle.cmap_packed.specs.Bundles.{PrefixTables}
+use Rattle.cmap_binary.specs.Bundles.{PrefixTables}
 use Rattle.cmap_writer.specs.Fields.{FieldsFit, fields_of, metadata_bytes, notdef_lists_bytes, spaces_bytes, uses_bytes}
 use Rattle.cmap_writer.specs.Keeps.{HaveSameCids, HaveSameTexts, IsWritten, KeepLists, Keeps}
 use Rattle.cmap_values.specs.ListsByKind.{by_length}

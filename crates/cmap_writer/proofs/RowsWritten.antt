@@ -9,7 +9,7 @@ use Rattle.cmap_values.specs.Files.{CidEntry, Codespace}
 use Rattle.cmap_values.specs.declared.code_length.CodeLength.{CodeLength}
 use Rattle.cmap_values.specs.declared.code_length.CodeLength.TheVariants.{One, Two, Three, Four}
 use Rattle.cmap_binary.specs.BinaryFiles.{CodespaceAt, CodespacesIn, NotdefAt, NotdefsIn}
-use Rattle.cmap_packed.specs.Fronts.{CodeAt, RowOf}
+use Rattle.cmap_binary.specs.Fronts.{CodeAt, RowOf}
 use Rattle.cmap_writer.specs.Fields.{CodeFits, NotdefFits, SpaceFits, notdef_bytes, notdefs_payload, space_bytes, spaces_payload}
 use Rattle.cmap_writer.specs.Written.{bytes_of, Writes, WritesAll}
 use Rattle.cmap_writer.proofs.FrontsWritten.{FieldAt-written}

@@ -5,7 +5,7 @@ use Rattle.std.proofs.lemmas.List.{append_assoc, append-nil, map-append, take_mo
 use Rattle.std.proofs.lemmas.List.Concat.{flat_map-append}
 use Rattle.cmap_values.specs.Files.{Declaration}
 use Rattle.cmap_binary.specs.BinaryFiles.{Content, IsSegment, SegmentAt, declares}
-use Rattle.cmap_packed.specs.Bundles.{PrefixTables}
+use Rattle.cmap_binary.specs.Bundles.{PrefixTables}
 use Rattle.cmap_writer.specs.Segments.{AddsSegments, AreSegmentBytes, DeclareEach, DeclareInOrder, DeclaresAll, IsPayloadOf, IsSegmentOf}
 use Rattle.cmap_writer.specs.Written.{Appends, IsFramed, Writes, WritesAll}
 use Rattle.cmap_writer.proofs.FilesWritten.{appended_more, appended_none}

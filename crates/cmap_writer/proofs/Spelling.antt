@@ -8,9 +8,9 @@ use Rattle.std.proofs.lemmas.List.Elements.{All-cons, All-nil}
 use Rattle.std.proofs.lemmas.Nat.{mod-pow-add, mod_below, pow-add}
 use Rattle.std.proofs.lemmas.Option.{slice_get-map, slice_get_within, get_or_from_slice_get}
 use Rattle.std.proofs.Math.Nat.{add-mul, mod-eq_of_lt, mul_assoc}
-use Rattle.cmap_packed.specs.PrefixWords.{CodeWord, IsSound, Decodes, BeginWithWordsOf, bits_of}
-use Rattle.cmap_packed.specs.WordsByLength.{AreBits}
-use Rattle.cmap_packed.proofs.BitsOfBytes.{length-bits_of}
+use Rattle.cmap_binary.specs.PrefixWords.{CodeWord, IsSound, Decodes, BeginWithWordsOf, bits_of}
+use Rattle.cmap_binary.specs.WordsByLength.{AreBits}
+use Rattle.cmap_binary.proofs.BitsOfBytes.{length-bits_of}
 use Rattle.cmap_writer.specs.Spelled.{HasWord, IsSpelled}
 use Rattle.cmap_writer.specs.declared.words.Word.{Word}
 use Rattle.cmap_writer.specs.WordsHeld.{word_lengths, word_seen, words_seen, AreWords}

@@ -7,7 +7,7 @@ use Rattle.std.proofs.lemmas.List.{get_or_default}
 use Rattle.std.proofs.lemmas.List.Elements.{All-head}
 use Rattle.std.proofs.lemmas.List.Folds.{sum_by-replicate}
 use Rattle.std.proofs.lemmas.List.Sums.{sum_by-append}
-use Rattle.cmap_packed.specs.PrefixWords.{AreWordLengths, CodeWord, lengths_from, lengths_of, zip_words}
+use Rattle.cmap_binary.specs.PrefixWords.{AreWordLengths, CodeWord, lengths_from, lengths_of, zip_words}
 use Rattle.cmap_writer.specs.ManyWords.{HasManyWords}
 use Rattle.cmap_writer.proofs.Told.{All-back}
 use Rattle.cmap_writer.proofs.WordsMade.{lengths-zip_words}

@@ -3,9 +3,9 @@ use Rattle.std.proofs.Common.{◌≡◌, ℕ, suc, ◌+◌, ◌*◌, ◌^◌, �
 use Rattle.std.specs.List.{All, flat_map}
 use Rattle.std.proofs.lemmas.List.{append_assoc, append-nil, length-append, length-map, length-replicate}
 use Rattle.std.proofs.lemmas.List.Elements.{All-cons, All-head, All-nil, All-tail}
-use Rattle.cmap_packed.specs.PrefixWords.{AreWordLengths, CodeWord, IsSound, lengths_from, lengths_of, zip_words}
-use Rattle.cmap_packed.specs.Fronts.{FieldAt, RowOf}
-use Rattle.cmap_packed.specs.TableFronts.{TableAt}
+use Rattle.cmap_binary.specs.PrefixWords.{AreWordLengths, CodeWord, IsSound, lengths_from, lengths_of, zip_words}
+use Rattle.cmap_binary.specs.Fronts.{FieldAt, RowOf}
+use Rattle.cmap_binary.specs.TableFronts.{TableAt}
 use Rattle.cmap_writer.specs.Written.{bytes_of, Appends, Writes}
 use Rattle.cmap_writer.specs.WordsHeld.{word_seen, words_seen}
 use Rattle.cmap_writer.specs.declared.words.Word.{Word}

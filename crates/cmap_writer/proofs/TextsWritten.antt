@@ -8,12 +8,12 @@ use Rattle.cmap_values.specs.DeclarationsSeen.{bf_entry_seen, bf_range_span}
 use Rattle.cmap_values.specs.Files.{BfEntry, Declaration}
 use Rattle.cmap_values.specs.UnitsSeen.{units_seen}
 use Rattle.cmap_values.specs.declared.declarations.BfRange.{BfRange}
-use Rattle.cmap_packed.specs.Bundles.{PrefixTables}
+use Rattle.cmap_binary.specs.Bundles.{PrefixTables}
 use Rattle.cmap_binary.specs.BinaryEntries.{BfEntriesOf, DestinationAt, Shape, ranges, singles}
 use Rattle.cmap_binary.specs.EntryByEntry.{BfEntryAt, BfsByEntry, Columns}
 use Rattle.cmap_binary.specs.BinaryFiles as files
 use Rattle.cmap_binary.proofs.EntriesByColumns.{bfs_same}
-use Rattle.cmap_packed.specs.Fronts.{FieldAt, RowOf, Then}
+use Rattle.cmap_binary.specs.Fronts.{FieldAt, RowOf, Then}
 use Rattle.cmap_writer.specs.ColumnsWritten.{HaveSpans, WritesColumns}
 use Rattle.cmap_writer.specs.EncodersSeen.{shape_seen}
 use Rattle.cmap_writer.specs.Held.{AreInOrder, AreShaped, counts_by, deltas_of}

@@ -9,7 +9,7 @@ use Rattle.std.proofs.lemmas.Nat.{pow-add, pow_pos}
 use Rattle.std.proofs.lemmas.Option.{same_Some, none-some}
 use Rattle.std.proofs.Math.Nat.{add-mul, mul_assoc, mul-le-mul_right}
 use Rattle.std.proofs.Math.Numerals.{add-one}
-use Rattle.cmap_packed.specs.PrefixWords.{CodeWord, AreWordLengths, IsSound, lengths_of, number_after, zip_words}
+use Rattle.cmap_binary.specs.PrefixWords.{CodeWord, AreWordLengths, IsSound, lengths_of, number_after, zip_words}
 use Rattle.cmap_writer.specs.declared.words.Word.{Word}
 use Rattle.cmap_writer.specs.WordsHeld.{word_lengths, word_seen, words_seen, AreWords, AreWordsTo}
 

@@ -3,8 +3,8 @@ use Rattle.std.specs.Prelude.{ℕ, List, [], ◌∷◌}
 use Rattle.cmap_runs.specs.Ranges.{Span}
 use Rattle.cmap_binary.specs.BinaryEntries.{Shape}
 use Rattle.cmap_binary.specs.EntryByEntry.{Columns, ColumnsAt, SpanAt}
-use Rattle.cmap_packed.specs.Bundles.{PrefixTables}
-use Rattle.cmap_packed.specs.PrefixWords.{BeginWithWordsOf, CodeWord, bits}
+use Rattle.cmap_binary.specs.Bundles.{PrefixTables}
+use Rattle.cmap_binary.specs.PrefixWords.{BeginWithWordsOf, CodeWord, bits}
 use Rattle.cmap_writer.specs.Spelled.{IsSpelledIn}
 use Rattle.cmap_writer.specs.Written.{IsSized, Writes}
 

@@ -1,8 +1,8 @@
 -- The bytes of a file that is written: there is one such list where each symbol has one code word.
 use Rattle.std.specs.Prelude.{◌≡◌, ℕ, List, [], ◌∷◌, ◌++◌, Some, slice_get}
 use Rattle.cmap_values.specs.Files.{File}
-use Rattle.cmap_packed.specs.Bundles.{PrefixTables}
-use Rattle.cmap_packed.specs.PrefixWords.{CodeWord}
+use Rattle.cmap_binary.specs.Bundles.{PrefixTables}
+use Rattle.cmap_binary.specs.PrefixWords.{CodeWord}
 use Rattle.cmap_binary.specs.BinaryFiles.{magic}
 use Rattle.cmap_writer.specs.Obstacles.{IsPreparedFor}
 use Rattle.cmap_writer.specs.Segments.{AreSegmentBytes}

@@ -1,5 +1,5 @@
 -- What contracts see of the code words of a bundle, and of the shape of entries.
-use Rattle.cmap_packed.specs.Bundles.{PrefixTables}
+use Rattle.cmap_binary.specs.Bundles.{PrefixTables}
 use Rattle.cmap_binary.specs.BinaryEntries as entries
 use Rattle.cmap_writer.specs.declared.columns.Encoders.{Encoders}
 use Rattle.cmap_writer.specs.declared.columns.Shape.{Shape}

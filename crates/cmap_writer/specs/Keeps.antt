@@ -4,7 +4,7 @@ use Rattle.cmap_values.specs.Files.{BfEntry, CidEntry, File, Lists}
 use Rattle.cmap_unicode.specs.Cids.{declared_cid}
 use Rattle.cmap_layers.specs.Layers.{Layer, layer_of}
 use Rattle.cmap_layers.specs.Lookups.{bf_of, cid_of}
-use Rattle.cmap_packed.specs.Bundles.{PrefixTables}
+use Rattle.cmap_binary.specs.Bundles.{PrefixTables}
 use Rattle.cmap_binary.specs.BinaryFiles.{IsBinaryFile}
 use Rattle.cmap_writer.specs.Written.{IsFramedFile}
 use Rattle.cmap_writer.specs.Pieces.{cid_told, text_told}

@@ -1,6 +1,6 @@
 -- Which tables have too many code words to be written anew.
 use Rattle.std.specs.Prelude.{ℕ, ◌≤◌, ◌^◌, ◌==◌, List, count_by}
-use Rattle.cmap_packed.specs.PrefixWords.{CodeWord, lengths_of}
+use Rattle.cmap_binary.specs.PrefixWords.{CodeWord, lengths_of}
 
 -- 2^16 code words or more have one length
 abbrev pub HasManyWords : List CodeWord → Type 0

@@ -6,8 +6,8 @@ use Rattle.cmap_values.specs.Files.{BfEntry, ByLength, CidEntry, Codespace, File
 use Rattle.cmap_values.specs.Metadata.{Collection, FileMetadata}
 use Rattle.cmap_values.specs.Names.{Family, family_of, ordering_of, registry_of}
 use Rattle.cmap_layers.specs.Lookups.{bf_span, cid_span, last_bf}
-use Rattle.cmap_packed.specs.Bundles.{PrefixTables}
-use Rattle.cmap_packed.specs.PrefixWords.{CodeWord}
+use Rattle.cmap_binary.specs.Bundles.{PrefixTables}
+use Rattle.cmap_binary.specs.PrefixWords.{CodeWord}
 use Rattle.cmap_writer.specs.Arranged.{IsArranged}
 use Rattle.cmap_writer.specs.MetadataWritten.{collection_len}
 use Rattle.cmap_writer.specs.Pieces.{cid_told}

@@ -4,7 +4,7 @@ use Rattle.cmap_runs.specs.Ranges.{Span}
 use Rattle.cmap_values.specs.Files.{Declaration}
 use Rattle.cmap_binary.specs.BinaryEntries as entries
 use Rattle.cmap_binary.specs.BinaryFiles.{IsSegment, declares}
-use Rattle.cmap_packed.specs.Bundles.{PrefixTables}
+use Rattle.cmap_binary.specs.Bundles.{PrefixTables}
 use Rattle.cmap_writer.specs.ColumnsWritten.{WritesColumn}
 use Rattle.cmap_writer.specs.EncodersSeen.{shape_seen}
 use Rattle.cmap_writer.specs.Held.{counts_by, deltas_of}

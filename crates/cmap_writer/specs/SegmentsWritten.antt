@@ -2,7 +2,7 @@
 use Rattle.std.specs.Prelude.{◌≡◌, ℕ, List, flat_map, map}
 use Rattle.cmap_values.specs.Files.{Declaration, File}
 use Rattle.cmap_binary.specs.BinaryFiles.{Content, SegmentAt, declares, file_of}
-use Rattle.cmap_packed.specs.Bundles.{PrefixTables}
+use Rattle.cmap_binary.specs.Bundles.{PrefixTables}
 use Rattle.cmap_writer.specs.Written.{WritesAll}
 
 -- a segment that says this by any tables

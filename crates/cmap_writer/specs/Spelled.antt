@@ -1,6 +1,6 @@
 -- Symbols that bits spell by the code words of a table, with nothing after them.
 use Rattle.std.specs.Prelude.{◌≡◌, ℕ, ◌≤◌, ◌<◌, List, [], ◌∷◌, ◌++◌, All, Option, IfNone, length, replicate}
-use Rattle.cmap_packed.specs.PrefixWords.{CodeWord, Decodes, IsWord, bits, bits_of}
+use Rattle.cmap_binary.specs.PrefixWords.{CodeWord, Decodes, IsWord, bits, bits_of}
 
 -- the code words of these symbols, in order, and no more
 abbrev pub IsSpelled : List CodeWord → List ℕ → List ℕ → Type 0

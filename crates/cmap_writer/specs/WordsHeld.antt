@@ -1,7 +1,7 @@
 -- Private aid: code words as a writer holds them.
 use Rattle.std.specs.Prelude.{◌≡◌, ℕ, ◌<◌, ◌^◌, ◌≤◌, List, map, take, All, Some, slice_get}
 use Rattle.std.specs.List.Sorted.{IsNonDecreasing}
-use Rattle.cmap_packed.specs.PrefixWords.{CodeWord, IsSound, lengths_of, number_after, zip_words}
+use Rattle.cmap_binary.specs.PrefixWords.{CodeWord, IsSound, lengths_of, number_after, zip_words}
 use Rattle.cmap_writer.specs.declared.words.Word.{Word}
 
 abbrev pub word_seen : Word → CodeWord

@@ -1,6 +1,6 @@
 -- Bytes that are written, and what a reader finds in them.
 use Rattle.std.specs.Prelude.{◌≡◌, ℕ, zero, suc, length, ◌+◌, ◌<◌, ◌*◌, ◌/◌, ◌%◌, ◌^◌, List, [], ◌∷◌, ◌++◌, All}
-use Rattle.cmap_packed.specs.Fronts.{FramedAt}
+use Rattle.cmap_binary.specs.Fronts.{FramedAt}
 
 -- the last count bytes of a number, the high one first
 abbrev pub bytes_of : ℕ → ℕ → List ℕ

@@ -1,7 +1,7 @@
 //! Bits that are written one after another, the high one of each byte first.
 
 ghost use Rattle.std.specs.Prelude.{◌≡◌, ℕ, ◌<◌, ◌≤◌, List, [], ◌∷◌, ◌++◌, IfOk, length, replicate};
-ghost use Rattle.cmap_packed.specs.PrefixWords.{bits, bits_of};
+ghost use Rattle.cmap_binary.specs.PrefixWords.{bits, bits_of};
 
 use std::alloc::{AllocError, Global};
 use std::marker::Model;
@@ -18,7 +18,7 @@ pub(crate) struct BitWriter {
 
 impl Model for BitWriter {
     ghost use Rattle.std.specs.Prelude.{ℕ, ◌<◌, ◌^◌, List, ◌++◌};
-    ghost use Rattle.cmap_packed.specs.PrefixWords.{bits, bits_of};
+    ghost use Rattle.cmap_binary.specs.PrefixWords.{bits, bits_of};
 
     ghost Value = { List ℕ };
 

@@ -1,7 +1,7 @@
 //! Pieces that give their own length.
 
 ghost use Rattle.std.specs.Prelude.{◌≡◌, ◌+◌, ◌<◌, ◌≤◌, ◌^◌, ◌∷◌, [], IfErr, IfOk, length};
-ghost use Rattle.cmap_packed.specs.Bundles.{PrefixTables};
+ghost use Rattle.cmap_binary.specs.Bundles.{PrefixTables};
 ghost use Rattle.cmap_binary.specs.BinaryFiles.{Content, IsSegment, SegmentAt};
 ghost use Rattle.cmap_writer.specs.Failures.{IsTooLongIf};
 ghost use Rattle.cmap_writer.specs.Written.{Appends, IsFramed, IsSized, Writes};

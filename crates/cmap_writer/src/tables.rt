@@ -1,14 +1,14 @@
 //! The code words of a bundle that is read, so that files are written by them.
 
 ghost use Rattle.std.specs.Prelude.{◌≡◌, ◌≤◌, ◌⊎◌, ◌^◌, Any, IfOk, MatchOption};
-ghost use Rattle.cmap_packed.specs.BundleSeen.{tables_seen};
+ghost use Rattle.cmap_binary.specs.BundleSeen.{tables_seen};
 ghost use Rattle.cmap_writer.specs.EncodersSeen.{encoders_seen};
 ghost use Rattle.cmap_writer.specs.ManyWords.{HasManyWords};
 
 use crate::columns::Encoders;
 use crate::words::Encoder;
-use cmap_packed::Tables;
-use cmap_packed::prefix::PrefixTable;
+use cmap_binary::Tables;
+use cmap_binary::prefix::PrefixTable;
 use std::alloc::{AllocError, Global};
 
 /// No code word has more bits.

@@ -2,8 +2,8 @@
 
 ghost use Rattle.std.specs.Prelude.{◌↔◌, ◌≡◌, ◌+◌, ◌++◌, ◌≤◌, ◌<◌, ◌*◌, ◌-◌, ◌^◌, All, Any, IfNone, IfOk, IfSome, IsTrue, MatchOption, flat_map, length, replicate};
 ghost use Rattle.std.specs.List.Sorted.{IsNonDecreasingBy, IsPermutation};
-ghost use Rattle.cmap_packed.specs.TableFronts.{TableAt};
-ghost use Rattle.cmap_packed.specs.PrefixWords.{AreWordLengths, BeginWithWordsOf, bits, lengths_from, zip_words};
+ghost use Rattle.cmap_binary.specs.TableFronts.{TableAt};
+ghost use Rattle.cmap_binary.specs.PrefixWords.{AreWordLengths, BeginWithWordsOf, bits, lengths_from, zip_words};
 ghost use Rattle.cmap_writer.specs.Spelled.{HasWord, IsNoSymbol, IsNoWordOf, IsSpelledIn};
 ghost use Rattle.cmap_writer.specs.WordsHeld.{MakesWords};
 ghost use Rattle.cmap_writer.specs.Written.{Appends, Writes, bytes_of};
@@ -41,13 +41,13 @@ pub struct Encoder {
 
 impl Model for Encoder {
     ghost use Rattle.std.specs.Prelude.{List};
-    ghost use Rattle.cmap_packed.specs.PrefixWords.{CodeWord};
+    ghost use Rattle.cmap_binary.specs.PrefixWords.{CodeWord};
 
     ghost Value = { List CodeWord };
 
     ghost use Rattle.std.specs.Prelude.{◌≡◌, ◌≤◌, length};
     ghost use Rattle.std.specs.List.Sorted.{IsNonDecreasingBy, IsPermutation};
-    ghost use Rattle.cmap_packed.specs.PrefixWords.{IsSound, lengths_from, lengths_of};
+    ghost use Rattle.cmap_binary.specs.PrefixWords.{IsSound, lengths_from, lengths_of};
     ghost use Rattle.cmap_writer.specs.WordsHeld.{words_seen, AreWords};
 
     ghost view = { λ e. words_seen e.words.items };

@@ -14,7 +14,7 @@ pub use cmap_layers::layer::{DeclarationCounts, Layer};
 pub use cmap_layers::layers::Layers;
 pub use cmap_layers::stretches::{CidStretch, Cids, TextStretch};
 pub use cmap_layers::string_codes::StringCode;
-pub use cmap_packed::{Bundle, OwnedBundle, load_embedded};
+pub use cmap_binary::{Bundle, OwnedBundle, load_embedded};
 pub use cmap_runs::runs;
 pub use cmap_tokens::token;
 pub use cmap_tokens::utf16::{self, BfString};
@@ -30,7 +30,7 @@ pub use map::{CMap, SalvagedMap};
 
 /// The parts of the binary form of CMap files: bits and numbers, prefix tables, bundles.
 pub mod bcmap {
-    pub use cmap_packed::bits::Reader;
-    pub use cmap_packed::prefix::PrefixTable;
-    pub use cmap_packed::{Bundle, OwnedBundle, load_embedded};
+    pub use cmap_binary::bits::Reader;
+    pub use cmap_binary::prefix::PrefixTable;
+    pub use cmap_binary::{Bundle, OwnedBundle, load_embedded};
 }

@@ -6,7 +6,7 @@ ghost use Rattle.cmap_load.specs.Answers.{Answers, AnswersByName, IsByName};
 ghost use Rattle.cmap_values.specs.Files as files;
 ghost use Rattle.cmap_values.specs.NamesSeen.{names_seen};
 ghost use Rattle.cmap_load.specs.Identity.{identity_layer};
-ghost use Rattle.cmap_packed.specs.BundleSeen.{tables_given};
+ghost use Rattle.cmap_binary.specs.BundleSeen.{tables_given};
 ghost use Rattle.cmap_load.specs.Layers.{AreUses, Means};
 ghost use Rattle.cmap_load.specs.Maps.{ExceedsBudget, FitsBudget, HasNoMap, IsMapOf, LeadsToFault};
 ghost use Rattle.cmap_load.specs.Opened.{ExceedsBudgetNamed, FitsBudgetNamed, HasNoMapNamed, IsMapNamed, IsUnknown, LeadsToFaultNamed};
@@ -34,7 +34,7 @@ use cmap_load::{
 use cmap_layers::layers::Layers;
 use cmap_layers::string_codes::StringCode;
 use cmap_load::{open_layers, read_layers};
-use cmap_packed::Bundle;
+use cmap_binary::Bundle;
 use cmap_runs::runs::Looks;
 use cmap_tokens::utf16::BfString;
 use cmap_values::code_length::CodeLength;

@@ -2,10 +2,10 @@ use Rattle.std.proofs.Common.{◌≡◌, ℕ, sym, ap, ◌∙◌, List, drop}
 use Rattle.std.specs.Prelude.{Option, Some, None, IfSome, IfNone, MatchOption, slice_get}
 use Rattle.std.proofs.lemmas.List.{drop_at}
 use Rattle.std.proofs.lemmas.Option.{same_Some}
-use Rattle.cmap_packed.specs.PrefixWords.{CodeWord, BeginsAt, Decodes}
+use Rattle.cmap_binary.specs.PrefixWords.{CodeWord, BeginsAt, Decodes}
 use Rattle.cmap_values.specs.Only.{IsOnly, HoldsOfNone}
 use Rattle.cmap_binary.specs.BinaryEntries.{SymbolAt}
-use Rattle.cmap_packed.proofs.Fronts.{pair_is}
+use Rattle.cmap_binary.proofs.Fronts.{pair_is}
 use Rattle.cmap_binary.proofs.columns.next_symbol.Goals as goal
 
 rest_is : (table : List CodeWord) (stream rest : List ℕ) (symbol len : ℕ) → Decodes table stream symbol len rest → rest ≡ drop len stream

@@ -1,4 +1,4 @@
-use Rattle.cmap_packed.proofs.Fronts.{gives, then_none, then_only}
+use Rattle.cmap_binary.proofs.Fronts.{gives, then_none, then_only}
 use Rattle.cmap_binary.proofs.columns.next_width.Goals as goal
 
 pub returns-in_err-count-in-Some : goal.returns-in_err-count-in-Some

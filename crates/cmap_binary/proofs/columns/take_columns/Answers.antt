@@ -1,4 +1,4 @@
-use Rattle.cmap_packed.proofs.Fronts.{then_finds, then_none}
+use Rattle.cmap_binary.proofs.Fronts.{then_finds, then_none}
 use Rattle.cmap_binary.proofs.columns.take_columns.Goals as goal
 
 pub returns-in-Some : goal.returns-in-Some

@@ -1,4 +1,4 @@
-use Rattle.cmap_packed.proofs.Fronts.{then_none}
+use Rattle.cmap_binary.proofs.Fronts.{then_none}
 use Rattle.cmap_binary.proofs.columns.take_counts.Goals as goal
 
 pub returns-in-None : goal.returns-in-None

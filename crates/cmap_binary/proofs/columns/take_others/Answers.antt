@@ -1,4 +1,4 @@
-use Rattle.cmap_packed.proofs.Fronts.{gives, then_none, then_only}
+use Rattle.cmap_binary.proofs.Fronts.{gives, then_none, then_only}
 use Rattle.cmap_binary.proofs.columns.take_others.Goals as goal
 
 pub returns-in-Some : goal.returns-in-Some

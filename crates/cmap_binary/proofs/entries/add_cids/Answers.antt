@@ -3,16 +3,16 @@ use Rattle.cmap_values.specs.CodeLengths.{length_of}
 use Rattle.cmap_values.specs.Files.{cid, lists_of}
 use Rattle.cmap_values.specs.Only.{HoldsOfNone}
 use Rattle.cmap_values.specs.ListsAppended.{append_lists}
-use Rattle.cmap_packed.specs.Bundles.{PrefixTables}
+use Rattle.cmap_binary.specs.Bundles.{PrefixTables}
 use Rattle.cmap_binary.specs.BinaryEntries.{Shape}
 use Rattle.cmap_binary.specs.EntryByEntry.{CidEntryAt, CidsByEntry, CidsOf, ColumnsAt}
 use Rattle.cmap_binary.specs.WrongSegments.{MissesThen, WrongCidEntries, WrongCidEntry, WrongInRow}
 use Rattle.cmap_values.specs.declared.fault.Reason.{Reason}
 use Rattle.cmap_values.specs.declared.fault.Reason.TheVariants.{Field}
 use Rattle.cmap_values.specs.declared.fault.Segment.TheVariants.{Cids}
-use Rattle.cmap_packed.specs.BundleSeen.{tables_seen}
+use Rattle.cmap_binary.specs.BundleSeen.{tables_seen}
 use Rattle.cmap_binary.specs.ColumnsSeen.{shape_seen}
-use Rattle.cmap_packed.proofs.Fronts.{gives, then_none, then_next, then_only}
+use Rattle.cmap_binary.proofs.Fronts.{gives, then_none, then_next, then_only}
 use Rattle.cmap_binary.proofs.EntriesByColumns.{cids_same}
 use Rattle.cmap_binary.proofs.Reading.{made_none, made_only, same_none, same_only}
 use Rattle.cmap_binary.proofs.RowsAdded.{adds_none, in_words}

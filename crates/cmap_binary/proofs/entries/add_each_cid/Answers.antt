@@ -1,6 +1,6 @@
 use Rattle.std.proofs.Common.{refl, arith}
 use Rattle.cmap_values.proofs.Outcomes.{passed_on}
-use Rattle.cmap_packed.specs.BundleSeen.{tables_seen}
+use Rattle.cmap_binary.specs.BundleSeen.{tables_seen}
 use Rattle.cmap_binary.specs.WrongSegments.{WrongCidEntry}
 use Rattle.cmap_binary.proofs.RowsAdded.{adds_start, adds_more, adds_wrong, adds_end}
 use Rattle.cmap_binary.proofs.entries.add_each_cid.Goals as goal

@@ -2,7 +2,7 @@ use Rattle.cmap_values.specs.CodeLengths.{length_of}
 use Rattle.cmap_values.specs.Files.{cid}
 use Rattle.cmap_values.specs.DeclarationsSeen.{lists_seen}
 use Rattle.cmap_binary.specs.EntryByEntry.{CidEntryAt}
-use Rattle.cmap_packed.specs.BundleSeen.{tables_seen}
+use Rattle.cmap_binary.specs.BundleSeen.{tables_seen}
 use Rattle.cmap_binary.specs.ColumnsSeen.{cid_columns_seen}
 use Rattle.cmap_binary.proofs.RowsAdded.{HasAdded}
 use Rattle.cmap_binary.proofs.entries.add_each_cid.Given as goal

@@ -1,7 +1,7 @@
 use Rattle.std.proofs.Common.{arith, inl, inr, refl}
 use Rattle.cmap_values.proofs.Outcomes.{passed_on}
-use Rattle.cmap_packed.proofs.Fronts.{gives, then_none, then_next, then_only}
-use Rattle.cmap_packed.specs.BundleSeen.{tables_seen}
+use Rattle.cmap_binary.proofs.Fronts.{gives, then_none, then_next, then_only}
+use Rattle.cmap_binary.specs.BundleSeen.{tables_seen}
 use Rattle.cmap_binary.specs.WrongSegments.{WrongBfEntry}
 use Rattle.cmap_binary.proofs.RowsAdded.{adds_start, adds_more, adds_wrong, adds_end}
 use Rattle.cmap_binary.proofs.entries.add_each_text.Goals as goal

@@ -1,7 +1,7 @@
 use Rattle.cmap_values.specs.Files.{bf}
 use Rattle.cmap_values.specs.DeclarationsSeen.{lists_seen}
 use Rattle.cmap_binary.specs.EntryByEntry.{BfEntryAt}
-use Rattle.cmap_packed.specs.BundleSeen.{tables_seen}
+use Rattle.cmap_binary.specs.BundleSeen.{tables_seen}
 use Rattle.cmap_binary.specs.ColumnsSeen.{columns_seen}
 use Rattle.cmap_binary.proofs.RowsAdded.{HasAdded}
 use Rattle.cmap_binary.proofs.entries.add_each_text.Given as goal

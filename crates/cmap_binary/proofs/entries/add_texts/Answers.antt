@@ -1,7 +1,7 @@
 use Rattle.std.proofs.Common.{inl, inr, refl}
-use Rattle.cmap_packed.specs.BundleSeen.{tables_seen}
+use Rattle.cmap_binary.specs.BundleSeen.{tables_seen}
 use Rattle.cmap_binary.specs.ColumnsSeen.{shape_seen}
-use Rattle.cmap_packed.proofs.Fronts.{gives, then_none, then_next, then_only}
+use Rattle.cmap_binary.proofs.Fronts.{gives, then_none, then_next, then_only}
 use Rattle.cmap_binary.proofs.EntriesByColumns.{bfs_same}
 use Rattle.cmap_binary.proofs.Reading.{made_none, made_only, same_none, same_only}
 use Rattle.cmap_binary.proofs.RowsAdded.{in_words}

@@ -1,7 +1,7 @@
 use Rattle.std.proofs.Common.{◌∙◌, arith, inl, inr, refl}
 use Rattle.cmap_values.proofs.Outcomes.{passed_on}
-use Rattle.cmap_packed.proofs.Fronts.{gives_none, then_none, then_next}
-use Rattle.cmap_packed.specs.BundleSeen.{tables_seen}
+use Rattle.cmap_binary.proofs.Fronts.{gives_none, then_none, then_next}
+use Rattle.cmap_binary.specs.BundleSeen.{tables_seen}
 use Rattle.cmap_binary.specs.WrongSegments.{WrongCidEntry}
 use Rattle.cmap_binary.proofs.RawCids.{entry_only, raw_only}
 use Rattle.cmap_binary.proofs.RowsAdded.{adds_start, adds_more, adds_wrong, adds_end}

@@ -4,7 +4,7 @@ use Rattle.cmap_values.specs.DeclarationsSeen.{lists_seen}
 use Rattle.cmap_values.specs.declared.declarations.Lists.{Lists}
 use Rattle.cmap_binary.specs.EntryByEntry.{CidEntryAt}
 use Rattle.cmap_binary.specs.BinarySeen.{with_cids_of_two}
-use Rattle.cmap_packed.specs.BundleSeen.{tables_seen}
+use Rattle.cmap_binary.specs.BundleSeen.{tables_seen}
 use Rattle.cmap_binary.specs.ColumnsSeen.{cid_columns_seen, columns_seen}
 use Rattle.cmap_binary.proofs.RowsAdded.{HasAdded}
 use Rattle.cmap_binary.proofs.entries.push_single_cids.Given as goal

@@ -1,5 +1,5 @@
 use Rattle.std.proofs.Common.{refl}
-use Rattle.cmap_packed.proofs.Fronts.{then_none}
+use Rattle.cmap_binary.proofs.Fronts.{then_none}
 use Rattle.cmap_binary.proofs.entries.read_destination.Goals as goal
 
 pub returns-in_default : goal.returns-in_default

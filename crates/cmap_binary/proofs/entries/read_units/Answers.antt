@@ -1,7 +1,7 @@
 use Rattle.cmap_binary.proofs.RowsAdded.{out_of_memory}
 use Rattle.std.proofs.Common.{arith, refl}
-use Rattle.cmap_packed.specs.Fronts.{FieldAt}
-use Rattle.cmap_packed.proofs.Fronts.{row_start, row_more, row_wrong, row_end}
+use Rattle.cmap_binary.specs.Fronts.{FieldAt}
+use Rattle.cmap_binary.proofs.Fronts.{row_start, row_more, row_wrong, row_end}
 use Rattle.cmap_binary.proofs.entries.read_units.Goals as goal
 
 pub loop-init : goal.loop-init

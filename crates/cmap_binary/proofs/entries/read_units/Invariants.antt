@@ -1,5 +1,5 @@
-use Rattle.cmap_packed.specs.Fronts.{FieldAt}
-use Rattle.cmap_packed.proofs.Fronts.{HasRow}
+use Rattle.cmap_binary.specs.Fronts.{FieldAt}
+use Rattle.cmap_binary.proofs.Fronts.{HasRow}
 use Rattle.cmap_binary.proofs.entries.read_units.Given as goal
 
 abbrev pub invariant-loop : goal.invariant-loop

@@ -1,7 +1,7 @@
 use Rattle.std.proofs.Common.{ℕ, List, [], ◌∷◌, arith}
 use Rattle.cmap_values.specs.Only.{IsOnly, HoldsOfNone}
-use Rattle.cmap_packed.specs.Fronts.{FieldAt, RowOf}
-use Rattle.cmap_packed.proofs.Fronts.{row_start, row_more, row_wrong, then_none, row_end, row_more, row_start}
+use Rattle.cmap_binary.specs.Fronts.{FieldAt, RowOf}
+use Rattle.cmap_binary.proofs.Fronts.{row_start, row_more, row_wrong, then_none, row_end, row_more, row_start}
 use Rattle.cmap_binary.proofs.entries.take_two.Goals as goal
 
 no_second : (text rest : List ℕ) (first : ℕ) → IsOnly (FieldAt 2 text) (first, rest) → HoldsOfNone (FieldAt 2 rest) → HoldsOfNone (RowOf (FieldAt 2) 2 text)

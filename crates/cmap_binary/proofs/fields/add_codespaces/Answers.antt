@@ -1,6 +1,6 @@
 use Rattle.std.proofs.Common.{arith, inl, inr, refl}
 use Rattle.cmap_binary.specs.WrongSegments.{WrongCodespace}
-use Rattle.cmap_packed.proofs.Fronts.{gives, then_none, then_next, then_only}
+use Rattle.cmap_binary.proofs.Fronts.{gives, then_none, then_next, then_only}
 use Rattle.cmap_binary.proofs.Reading.{made_none, made_only}
 use Rattle.cmap_binary.proofs.RowsAdded.{adds_start, adds_more, adds_wrong, adds_end}
 use Rattle.cmap_binary.proofs.fields.add_codespaces.Goals as goal

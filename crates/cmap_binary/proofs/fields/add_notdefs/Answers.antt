@@ -3,7 +3,7 @@ use Rattle.cmap_values.specs.declared.fault.Reason.TheVariants.{Entry}
 use Rattle.cmap_values.specs.declared.fault.Segment.TheVariants.{Notdefs}
 use Rattle.cmap_binary.specs.BinaryFiles.{NotdefAt}
 use Rattle.cmap_binary.specs.WrongSegments.{Misses}
-use Rattle.cmap_packed.proofs.Fronts.{gives, row_start, row_wrong, then_none, then_next, then_only}
+use Rattle.cmap_binary.proofs.Fronts.{gives, row_start, row_wrong, then_none, then_next, then_only}
 use Rattle.cmap_binary.proofs.Reading.{made_none, made_only}
 use Rattle.cmap_binary.proofs.RowsAdded.{adds_none, adds_start, adds_more, adds_wrong, adds_end}
 use Rattle.cmap_binary.proofs.fields.add_notdefs.Goals as goal

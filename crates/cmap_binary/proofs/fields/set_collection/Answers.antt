@@ -3,7 +3,7 @@ use Rattle.std.specs.Prelude.{ℤ}
 use Rattle.cmap_values.specs.Names.{Family}
 use Rattle.cmap_values.specs.Files.{Collection}
 use Rattle.cmap_values.specs.Only.{IsOnly}
-use Rattle.cmap_packed.proofs.Fronts.{gives, then_none, then_next, then_only}
+use Rattle.cmap_binary.proofs.Fronts.{gives, then_none, then_next, then_only}
 use Rattle.cmap_binary.proofs.Reading.{made_none, made_only}
 use Rattle.cmap_binary.proofs.fields.set_collection.Goals as goal
 

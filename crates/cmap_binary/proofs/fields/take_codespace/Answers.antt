@@ -1,8 +1,8 @@
 use Rattle.std.proofs.Common.{ℕ, List}
 use Rattle.cmap_values.specs.CodeLengths.{IsCodeLength}
 use Rattle.cmap_values.specs.Only.{HoldsOfNone}
-use Rattle.cmap_packed.specs.Fronts.{CodeAt}
-use Rattle.cmap_packed.proofs.Fronts.{gives, then_none, then_next, then_only}
+use Rattle.cmap_binary.specs.Fronts.{CodeAt}
+use Rattle.cmap_binary.proofs.Fronts.{gives, then_none, then_next, then_only}
 use Rattle.cmap_binary.proofs.fields.take_codespace.Goals as goal
 
 no_code : (width : ℕ) (text : List ℕ) → (IsCodeLength width → ⊥) → HoldsOfNone (CodeAt width text)

@@ -1,4 +1,4 @@
-use Rattle.cmap_packed.proofs.Fronts.{gives, then_none, then_next, then_only}
+use Rattle.cmap_binary.proofs.Fronts.{gives, then_none, then_next, then_only}
 use Rattle.cmap_binary.proofs.fields.take_notdef.Goals as goal
 
 pub returns-in_err-start : goal.returns-in_err-start

@@ -3,11 +3,11 @@ use Rattle.std.specs.Prelude.{slice_index}
 use Rattle.std.proofs.lemmas.List.{take_rest}
 use Rattle.cmap_values.specs.Files.{File}
 use Rattle.cmap_values.specs.Only.{IsOnly, HoldsOfNone}
-use Rattle.cmap_packed.specs.Bundles.{PrefixTables}
+use Rattle.cmap_binary.specs.Bundles.{PrefixTables}
 use Rattle.cmap_binary.specs.BinaryFiles.{Content, IsSegment, SegmentAt, file_of}
 use Rattle.cmap_binary.specs.BinarySeen.{SegmentsSay, with_content}
-use Rattle.cmap_packed.specs.Fronts.{FramedAt}
-use Rattle.cmap_packed.proofs.Fronts.{all_end, all_more, all_wrong, framed_within, continues_none, continues_only, emptied, filled, no_frame, pair_is, then_next, then_none, then_only}
+use Rattle.cmap_binary.specs.Fronts.{FramedAt}
+use Rattle.cmap_binary.proofs.Fronts.{all_end, all_more, all_wrong, framed_within, continues_none, continues_only, emptied, filled, no_frame, pair_is, then_next, then_none, then_only}
 use Rattle.cmap_binary.specs.BinaryFaults.{no_segment, says_nothing}
 use Rattle.cmap_binary.proofs.FaultsFirst.{faults_lead, faults_lead_on}
 use Rattle.cmap_binary.proofs.SegmentsSaid.{SaidSoFar, file_more}

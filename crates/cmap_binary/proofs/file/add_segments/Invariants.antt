@@ -1,6 +1,6 @@
 use Rattle.std.proofs.Common.{◌≤◌, length}
 use Rattle.cmap_values.specs.FilesSeen.{file_seen}
-use Rattle.cmap_packed.specs.BundleSeen.{tables_seen}
+use Rattle.cmap_binary.specs.BundleSeen.{tables_seen}
 use Rattle.cmap_binary.proofs.FaultsFirst.{FaultsLead}
 use Rattle.cmap_binary.proofs.SegmentsSaid.{SaidSoFar}
 use Rattle.cmap_binary.proofs.file.add_segments.Given as goal

@@ -7,14 +7,14 @@ use Rattle.cmap_values.specs.declared.fault.Fault.TheVariants.{Refused, Memory}
 use Rattle.cmap_values.specs.declared.fault.Stop.{Stop}
 use Rattle.cmap_values.specs.declared.file.File.{File}
 use Rattle.cmap_values.specs.FilesSeen.{file_seen}
-use Rattle.cmap_packed.specs.Bundles.{PrefixTables}
+use Rattle.cmap_binary.specs.Bundles.{PrefixTables}
 use Rattle.cmap_binary.specs.BinaryFiles.{BodyOf, IsBinaryFile, SegmentAt}
 use Rattle.cmap_binary.specs.BinaryFaults.{IsBinaryFault}
 use Rattle.cmap_binary.specs.BinarySeen.{SegmentsSay}
-use Rattle.cmap_packed.specs.Fronts.{AllOf}
+use Rattle.cmap_binary.specs.Fronts.{AllOf}
 use Rattle.cmap_binary.proofs.Bodies.{body_within}
 use Rattle.cmap_binary.proofs.FaultsFirst.{fault_of_segments}
-use Rattle.cmap_packed.proofs.Fronts.{Continues, continues_only, continues_none}
+use Rattle.cmap_binary.proofs.Fronts.{Continues, continues_only, continues_none}
 use Rattle.cmap_binary.proofs.file.read_binary.Goals as goal
 
 no_body : (tables : PrefixTables) (bytes : List ℕ) → HoldsOfNone (BodyOf bytes) → HoldsOfNone (IsBinaryFile tables bytes)

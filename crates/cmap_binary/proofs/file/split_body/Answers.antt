@@ -1,5 +1,5 @@
 use Rattle.std.proofs.lemmas.List.{take_rest}
-use Rattle.cmap_packed.proofs.Fronts.{gives_if, gives_none, then_next, then_none, then_only}
+use Rattle.cmap_binary.proofs.Fronts.{gives_if, gives_none, then_next, then_none, then_only}
 use Rattle.cmap_binary.proofs.Bodies.{begins, begins_otherwise}
 use Rattle.cmap_binary.proofs.file.split_body.Goals.{in_default-via-in-Some+else-starts_with, in_default-via-in_default}
 use Rattle.cmap_binary.proofs.file.split_body.Goals as goal

@@ -1,6 +1,6 @@
 use Rattle.std.proofs.lemmas.Result.{on_ok_weaker}
 use Rattle.std.proofs.lemmas.List.{take_rest}
-use Rattle.cmap_packed.proofs.Fronts.{emptied, filled}
+use Rattle.cmap_binary.proofs.Fronts.{emptied, filled}
 use Rattle.cmap_binary.proofs.SegmentsSalvaged.{salvaged_cut, salvaged_end, salvaged_fault, salvaged_none, salvaged_said}
 use Rattle.cmap_binary.proofs.salvage.add_segments.Goals as goal
 

@@ -1,7 +1,7 @@
 use Rattle.std.specs.Borrow.{Bor}
 use Rattle.std.proofs.Common.{ℕ, List, refl}
 use Rattle.std.proofs.lemmas.List.{map-append}
-use Rattle.cmap_packed.proofs.Fronts.{gives}
+use Rattle.cmap_binary.proofs.Fronts.{gives}
 use Rattle.cmap_binary.proofs.RowsAdded.{out_of_memory}
 use Rattle.cmap_binary.proofs.segments.add_use.Goals as goal
 

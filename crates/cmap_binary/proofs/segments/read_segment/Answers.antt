@@ -1,8 +1,8 @@
 use Rattle.std.proofs.Common.{◌≡◌, ℕ, List, Some, sym, ◌∙◌, subst}
 use Rattle.std.specs.Prelude.{◌↔◌}
 use Rattle.std.proofs.lemmas.Option.{same_Some}
-use Rattle.cmap_packed.specs.BundleSeen.{tables_seen}
-use Rattle.cmap_packed.specs.Bundles.{PrefixTables}
+use Rattle.cmap_binary.specs.BundleSeen.{tables_seen}
+use Rattle.cmap_binary.specs.Bundles.{PrefixTables}
 use Rattle.cmap_binary.specs.BinaryFiles.{Content, IsSegment, Kind, SaysAs, kind_of}
 use Rattle.cmap_binary.specs.BinarySeen.{kind_seen}
 use Rattle.cmap_binary.proofs.Reading.{same_none, same_only}

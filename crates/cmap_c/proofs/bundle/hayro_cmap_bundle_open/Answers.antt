@@ -1,6 +1,6 @@
 use Rattle.std.proofs.Common.{inl, inr, refl, subst, sym}
 use Rattle.std.specs.Prelude.{IsSomeAnd}
-use Rattle.cmap_packed.specs.Bundles.{IsBundle}
+use Rattle.cmap_binary.specs.Bundles.{IsBundle}
 use Rattle.cmap_values.specs.Only.{IsOnly, HoldsOfNone}
 use Rattle.cmap_handles.specs.declared.status.Status.TheVariants.{Done, NoMemory, NotABundle}
 use Rattle.cmap_handles.proofs.HandlesRead.{kept, kept_done}

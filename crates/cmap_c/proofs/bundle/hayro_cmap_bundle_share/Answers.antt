@@ -1,5 +1,5 @@
 use Rattle.std.proofs.Common.{◌∙◌, inl}
-use Rattle.cmap_packed.specs.Bundles.{Bundle}
+use Rattle.cmap_binary.specs.Bundles.{Bundle}
 use Rattle.cmap_handles.proofs.HandlesRead.{shared}
 use Rattle.cmap_c.proofs.bundle.hayro_cmap_bundle_share.Goals as goal
 

@@ -1,7 +1,7 @@
 use Rattle.std.proofs.Common.{◌≡◌, ◌≢◌, ◌∙◌, subst, sym}
 use Rattle.std.specs.Prelude.{IfNone}
 use Rattle.std.specs.Option.{option_copied}
-use Rattle.cmap_packed.specs.BundleSeen.{tables_given}
+use Rattle.cmap_binary.specs.BundleSeen.{tables_given}
 use Rattle.cmap_values.specs.Outcomes.{RefusesWith}
 use Rattle.cmap_load.specs.Opened as opened
 use Rattle.cmap_load.specs.declared.refusal.Cause.TheVariants as cause

@@ -1,5 +1,5 @@
 use Rattle.std.proofs.Common.{◌≡◌, ◌≢◌, ◌≤◌, ◌⊎◌, ℕ, [], arith, inl, inr}
-use Rattle.cmap_packed.specs.Bundles.{IsBundle}
+use Rattle.cmap_binary.specs.Bundles.{IsBundle}
 use Rattle.cmap_values.specs.Only.{HoldsOfNone}
 use Rattle.cmap_c.specs.NamedFiles.{ExceedsBudgetOver, FitsBudgetOver, HasNoMapOver, IsMapOver, OfGiven, budget_of}
 use Rattle.cmap_c.proofs.MapsKept.{Ended, ended}

@@ -1,6 +1,6 @@
 use Rattle.std.proofs.Common.{◌≡◌, ◌≢◌, [], length, rules, None, Some}
-use Rattle.cmap_packed.specs.BundleSeen.{bundle_seen}
-use Rattle.cmap_packed.specs.Bundles.{IsBundle}
+use Rattle.cmap_binary.specs.BundleSeen.{bundle_seen}
+use Rattle.cmap_binary.specs.Bundles.{IsBundle}
 use Rattle.cmap_values.specs.Only.{IsOnly, HoldsOfNone}
 use Rattle.cmap_c.specs.NamedFiles.{ExceedsBudgetOver, FitsBudgetOver, HasNoMapOver, IsMapOver, OfGiven}
 use Rattle.cmap_c.proofs.GivenBundles.{OfGiven-empty, OfGiven-some}

@@ -1,5 +1,5 @@
 use Rattle.std.proofs.Common.{◌∙◌, sym}
-use Rattle.cmap_packed.specs.BundleSeen.{tables_given}
+use Rattle.cmap_binary.specs.BundleSeen.{tables_given}
 use Rattle.cmap_load.specs.Maps.{ExceedsBudget, FitsBudget, HasNoMap, IsMapOf}
 use Rattle.cmap_c.specs.NamedFiles.{answers, bundle_in}
 use Rattle.cmap_c.proofs.StatusOfCauses.{refused}

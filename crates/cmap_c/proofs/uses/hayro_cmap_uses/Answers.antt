@@ -1,7 +1,7 @@
 use Rattle.std.proofs.Common.{◌≡◌, ◌∙◌, ◌⊎◌, ℕ, List, ap, inl, inr, refl, subst}
 use Rattle.std.specs.Prelude.{Option, option_map}
-use Rattle.cmap_packed.specs.BundleSeen.{tables_given}
-use Rattle.cmap_packed.specs.Bundles.{Bundle, PrefixTables}
+use Rattle.cmap_binary.specs.BundleSeen.{tables_given}
+use Rattle.cmap_binary.specs.Bundles.{Bundle, PrefixTables}
 use Rattle.cmap_values.specs.NamesSeen.{names_seen}
 use Rattle.cmap_values.specs.Only.{IsOnly, HoldsOfNone}
 use Rattle.cmap_load.specs.Layers.{AreUses, Means}

@@ -1,4 +1,4 @@
-use Rattle.cmap_packed.specs.BundleSeen.{tables_seen}
+use Rattle.cmap_binary.specs.BundleSeen.{tables_seen}
 use Rattle.cmap_load.proofs.FilesMeant.{binary_decided, binary_first, reads_binary, reads_text, text_decided, text_first}
 use Rattle.cmap_load.proofs.chain.read_file.Goals.{in_default-via-in-Some+else-is_marked_binary, in_default-via-in_default}
 use Rattle.cmap_load.proofs.chain.read_file.Goals as goal

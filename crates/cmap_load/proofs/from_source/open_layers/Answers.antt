@@ -1,7 +1,7 @@
 use Rattle.std.proofs.Common.{ℕ, List, inl, inr}
 use Rattle.std.specs.Prelude.{IfNone, IfSome, MatchOption, Option, Some, None}
-use Rattle.cmap_packed.specs.BundleSeen.{tables_given}
-use Rattle.cmap_packed.specs.Bundles.{PrefixTables}
+use Rattle.cmap_binary.specs.BundleSeen.{tables_given}
+use Rattle.cmap_binary.specs.Bundles.{PrefixTables}
 use Rattle.cmap_layers.specs.Layers.{Layer}
 use Rattle.cmap_load.specs.Opened.{IsIdentity, IsMapNamed, IsNoIdentity, IsUnknown}
 use Rattle.cmap_values.proofs.Outcomes.{refused_as}

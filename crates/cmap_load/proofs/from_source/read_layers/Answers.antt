@@ -1,5 +1,5 @@
 use Rattle.std.proofs.Common.{subst}
-use Rattle.cmap_packed.specs.BundleSeen.{tables_given}
+use Rattle.cmap_binary.specs.BundleSeen.{tables_given}
 use Rattle.cmap_load.specs.Loads.{Loads, tables_in}
 use Rattle.cmap_load.proofs.Loaded.{Loads-new, found}
 use Rattle.cmap_load.proofs.from_source.read_layers.Goals as goal

@@ -1,5 +1,5 @@
 use Rattle.std.proofs.Common.{◌-◌, ◌^◌, ℕ, List, Option, length}
-use Rattle.cmap_packed.specs.Bundles.{PrefixTables}
+use Rattle.cmap_binary.specs.Bundles.{PrefixTables}
 use Rattle.cmap_load.specs.Loads.{IsLoading, Loads}
 use Rattle.cmap_load.proofs.from_source.supply_all.Given as goal
 

@@ -1,7 +1,7 @@
 use Rattle.std.proofs.Common.{◌≡◌, ◌≤◌, ℕ, List, length, refl, rules, sym, ap, ◌∙◌, ◌-◌, [], ◌∷◌, inl, inr, false, true, Ok, arith, subst}
 use Rattle.std.specs.Prelude.{◌⊎◌, IfOk}
 use Rattle.std.specs.Borrow.{Bor}
-use Rattle.cmap_packed.specs.BundleSeen.{tables_given}
+use Rattle.cmap_binary.specs.BundleSeen.{tables_given}
 use Rattle.cmap_values.specs.FilesSeen.{file_seen}
 use Rattle.cmap_values.specs.NamesSeen.{names_seen}
 use Rattle.cmap_layers.specs.Layers.{layer_of}

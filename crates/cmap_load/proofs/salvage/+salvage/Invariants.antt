@@ -1,5 +1,5 @@
 use Rattle.std.proofs.Common.{◌∷◌, ◌++◌, [], false, drop, ◌+◌, ◌*◌}
-use Rattle.cmap_packed.specs.BundleSeen.{tables_given}
+use Rattle.cmap_binary.specs.BundleSeen.{tables_given}
 use Rattle.cmap_values.specs.NamesSeen.{names_seen}
 use Rattle.cmap_load.proofs.Walked.{Walked}
 use Rattle.cmap_load.proofs.salvage.+salvage.Given as goal

@@ -1,4 +1,4 @@
-use Rattle.cmap_packed.specs.BundleSeen.{tables_given}
+use Rattle.cmap_binary.specs.BundleSeen.{tables_given}
 use Rattle.cmap_load.specs.Salvage.{SalvagesMap}
 use Rattle.cmap_load.specs.SalvageSeen.{WasRead, faults_seen, listed}
 use Rattle.cmap_load.proofs.NamesPastFaults.{map_few}

@@ -1,6 +1,6 @@
 use Rattle.std.proofs.Common.{[], length, ap, subst, arith}
 use Rattle.cmap_values.proofs.Outcomes.{refuses_on}
-use Rattle.cmap_packed.specs.Fronts.{SizedAt}
+use Rattle.cmap_binary.specs.Fronts.{SizedAt}
 use Rattle.cmap_writer.specs.EncodersSeen.{encoders_seen}
 use Rattle.cmap_writer.specs.Written.{Appends, IsSized, Writes}
 use Rattle.cmap_writer.proofs.FrontsWritten.{sized_read}

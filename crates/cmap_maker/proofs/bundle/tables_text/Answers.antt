@@ -1,5 +1,5 @@
 use Rattle.std.proofs.Common.{length, ap, subst, arith}
-use Rattle.cmap_packed.specs.TableFronts.{TableAt}
+use Rattle.cmap_binary.specs.TableFronts.{TableAt}
 use Rattle.cmap_writer.specs.EncodersSeen.{encoders_seen}
 use Rattle.cmap_writer.specs.Written.{Appends, Writes}
 use Rattle.cmap_maker.proofs.BundlesWritten.{HoldsTables-written}

@@ -1,5 +1,5 @@
 use Rattle.std.proofs.Common.{◌≡◌, ◌<◌, ◌^◌, All, length, take}
-use Rattle.cmap_packed.specs.PrefixWords.{lengths_from}
+use Rattle.cmap_binary.specs.PrefixWords.{lengths_from}
 use Rattle.cmap_maker.specs.Seen.{words_seen}
 use Rattle.cmap_maker.proofs.TablesMade.{word_bits}
 use Rattle.cmap_maker.proofs.tables.counts_of.Given as goal

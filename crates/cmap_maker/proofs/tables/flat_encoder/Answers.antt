@@ -1,5 +1,5 @@
 use Rattle.std.proofs.Common.{◌≡◌, ◌∙◌, ap, length, replicate, rules, set, arith}
-use Rattle.cmap_packed.specs.PrefixWords.{lengths_from, zip_words}
+use Rattle.cmap_binary.specs.PrefixWords.{lengths_from, zip_words}
 use Rattle.cmap_maker.specs.Seen.{frequency_seen}
 use Rattle.cmap_maker.proofs.TablesMade.{flat_lengths, zip_flat}
 use Rattle.cmap_maker.proofs.tables.flat_encoder.Goals as goal

@@ -1,7 +1,7 @@
 use Rattle.std.proofs.Common.{◌≡◌, ◌∙◌, ap, false, map, subst, sym, true}
 use Rattle.std.proofs.lemmas.Result.{IfOk-weaker}
 use Rattle.std.proofs.lemmas.Simd.{map-map}
-use Rattle.cmap_packed.specs.PrefixWords.{CodeWord, lengths_from, lengths_of}
+use Rattle.cmap_binary.specs.PrefixWords.{CodeWord, lengths_from, lengths_of}
 use Rattle.cmap_maker.specs.Seen.{frequencies_seen, word_seen, words_seen}
 use Rattle.cmap_maker.specs.Tables.{filled, fits}
 use Rattle.cmap_maker.specs.declared.lengths.WordLength.{WordLength}

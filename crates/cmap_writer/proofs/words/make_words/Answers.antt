@@ -2,7 +2,7 @@ use Rattle.std.proofs.Common.{◌≤◌, ◌<◌, ◌∷◌, get_or, length, tak
 use Rattle.std.proofs.lemmas.List.{take_all}
 use Rattle.std.proofs.Math.Numerals.{add-one}
 use Rattle.std.proofs.lemmas.Result.{IfOk-from_err}
-use Rattle.cmap_packed.specs.PrefixWords.{zip_words}
+use Rattle.cmap_binary.specs.PrefixWords.{zip_words}
 use Rattle.cmap_writer.proofs.WordsMade.{AreWordsTo-push, IsSound-made, zip_words-more, no_word_more}
 use Rattle.cmap_writer.specs.declared.words.Word.{Word}
 use Rattle.cmap_writer.proofs.words.make_words.Goals as goal

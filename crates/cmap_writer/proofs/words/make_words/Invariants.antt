@@ -1,5 +1,5 @@
 use Rattle.std.proofs.Common.{◌≡◌, ◌∷◌, get_or, take}
-use Rattle.cmap_packed.specs.PrefixWords.{zip_words}
+use Rattle.cmap_binary.specs.PrefixWords.{zip_words}
 use Rattle.cmap_writer.specs.WordsHeld.{words_seen, AreWordsTo}
 use Rattle.cmap_writer.proofs.words.make_words.Given as goal
 

@@ -1,7 +1,7 @@
 use Rattle.std.proofs.Common.{◌≡◌, ◌+◌, ◌<◌, ◌++◌, get_or, length, replicate, take, ap, sym, ◌∙◌, arith}
 use Rattle.std.proofs.lemmas.List.{take_more, length-take-le}
 use Rattle.std.proofs.lemmas.Result.{IfOk-from_err}
-use Rattle.cmap_packed.specs.PrefixWords.{lengths_from}
+use Rattle.cmap_binary.specs.PrefixWords.{lengths_from}
 use Rattle.cmap_writer.proofs.TablesWritten.{lengths_from-push}
 use Rattle.cmap_writer.proofs.words.word_lengths.Goals as goal
 

@@ -1,5 +1,5 @@
 use Rattle.std.proofs.Common.{◌≡◌, take}
-use Rattle.cmap_packed.specs.PrefixWords.{lengths_from}
+use Rattle.cmap_binary.specs.PrefixWords.{lengths_from}
 use Rattle.cmap_writer.proofs.words.word_lengths.Given as goal
 
 abbrev pub invariant-loop-i : goal.invariant-loop-i

@@ -1,5 +1,5 @@
 use Rattle.std.proofs.Common.{arith, inl, inr, refl}
-use Rattle.cmap_packed.proofs.Fronts.{gives_if, gives_none, then_none, then_next, then_only}
+use Rattle.cmap_binary.proofs.Fronts.{gives_if, gives_none, then_none, then_next, then_only}
 use Rattle.cmap_binary.proofs.columns.Columns.next_range.Goals as goal
 
 pub returns-in_default-clause-next : goal.returns-in_default-clause-next

@@ -1,6 +1,6 @@
 use Rattle.std.proofs.Common.{◌∙◌, arith, inl, inr, refl}
 use Rattle.cmap_values.proofs.Outcomes.{passed_on}
-use Rattle.cmap_packed.proofs.Fronts.{gives_none, then_none, then_next}
+use Rattle.cmap_binary.proofs.Fronts.{gives_none, then_none, then_next}
 use Rattle.cmap_binary.proofs.RawCids.{entry_only}
 use Rattle.cmap_binary.proofs.entries.CidColumns.next_entry.Goals as goal
 

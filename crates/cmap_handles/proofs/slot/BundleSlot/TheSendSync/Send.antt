@@ -12,7 +12,7 @@ use Rattle.std.proofs.Crossing.{crosses, frees}
 use Rattle.std.proofs.alloc.Global.TheSendSync as heap
 use Rattle.std.specs.Prelude.{Option, None, Some}
 use Rattle.std.specs.declared.alloc.Global.{Global}
-use Rattle.cmap_packed.proofs.owned_bundle.OwnedBundle.TheSendSync as whole
+use Rattle.cmap_binary.proofs.owned_bundle.OwnedBundle.TheSendSync as whole
 use Rattle.cmap_handles.specs.Held.{held, shared_bundle}
 use Rattle.cmap_handles.specs.contracts.slot.BundleSlot.{the_row, the_type}
 

@@ -1,6 +1,6 @@
 use Rattle.std.proofs.Common.{◌∙◌, ap, ◌++◌, ◌∷◌, []}
 use Rattle.std.specs.Option.{option_copied}
-use Rattle.cmap_packed.specs.BundleSeen.{tables_given}
+use Rattle.cmap_binary.specs.BundleSeen.{tables_given}
 use Rattle.cmap_values.specs.NamesSeen.{names_seen}
 use Rattle.cmap_load.specs.Loading.{Answer, answers_seen, given}
 use Rattle.cmap_load.proofs.Begun.{begun_pushed}

@@ -2,7 +2,7 @@ use Rattle.std.proofs.Common.{◌++◌, ◌-◌, ◌/◌, ◌^◌, ◌≡◌, ap
 use Rattle.std.proofs.lemmas.List.{append_assoc, append-nil}
 use Rattle.std.proofs.lemmas.Nat.{and_mask}
 use Rattle.std.proofs.lemmas.Result.{IfOk-from_err}
-use Rattle.cmap_packed.specs.PrefixWords.{bits_of}
+use Rattle.cmap_binary.specs.PrefixWords.{bits_of}
 use Rattle.cmap_writer.proofs.BitsWritten.{bits_of-bit}
 use Rattle.cmap_writer.proofs.bits.BitWriter.push.Goals as goal
 

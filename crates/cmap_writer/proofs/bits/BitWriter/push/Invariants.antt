@@ -1,5 +1,5 @@
 use Rattle.std.proofs.Common.{◌≡◌, ◌≤◌, ◌++◌}
-use Rattle.cmap_packed.specs.PrefixWords.{bits_of}
+use Rattle.cmap_binary.specs.PrefixWords.{bits_of}
 use Rattle.cmap_writer.proofs.bits.BitWriter.push.Given as goal
 
 abbrev pub invariant-loop-left : goal.invariant-loop-left

@@ -1,6 +1,6 @@
 use Rattle.std.proofs.Common.{◌∙◌, ap, ◌++◌, ◌∷◌, [], sym, arith}
 use Rattle.std.proofs.lemmas.Result.{IfOk-from_err}
-use Rattle.cmap_packed.specs.PrefixWords.{bits, bits_of}
+use Rattle.cmap_binary.specs.PrefixWords.{bits, bits_of}
 use Rattle.cmap_writer.proofs.BitsWritten.{bit_fits, few_bits, filled, pushed}
 use Rattle.cmap_writer.proofs.bits.BitWriter.push_bit.Goals as goal
 

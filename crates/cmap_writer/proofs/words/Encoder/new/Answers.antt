@@ -1,7 +1,7 @@
 use Rattle.std.proofs.Common.{◌≡◌, ◌∙◌, length, ap, subst, sym, arith}
 use Rattle.std.specs.List.Sorted.{IsPermutation}
 use Rattle.std.proofs.lemmas.Result.{IfOk-from_err}
-use Rattle.cmap_packed.specs.PrefixWords.{AreWordLengths, lengths_from, lengths_of, zip_words}
+use Rattle.cmap_binary.specs.PrefixWords.{AreWordLengths, lengths_from, lengths_of, zip_words}
 use Rattle.cmap_writer.proofs.WordsMade.{lengths-zip_words}
 use Rattle.cmap_writer.proofs.words.Encoder.new.Goals as goal
 

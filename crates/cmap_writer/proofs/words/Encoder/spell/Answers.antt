@@ -1,8 +1,8 @@
 use Rattle.std.proofs.Common.{◌≤◌, ◌<◌, get_or, length, take, sym, subst, arith, ap}
 use Rattle.std.proofs.lemmas.Result.{IfOk-from_err}
-use Rattle.cmap_packed.proofs.BitsOfBytes.{length-bits, length-bits_of}
+use Rattle.cmap_binary.proofs.BitsOfBytes.{length-bits, length-bits_of}
 use Rattle.std.proofs.lemmas.List.{get_or_default, length-append, take_all, take_more}
-use Rattle.cmap_packed.specs.PrefixWords.{BeginWithWordsOf, bits_of}
+use Rattle.cmap_binary.specs.PrefixWords.{BeginWithWordsOf, bits_of}
 use Rattle.cmap_writer.proofs.Spelling.{IsSpelled-push, BeginWithWordsOf-spelled}
 use Rattle.cmap_writer.proofs.words.Encoder.spell.Goals as goal
 

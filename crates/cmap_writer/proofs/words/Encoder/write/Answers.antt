@@ -4,7 +4,7 @@ use Rattle.std.proofs.lemmas.Result.{IfOk-from_err, IfOk-weaker}
 use Rattle.cmap_writer.specs.Written.{bytes_of, Appends, Writes}
 use Rattle.cmap_writer.proofs.TablesWritten.{table_len, table_written}
 use Rattle.cmap_writer.proofs.FrontsWritten.{fields}
-use Rattle.cmap_packed.specs.TableFronts.{TableAt}
+use Rattle.cmap_binary.specs.TableFronts.{TableAt}
 use Rattle.cmap_writer.proofs.words.Encoder.write.Goals as goal
 
 pub returns-clause-written : goal.returns-clause-written

@@ -1,6 +1,0 @@
-use Rattle.std.proofs.Common.{◌≡◌, ◌++◌, ℕ, ◌+◌, ◌*◌, ◌≤◌, drop}
-use Rattle.cmap_packed.specs.PrefixWords.{bits, bits_of}
-use Rattle.cmap_packed.proofs.bit_queue.with_bytes.Given as goal
-
-abbrev pub invariant-loop-byte : goal.invariant-loop-byte
-invariant-loop-byte l = (held : ℕ) → held ≤ 32 → bits_of (held + 8 * l.byte-index) l.longer ++ bits (drop l.byte-index l.bytes) ≡ bits_of held l.fn.number ++ bits l.bytes

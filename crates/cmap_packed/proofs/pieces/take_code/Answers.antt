@@ -1,5 +1,0 @@
-use Rattle.cmap_packed.proofs.Fronts.{finds_under}
-use Rattle.cmap_packed.proofs.pieces.take_code.Goals as goal
-
-pub returns : goal.returns
-returns c = finds_under _ _ c.take_field.result c.in_ok-of.ensures.0 c.take_field.ensures

@@ -1,6 +1,0 @@
-use Rattle.cmap_packed.specs.Fronts.{FieldAt}
-use Rattle.cmap_packed.proofs.Fronts.{HasRow}
-use Rattle.cmap_packed.proofs.prefix.reading.take_fields.Given as goal
-
-abbrev pub invariant-loop : goal.invariant-loop
-invariant-loop l = HasRow (FieldAt l.width) l.count l.initial.text.now l.counter l.text.now l.numbers.items

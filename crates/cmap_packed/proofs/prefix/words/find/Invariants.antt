@@ -1,6 +1,0 @@
-use Rattle.cmap_packed.specs.PrefixWords.{bits_of}
-use Rattle.cmap_packed.specs.WordsByLength.{IsSearched}
-use Rattle.cmap_packed.proofs.prefix.words.find.Given as goal
-
-abbrev pub invariant-loop-i : goal.invariant-loop-i
-invariant-loop-i l = IsSearched l.counts (bits_of l.held l.number) (record { len = l.i; rank = l.rank; past = l.past })
