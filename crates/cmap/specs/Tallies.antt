@@ -1,7 +1,7 @@
 -- The counts of a run over many files.
 use Rattle.std.specs.Prelude.{◌≡◌, ◌⊎◌, Bool, true, false, ℕ, ◌<◌}
-use Rattle.cmap_escape.specs.Counts.{counted, number_seen}
-use Rattle.cmap_files.specs.Statuses as statuses
+use Rattle.cmap_io.specs.Counts.{counted, number_seen}
+use Rattle.cmap_io.specs.Statuses as statuses
 use Rattle.cmap.specs.declared.check.tally.Tally.{Tally}
 
 pub record Counts : Type 0 where

@@ -14,8 +14,8 @@ use crate::command_line::flags::{
 };
 use crate::options::Sources;
 use clap::ArgMatches;
-use cmap_files::failure::Failure;
-use cmap_files::paths::PathList;
+use cmap_io::failure::Failure;
+use cmap_io::paths::PathList;
 use cmap_sources::bases::Bases;
 use cmap_sources::reading::{Faults, Form, MOST_FAULTS, Manner};
 

@@ -1,7 +1,7 @@
 //! The character collection of a font, and the CMaps that belong to it.
 
-use cmap_files::failure::Failure;
-use cmap_files::path_text::{path_bytes, path_text};
+use cmap_io::failure::Failure;
+use cmap_io::path_text::{path_bytes, path_text};
 use cmap_sources::bases::Bases;
 use cmap_sources::maps::map_of;
 use cmap_sources::reading::Manner;

@@ -9,7 +9,7 @@ use self::flags::{
     TO_UNICODE, USE, VERIFY, VERTICAL, values_of,
 };
 use clap::{Arg, ArgAction, ArgMatches, Command};
-use cmap_files::inputs::STANDARD_INPUT;
+use cmap_io::inputs::STANDARD_INPUT;
 use std::alloc::{AllocError, Global};
 
 /// The id of files and folders.

@@ -1,8 +1,8 @@
 //! `cmap decode`: the codes of strings, with their CIDs and texts.
 
 use crate::font::{StringOptions, font_and_strings};
-use cmap_files::failure::Failure;
-use cmap_files::status::ACCEPTED;
+use cmap_io::failure::Failure;
+use cmap_io::status::ACCEPTED;
 use cmap_report::decode::{push_codes, push_json};
 use cmap_sources::bases::Bases;
 use cmap_unicode::Extractor;

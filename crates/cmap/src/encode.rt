@@ -5,9 +5,9 @@ use crate::font::{StringOptions, font_and_texts};
 use crate::strings::spelled;
 use clap::ArgMatches;
 use cmap_encode::Encoder;
-use cmap_files::failure::{Failure, fault};
-use cmap_files::path_text::push_path;
-use cmap_files::status::{ACCEPTED, REFUSED};
+use cmap_io::failure::{Failure, fault};
+use cmap_io::path_text::push_path;
+use cmap_io::status::{ACCEPTED, REFUSED};
 use cmap_report::encode::{Asked, push_pieces, push_string_json, push_string_line, string_of};
 use cmap_sources::bases::Bases;
 

@@ -2,9 +2,9 @@
 
 use crate::font::{StringOptions, font_of};
 use crate::strings::NOT_UTF8;
-use cmap_files::failure::{Failure, fault};
-use cmap_files::path_text::is_plain;
-use cmap_files::status::{ACCEPTED, REFUSED};
+use cmap_io::failure::{Failure, fault};
+use cmap_io::path_text::is_plain;
+use cmap_io::status::{ACCEPTED, REFUSED};
 use cmap_report::find::{Wanted, fault_of, push_codes, push_json};
 use cmap_sources::bases::Bases;
 use cmap_unicode::Extractor;

@@ -8,7 +8,7 @@ use crate::command_line::{arguments_of, file_of};
 use crate::options::{Sources, manner_of};
 use crate::strings::{strings_of, texts_of};
 use clap::ArgMatches;
-use cmap_files::failure::{Failure, fault, report_message};
+use cmap_io::failure::{Failure, fault, report_message};
 use cmap_report::decode::Texts;
 use cmap_sources::bases::Bases;
 use cmap_sources::maps::{map_needed, unknown_name};

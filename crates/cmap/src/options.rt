@@ -6,9 +6,9 @@ use crate::command_line::flags::{
 use crate::command_line::{arguments_of, files_of, other_of};
 use crate::strings::LISTED_STANDARD_INPUT;
 use clap::ArgMatches;
-use cmap_escape::count::Count;
-use cmap_files::failure::Failure;
-use cmap_files::inputs::STANDARD_INPUT;
+use cmap_io::count::Count;
+use cmap_io::failure::Failure;
+use cmap_io::inputs::STANDARD_INPUT;
 use cmap_sources::bases::Bases;
 use cmap_sources::reading::{Faults, Form, MOST_FAULTS, Manner};
 

@@ -5,7 +5,7 @@ use crate::command_line::flags::{BINARY, BUDGET, CMAP_NAME, CODES, FLATTEN, TEXT
 use crate::options::Sources;
 use crate::strings::listed_strings;
 use clap::ArgMatches;
-use cmap_files::failure::Failure;
+use cmap_io::failure::Failure;
 use cmap_rewrite::command::{Change, RewriteOptions, rewrite};
 use cmap_sources::bases::Bases;
 use cmap_sources::reading::{Faults, Form, MOST_FAULTS, Manner};

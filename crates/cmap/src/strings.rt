@@ -1,8 +1,8 @@
 //! Strings in hexadecimal digits, and texts.
 
-use cmap_files::failure::{Failure, fault};
-use cmap_files::inputs::{STANDARD_INPUT, needed};
-use cmap_files::path_text::is_plain;
+use cmap_io::failure::{Failure, fault};
+use cmap_io::inputs::{STANDARD_INPUT, needed};
+use cmap_io::path_text::is_plain;
 use std::str;
 
 /// The argument of `--codes` that stands for the strings of the standard input.

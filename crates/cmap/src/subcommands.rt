@@ -17,7 +17,7 @@ use crate::rewrite::Rewriting;
 use crate::text::text;
 use clap::ArgMatches;
 use cmap_bundle::command::{BundleOptions, bundle};
-use cmap_files::failure::Failure;
+use cmap_io::failure::Failure;
 use cmap_rewrite::make::{MakeOptions, make};
 use cmap_sources::bases::Bases;
 

@@ -1,8 +1,8 @@
 //! `cmap text`: the texts of strings.
 
 use crate::font::{StringOptions, font_and_strings};
-use cmap_files::failure::Failure;
-use cmap_files::status::{ACCEPTED, REFUSED};
+use cmap_io::failure::Failure;
+use cmap_io::status::{ACCEPTED, REFUSED};
 use cmap_report::decode::{push_text_json, push_text_line};
 use cmap_sources::bases::Bases;
 use cmap_unicode::Extractor;

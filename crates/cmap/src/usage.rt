@@ -2,8 +2,8 @@
 
 use crate::command_line::command;
 use clap::Error;
-use cmap_files::failure::Failure;
-use cmap_files::path_text::push_path;
+use cmap_io::failure::Failure;
+use cmap_io::path_text::push_path;
 
 /// Prints the help, the version, or the error of the arguments with the usage, and returns the exit status.
 pub(crate) fn print_usage(

@@ -1,10 +1,10 @@
 //! The files that arguments ask to be put in a bundle.
 
-use cmap_escape::count::Count;
-use cmap_files::failure::{Failure, fault, report_message};
-use cmap_files::folders::{files_in, is_folder, name_of};
-use cmap_files::inputs::{STANDARD_INPUT, needed};
-use cmap_files::path_text::is_plain;
+use cmap_io::count::Count;
+use cmap_io::failure::{Failure, fault, report_message};
+use cmap_io::folders::{files_in, is_folder, name_of};
+use cmap_io::inputs::{STANDARD_INPUT, needed};
+use cmap_io::path_text::is_plain;
 use hayro_cmap::CMapName;
 
 /// A file that is asked for.

@@ -2,9 +2,9 @@
 
 use crate::candidates::{Candidate, Candidates, is_known, report_left_out};
 use cmap_binary::is_marked_binary;
-use cmap_escape::count::Count;
-use cmap_escape::escape::{push_name, push_text};
-use cmap_files::failure::Failure;
+use cmap_io::count::Count;
+use cmap_io::escape::{push_name, push_text};
+use cmap_io::failure::Failure;
 use cmap_sources::fault_line::LineCounter;
 use cmap_sources::reading::{Faults, Input};
 use cmap_sources::refused::stop_line;

@@ -5,10 +5,10 @@ use crate::choice::{Choice, Chosen, choose};
 use crate::making::bundle_of;
 use crate::summary::push_summary;
 use crate::verify::differences;
-use cmap_files::beside::Beside;
-use cmap_files::failure::{Failure, fault};
-use cmap_files::inputs::{STANDARD_INPUT, needed};
-use cmap_files::status::{ACCEPTED, REFUSED};
+use cmap_io::beside::Beside;
+use cmap_io::failure::{Failure, fault};
+use cmap_io::inputs::{STANDARD_INPUT, needed};
+use cmap_io::status::{ACCEPTED, REFUSED};
 use hayro_cmap::Bundle;
 
 /// The parsed arguments of `cmap bundle`.

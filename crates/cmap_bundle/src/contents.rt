@@ -1,11 +1,11 @@
 //! The contents of a bundle.
 
 use cmap_binary::is_marked_binary;
-use cmap_escape::escape::{escaped_name, escaped_names, push_name};
-use cmap_escape::json::push_line;
-use cmap_escape::object::Object;
-use cmap_escape::value::Value;
-use cmap_files::failure::Failure;
+use cmap_io::escape::{escaped_name, escaped_names, push_name};
+use cmap_io::json::push_line;
+use cmap_io::object::Object;
+use cmap_io::value::Value;
+use cmap_io::failure::Failure;
 use cmap_sources::uses::uses_by_layer;
 use cmap_values::names::{KNOWN_COUNT, KNOWN_NAMES};
 use hayro_cmap::{Bundle, BundleFiles, NamedFiles};

@@ -1,6 +1,6 @@
 //! Differences between a bundle and a file that it was made from.
 
-use cmap_escape::digits::push_code;
+use cmap_io::digits::push_code;
 use hayro_cmap::{Cid, CodeLength};
 use std::alloc::AllocError;
 

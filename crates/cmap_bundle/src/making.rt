@@ -1,8 +1,8 @@
 //! The bundle of the files that are chosen.
 
 use crate::choice::Chosen;
-use cmap_escape::escape::push_text;
-use cmap_files::failure::Failure;
+use cmap_io::escape::push_text;
+use cmap_io::failure::Failure;
 use cmap_maker::{Source, Unwritable, make_named_bundle};
 use cmap_values::fault::Fault;
 use std::alloc::{AllocError, Global};

@@ -1,7 +1,7 @@
 //! The last line of `cmap bundle`.
 
 use crate::contents::{Held, absent_of, contents_of};
-use cmap_escape::escape::{push_name, push_text};
+use cmap_io::escape::{push_name, push_text};
 use hayro_cmap::Bundle;
 use std::alloc::{AllocError, Global};
 

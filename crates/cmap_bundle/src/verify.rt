@@ -2,7 +2,7 @@
 
 use crate::choice::Chosen;
 use crate::difference::{Difference, push_difference};
-use cmap_escape::escape::push_text;
+use cmap_io::escape::push_text;
 use cmap_queries::code_lengths::LENGTHS;
 use cmap_unicode::declared_cid;
 use hayro_cmap::runs::{HasRange, Looks, Range, Table};

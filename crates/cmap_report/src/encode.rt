@@ -1,13 +1,13 @@
 //! The strings that show texts.
 
 ghost use Rattle.std.specs.Prelude.{OnOk, string_bytes};
-ghost use Rattle.cmap_escape.specs.Escapes.{AddsLine, AddsOfLine};
+ghost use Rattle.cmap_io.specs.Escapes.{AddsLine, AddsOfLine};
 
 use cmap_encode::{Encoder, Grade, Piece, Unencodable};
-use cmap_escape::digits::byte_digits;
-use cmap_escape::object::Object;
-use cmap_escape::value::Value;
-use cmap_escape::{escape, json};
+use cmap_io::digits::byte_digits;
+use cmap_io::object::Object;
+use cmap_io::value::Value;
+use cmap_io::{escape, json};
 use cmap_values::fault::Fault;
 use std::alloc::{AllocError, Global};
 

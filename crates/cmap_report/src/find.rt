@@ -1,13 +1,13 @@
 //! The codes that have a CID or a text.
 
 ghost use Rattle.std.specs.Prelude.{OnOk, string_bytes};
-ghost use Rattle.cmap_escape.specs.Escapes.{AddsLine, AddsOfLine};
+ghost use Rattle.cmap_io.specs.Escapes.{AddsLine, AddsOfLine};
 
 use crate::list::line::push_range;
-use cmap_escape::digits::code_digits;
-use cmap_escape::object::Object;
-use cmap_escape::value::Value;
-use cmap_escape::{escape, json};
+use cmap_io::digits::code_digits;
+use cmap_io::object::Object;
+use cmap_io::value::Value;
+use cmap_io::{escape, json};
 use cmap_queries::arguments::decimal;
 use cmap_queries::code_lengths::{LENGTHS, fewest_bytes, has_codes, text_code_len};
 use cmap_unicode::Extractor;

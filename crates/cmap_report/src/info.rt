@@ -1,12 +1,12 @@
 //! The metadata, the codespace ranges and the numbers of declarations in the files of a map, layer by layer.
 
 ghost use Rattle.std.specs.Prelude.{OnOk, string_bytes};
-ghost use Rattle.cmap_escape.specs.Escapes.{AddsLine, AddsOfLine};
+ghost use Rattle.cmap_io.specs.Escapes.{AddsLine, AddsOfLine};
 
-use cmap_escape::digits::{code_digits, push_code};
-use cmap_escape::object::Object;
-use cmap_escape::value::Value;
-use cmap_escape::{escape, json};
+use cmap_io::digits::{code_digits, push_code};
+use cmap_io::object::Object;
+use cmap_io::value::Value;
+use cmap_io::{escape, json};
 use cmap_queries::code_lengths::LENGTHS;
 use hayro_cmap::{
     ByLength, CMap, CharacterCollection, CodeLength, Codespace, Layer, Metadata, WritingMode,

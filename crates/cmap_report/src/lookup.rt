@@ -1,12 +1,12 @@
 //! The answers of a map to queries.
 
 ghost use Rattle.std.specs.Prelude.{OnOk, string_bytes};
-ghost use Rattle.cmap_escape.specs.Escapes.{AddsLine, AddsOfLine};
+ghost use Rattle.cmap_io.specs.Escapes.{AddsLine, AddsOfLine};
 
 use crate::decode::{push_text_or_dash, text_value};
-use cmap_escape::json;
-use cmap_escape::object::Object;
-use cmap_escape::value::Value;
+use cmap_io::json;
+use cmap_io::object::Object;
+use cmap_io::value::Value;
 use cmap_queries::query::{Asked, Query};
 use hayro_cmap::CMap;
 use std::alloc::{AllocError, Global};

@@ -4,9 +4,9 @@
 use crate::filled::without_empty_texts;
 use crate::order::put_single_codes_first;
 use crate::within::cut_texts;
-use cmap_escape::digits::push_code;
-use cmap_escape::escape::push_text;
-use cmap_files::failure::Failure;
+use cmap_io::digits::push_code;
+use cmap_io::escape::push_text;
+use cmap_io::failure::Failure;
 use cmap_flatten::{Codes, Contradiction, flatten, subset};
 use cmap_queries::code_lengths::LENGTHS;
 use cmap_runs::runs::{Looks, Table};

@@ -1,9 +1,9 @@
 //! The names of the files that are written.
 
-use cmap_files::beside::STANDARD_OUTPUT;
-use cmap_files::failure::{Failure, fault};
-use cmap_files::folders::name_of;
-use cmap_files::path_text::{is_plain, path_bytes};
+use cmap_io::beside::STANDARD_OUTPUT;
+use cmap_io::failure::{Failure, fault};
+use cmap_io::folders::name_of;
+use cmap_io::path_text::{is_plain, path_bytes};
 use cmap_values::declarations::{ByLength, CidRange, Lists};
 use cmap_values::file::File;
 use cmap_values::metadata::Metadata;

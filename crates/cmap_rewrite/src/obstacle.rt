@@ -1,6 +1,6 @@
 //! The words for what a text can't express.
 
-use cmap_escape::digits::push_code;
+use cmap_io::digits::push_code;
 use cmap_queries::code_lengths::fewest_bytes;
 use cmap_text_writer::Obstacle;
 use hayro_cmap::runs::Range;

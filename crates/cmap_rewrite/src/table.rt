@@ -7,7 +7,7 @@ use self::codes::{CodePair, code_pair};
 use self::quoted::unquoted;
 use crate::collection::spelled_collection;
 use crate::shown_name::name_bytes;
-use cmap_escape::count::Count;
+use cmap_io::count::Count;
 use cmap_queries::arguments::decimal;
 use cmap_text_writer::TextLengths;
 use cmap_values::character_collection::CharacterCollection;

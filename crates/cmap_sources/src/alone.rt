@@ -6,7 +6,7 @@ use crate::format::report_format;
 use crate::reading::{Faults, Input, MOST_FAULTS, first_of};
 use crate::refused::{more_line, stop_line};
 use cmap_binary::{is_marked_binary, read_binary, salvage_binary};
-use cmap_files::failure::Failure;
+use cmap_io::failure::Failure;
 use cmap_text::{read_text, salvage_text};
 use cmap_values::fault::{Fault, Stop};
 use cmap_values::file::{File, Salvaged};

@@ -1,15 +1,15 @@
 //! Bases: the files that other files use, by their names. A base is read only if a file uses the base.
 
-ghost use Rattle.cmap_files.specs.BytesSeen.{bytes_seen};
+ghost use Rattle.cmap_io.specs.BytesSeen.{bytes_seen};
 
 use crate::search::Search;
-use cmap_files::failure::Failure;
-use cmap_files::file_bytes::FileBytes;
-use cmap_files::file_names::file_name;
-use cmap_files::folders::{files_in, is_folder, name_of, why_no_folder};
-use cmap_files::inputs::{read, report_unreadable, unreadable};
-use cmap_files::path_text::path_bytes;
-use cmap_files::status::{ACCEPTED, FAILED};
+use cmap_io::failure::Failure;
+use cmap_io::file_bytes::FileBytes;
+use cmap_io::file_names::file_name;
+use cmap_io::folders::{files_in, is_folder, name_of, why_no_folder};
+use cmap_io::inputs::{read, report_unreadable, unreadable};
+use cmap_io::path_text::path_bytes;
+use cmap_io::status::{ACCEPTED, FAILED};
 use hayro_cmap::{Bundle, BundleFiles, CMap, NamedFile, NamedFiles, Source, identity_text};
 use std::alloc::{AllocError, Global};
 use std::collections::BTreeMap;

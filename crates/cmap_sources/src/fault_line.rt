@@ -3,7 +3,7 @@
 ghost use Rattle.std.specs.Prelude.{◌≡◌};
 ghost use Rattle.cmap_sources.specs.LineEnds.{line_ends};
 
-use cmap_escape::count::Count;
+use cmap_io::count::Count;
 
 /// The number of lines that end in these bytes. A line ends with LF, CR, or CR and LF. If the bytes follow a carriage
 /// return, a line feed at their start ends no further line.

@@ -1,7 +1,7 @@
 //! Files of other formats, by their first bytes.
 
 use cmap_binary::is_marked_binary;
-use cmap_files::failure::{Failure, fault, report_message};
+use cmap_io::failure::{Failure, fault, report_message};
 use hayro_cmap::Bundle;
 use std::alloc::{AllocError, Global};
 

@@ -3,11 +3,11 @@
 use crate::bases::Bases;
 use crate::format::report_format;
 use crate::reading::{Input, Manner, read_over};
-use cmap_files::failure::{Failure, fault};
-use cmap_files::file_bytes::FileBytes;
-use cmap_files::folders::{is_file, is_folder, why_no_file};
-use cmap_files::inputs::{STANDARD_INPUT, needed, unreadable};
-use cmap_files::path_text::path_bytes;
+use cmap_io::failure::{Failure, fault};
+use cmap_io::file_bytes::FileBytes;
+use cmap_io::folders::{is_file, is_folder, why_no_file};
+use cmap_io::inputs::{STANDARD_INPUT, needed, unreadable};
+use cmap_io::path_text::path_bytes;
 use hayro_cmap::{CMap, Fault, identity_text};
 
 /// A file that is read, with its map.

@@ -3,7 +3,7 @@
 use crate::bases::{Bases, Files, ReadBases};
 use crate::fault_line::LineCounter;
 use crate::refused::{more_json, more_line, push_refusal_json, push_refusal_line};
-use cmap_files::failure::Failure;
+use cmap_io::failure::Failure;
 use hayro_cmap::{CMap, Cause, Fault, Refusal, SalvagedMap};
 use std::alloc::{AllocError, Global};
 

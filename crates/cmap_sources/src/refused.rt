@@ -3,10 +3,10 @@
 use crate::fault_line::LineCounter;
 use crate::reading::{Faults, Input};
 use cmap_binary::is_marked_binary;
-use cmap_escape::escape::{escaped_names, push_name, push_text};
-use cmap_escape::json::push_value;
-use cmap_escape::object::Object;
-use cmap_escape::value::Value;
+use cmap_io::escape::{escaped_names, push_name, push_text};
+use cmap_io::json::push_value;
+use cmap_io::object::Object;
+use cmap_io::value::Value;
 use cmap_lint::read_as::ReadAs;
 use hayro_cmap::token::Scanner;
 use hayro_cmap::{Bundle, Cause, NamedFile, NamedFiles, Reason, Refusal, Stop};

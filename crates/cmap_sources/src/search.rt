@@ -1,8 +1,8 @@
 //! Folders in which a name is looked up if neither a base nor a file of the bundle has the name.
 
-use cmap_files::failure::{Failure, fault};
-use cmap_files::file_names::file_name;
-use cmap_files::folders::{add_with_subfolders, is_regular_file};
+use cmap_io::failure::{Failure, fault};
+use cmap_io::file_names::file_name;
+use cmap_io::folders::{add_with_subfolders, is_regular_file};
 use std::alloc::{AllocError, Global};
 use std::collections::BTreeSet;
 use std::env::{self, VarError};

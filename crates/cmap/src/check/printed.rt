@@ -1,12 +1,12 @@
 //! The printed forms of warnings: lines for people, and JSON objects.
 
 ghost use Rattle.std.specs.Prelude.{OnOk, string_bytes};
-ghost use Rattle.cmap_escape.specs.Escapes.{AddsLine, AddsOfLine};
+ghost use Rattle.cmap_io.specs.Escapes.{AddsLine, AddsOfLine};
 
-use cmap_escape::digits::{byte_digits, code_digits, push_code};
-use cmap_escape::object::Object;
-use cmap_escape::value::Value;
-use cmap_escape::{escape, json};
+use cmap_io::digits::{byte_digits, code_digits, push_code};
+use cmap_io::object::Object;
+use cmap_io::value::Value;
+use cmap_io::{escape, json};
 use cmap_lint::finding::{Finding, Place};
 use cmap_lint::warning::Warning;
 use cmap_queries::code_lengths::printed_len;

@@ -1,7 +1,7 @@
 //! The progress of a run over many files.
 
-use cmap_escape::count::Count;
-use cmap_files::failure::Failure;
+use cmap_io::count::Count;
+use cmap_io::failure::Failure;
 use std::io::{self, IsTerminal};
 
 /// The number of cells of the bar.

@@ -1,11 +1,11 @@
 //! The numbers of files that a run checks, refuses or can't read.
 
 ghost use Rattle.std.specs.Prelude.{◌≡◌};
-ghost use Rattle.cmap_escape.specs.Counts.{number_seen};
+ghost use Rattle.cmap_io.specs.Counts.{number_seen};
 ghost use Rattle.cmap.specs.Tallies.{IsStatus, none_but, tally_seen, with_file, with_unreadable};
 
-use cmap_escape::count::Count;
-use cmap_files::status::{ACCEPTED, FAILED, REFUSED};
+use cmap_io::count::Count;
+use cmap_io::status::{ACCEPTED, FAILED, REFUSED};
 use std::io;
 
 /// The counts of a run over many files.

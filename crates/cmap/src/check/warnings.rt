@@ -2,9 +2,9 @@
 
 use crate::check::printed::{push_finding, push_json};
 use cmap_binary::is_marked_binary;
-use cmap_files::failure::{Failure, fault};
-use cmap_files::folders::name_of;
-use cmap_files::inputs::STANDARD_INPUT;
+use cmap_io::failure::{Failure, fault};
+use cmap_io::folders::name_of;
+use cmap_io::inputs::STANDARD_INPUT;
 use cmap_lint::finding::Finding;
 use cmap_lint::lint::{Subject, findings_of, nothing_declared};
 use cmap_lint::warning::Warning;

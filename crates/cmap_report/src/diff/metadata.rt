@@ -2,9 +2,9 @@
 
 use crate::diff::Side;
 use crate::info::{mode_name, push_collection};
-use cmap_escape::escape::push_name;
-use cmap_escape::json;
-use cmap_escape::object::Object;
+use cmap_io::escape::push_name;
+use cmap_io::json;
+use cmap_io::object::Object;
 use hayro_cmap::{CMap, CharacterCollection, Layers, WritingMode};
 use std::alloc::{AllocError, Global};
 

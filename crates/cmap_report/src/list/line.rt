@@ -1,14 +1,14 @@
 //! The lines of `cmap list`: declarations, or the values of consecutive codes.
 
 ghost use Rattle.std.specs.Prelude.{OnOk, string_bytes};
-ghost use Rattle.cmap_escape.specs.Escapes.{AddsLine, AddsOfLine};
+ghost use Rattle.cmap_io.specs.Escapes.{AddsLine, AddsOfLine};
 
 use crate::diff::Side;
-use cmap_escape::digits::{code_digits, push_code};
-use cmap_escape::escape::push_quoted;
-use cmap_escape::json;
-use cmap_escape::object::Object;
-use cmap_escape::value::Value;
+use cmap_io::digits::{code_digits, push_code};
+use cmap_io::escape::push_quoted;
+use cmap_io::json;
+use cmap_io::object::Object;
+use cmap_io::value::Value;
 use cmap_queries::code_lengths::{printed_len, text_code_len};
 use cmap_queries::texts::text_string;
 use hayro_cmap::runs::Range;

@@ -1,7 +1,7 @@
 //! The metadata of a layer, as comments over its lines. `cmap make` reads them.
 
 use crate::info::{mode_name, push_collection};
-use cmap_escape::escape::push_name;
+use cmap_io::escape::push_name;
 use hayro_cmap::{CharacterCollection, Metadata};
 use std::alloc::AllocError;
 

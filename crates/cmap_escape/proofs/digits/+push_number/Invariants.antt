@@ -1,4 +1,0 @@
-use Rattle.cmap_escape.proofs.digits.+push_number.Given as goal
-
-abbrev pub decreases-push_number : goal.decreases-push_number
-decreases-push_number l = l.number

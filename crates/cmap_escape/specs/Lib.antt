@@ -1,5 +1,0 @@
-pub mod Counts
-pub mod Escapes
-pub mod Json
-pub mod Shown
-pub mod Values

@@ -1,2 +1,0 @@
-mod Absent
-mod PathsTaken

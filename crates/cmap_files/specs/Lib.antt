@@ -1,5 +1,0 @@
-pub mod BytesSeen
-pub mod Failures
-pub mod FileNames
-pub mod PathTexts
-pub mod Statuses

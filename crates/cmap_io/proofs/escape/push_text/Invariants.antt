@@ -1,0 +1,8 @@
+use Rattle.std.proofs.Common.{◌≡◌, ◌++◌, string_bytes}
+use Rattle.std.specs.List.{flat_map}
+use Rattle.cmap_io.specs.Shown.{AddsShown, character_shown}
+use Rattle.cmap_io.proofs.escape.push_text.Given as goal
+
+abbrev pub invariant-loop-character : goal.invariant-loop-character
+invariant-loop-character l = AddsShown (string_bytes l.initial.out) (string_bytes l.out)
+    × (string_bytes l.out ≡ string_bytes l.initial.out ++ flat_map character_shown l.yielded)

@@ -1,0 +1,10 @@
+pub mod Counts
+pub mod Escapes
+pub mod Json
+pub mod Shown
+pub mod Values
+pub mod BytesSeen
+pub mod Failures
+pub mod FileNames
+pub mod PathTexts
+pub mod Statuses
