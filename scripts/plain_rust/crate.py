@@ -21,12 +21,12 @@ LICENSES = ["LICENSE-APACHE", "LICENSE-MIT", "LICENSE-UNICODE"]
 OF_KIT = {name: f"crate::fallible::{name}" for name in ("itoa", "ucd_normal")}
 README = "README.md"
 # the crates that together use all crates of the reader
-READER = ["hayro_cmap", "cmap_encode", "cmap_unicode", "cmap_flatten", "cmap_lint", "cmap_text_writer", "cmap_tidy"]
+READER = ["hayro_cmap", "cmap_encode", "cmap_unicode", "cmap_edit", "cmap_lint", "cmap_text_writer"]
 # the tests by rows of data and the tests of inner modules; rows for a program need the library of its queries
 TESTS = TOP / "tests"
 QUERIES = "cmap_queries"
 # crates outside the reader that tests of modules need
-TESTED = ["cmap_diff", "cmap_maker", "cmap_writer"]
+TESTED = ["cmap_maker", "cmap_writer"]
 # functions of lookups that Rust inlines only with an attribute; this replaces other such attributes
 INLINED = {
     "cmap_c/src/cids.rt": ["hayro_cmap_cid", "hayro_cmap_cid_strict"],

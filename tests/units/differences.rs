@@ -1,8 +1,8 @@
 //! The codes at which two maps differ.
 
-use super::cmap_diff::{cid_differences, first_cid_difference, text_differences};
 use super::map_over;
 use crate::fallible::alloc::Global;
+use crate::reader::cmap_edit::diff::{cid_differences, first_cid_difference, text_differences};
 use crate::reader::{CMap, Cids, CodeLength};
 use alloc::vec::Vec;
 

@@ -2,7 +2,7 @@
 
 use super::{cids_of, map_over};
 use crate::fallible::alloc::Global;
-use crate::reader::cmap_flatten::{Codes, Contradiction, flatten, subset};
+use crate::reader::cmap_edit::flatten::{Codes, Contradiction, flatten, subset};
 use crate::reader::cmap_values::file::File;
 use crate::reader::runs::Range;
 use crate::reader::{CMap, CodeLength, Fault};

@@ -3,8 +3,6 @@
 //! `scripts/plain-rust` adds the crates that only programs of the project use.
 
 #[allow(clippy::all, dead_code, unused_imports)]
-mod cmap_diff;
-#[allow(clippy::all, dead_code, unused_imports)]
 mod cmap_maker;
 #[allow(clippy::all, dead_code, unused_imports)]
 mod cmap_writer;

@@ -3,7 +3,7 @@
 use super::cids_of;
 use crate::fallible::alloc::Global;
 use crate::reader::cmap_text::read_text;
-use crate::reader::cmap_tidy::tidy;
+use crate::reader::cmap_edit::tidy::tidy;
 use crate::reader::cmap_values::file::File;
 use alloc::vec::Vec;
 

@@ -4,7 +4,7 @@ use crate::builder::{CMapBuilder, Codes, Collection, Declaration, Given};
 use crate::fallible::Vec;
 use crate::fallible::alloc::{AllocError, Global};
 use crate::metadata::WritingMode;
-use crate::reader::cmap_flatten;
+use crate::reader::cmap_edit::flatten;
 use crate::reader::cmap_text_writer::TextLengths;
 use crate::reader::cmap_values::declarations::Lists;
 use crate::reader::cmap_values::file::File;
@@ -51,8 +51,8 @@ impl Declaration {
 
 impl Given {
     /// Adds that these codes have it.
-    fn add_to(&self, lists: &mut Lists, codes: cmap_flatten::Codes) -> Result<(), AllocError> {
-        let cmap_flatten::Codes { len, range } = codes;
+    fn add_to(&self, lists: &mut Lists, codes: flatten::Codes) -> Result<(), AllocError> {
+        let flatten::Codes { len, range } = codes;
         match self {
             Given::Codespace => {
                 lists.add_codespace(Codespace { len, low: range.start, high: range.end })
@@ -69,9 +69,9 @@ impl Given {
 
 impl Codes {
     /// The codes; `None` where they have no length of 1 to 4 bytes.
-    pub(crate) fn reader(&self) -> Option<cmap_flatten::Codes> {
+    pub(crate) fn reader(&self) -> Option<flatten::Codes> {
         let len = CodeLength::of(self.byte_len)?;
-        Some(cmap_flatten::Codes { len, range: Range { start: self.first, end: self.last } })
+        Some(flatten::Codes { len, range: Range { start: self.first, end: self.last } })
     }
 }
 

@@ -13,15 +13,14 @@
 
 pub(crate) mod cmap_binary;
 pub(crate) mod cmap_codespaces;
+pub(crate) mod cmap_edit;
 pub(crate) mod cmap_encode;
-pub(crate) mod cmap_flatten;
 pub(crate) mod cmap_layers;
 pub(crate) mod cmap_lint;
 pub(crate) mod cmap_load;
 pub(crate) mod cmap_runs;
 pub(crate) mod cmap_text;
 pub(crate) mod cmap_text_writer;
-pub(crate) mod cmap_tidy;
 pub(crate) mod cmap_tokens;
 pub(crate) mod cmap_unicode;
 pub(crate) mod cmap_values;

@@ -5,9 +5,9 @@ use crate::fallible::alloc::{AllocError, Global};
 use crate::made;
 use crate::map::CMap;
 use crate::reader::Fault;
-use crate::reader::cmap_flatten::{flatten, subset};
+use crate::reader::cmap_edit::flatten::{flatten, subset};
+use crate::reader::cmap_edit::tidy::tidy;
 use crate::reader::cmap_text_writer::{TextLengths, write_text_by};
-use crate::reader::cmap_tidy::tidy;
 use crate::reader::cmap_values::file::File;
 use alloc::vec::Vec;
 

@@ -10,7 +10,7 @@ use Rattle.cmap_handles.specs.Statuses.{number}
 use Rattle.cmap_handles.specs.declared.status.Status.TheVariants.{NoMemory, Refused}
 use Rattle.cmap_text_writer.specs.Obstacles.{NoTextSays}
 use Rattle.cmap_text_writer.specs.Written.{IsWritten}
-use Rattle.cmap_tidy.specs.Tidied.{IsTidied}
+use Rattle.cmap_edit.specs.Tidied.{IsTidied}
 use Rattle.cmap_c_writer.specs.Given.{file_given, text_lengths_given}
 use Rattle.cmap_c_writer.specs.declared.declaration.Declaration.{Declaration}
 use Rattle.cmap_c_writer.specs.declared.facts.Facts.{Facts}

@@ -1,8 +1,8 @@
 -- The text of a map that is written as one file.
 use Rattle.std.specs.Prelude.{◌≡◌, ◌⊎◌, ℕ, List, [], ◌∷◌, Any, None, map}
-use Rattle.cmap_flatten.specs.Subsets.{Contradicts, IsContradiction, IsFlat, IsSubset}
-use Rattle.cmap_flatten.specs.declared.answers.Contradiction.{Contradiction}
-use Rattle.cmap_flatten.specs.declared.codes.Codes.{Codes}
+use Rattle.cmap_edit.specs.Subsets.{Contradicts, IsContradiction, IsFlat, IsSubset}
+use Rattle.cmap_edit.specs.declared.flatten.answers.Contradiction.{Contradiction}
+use Rattle.cmap_edit.specs.declared.flatten.codes.Codes.{Codes}
 use Rattle.cmap_layers.specs.Layers.{Layer}
 use Rattle.cmap_text_writer.specs.Lengths.{length_by}
 use Rattle.cmap_text_writer.specs.Obstacles.{NoTextSays}

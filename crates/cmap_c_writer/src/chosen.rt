@@ -7,7 +7,7 @@ ghost use Rattle.cmap_c_writer.specs.Whole.{chosen_seen};
 
 use crate::code_lengths::code_length;
 use crate::written::NoText;
-use cmap_flatten::Codes;
+use cmap_edit::flatten::Codes;
 use cmap_values::fault::Fault;
 use cmap_values::range::Range;
 use std::alloc::Global;

@@ -8,7 +8,7 @@ use crate::facts::Facts;
 use crate::file::file_of;
 use crate::text_lengths::text_lengths;
 use crate::written::{NoText, put_text, text_of};
-use cmap_tidy::tidy;
+use cmap_edit::tidy::tidy;
 use cmap_values::fault::Fault;
 use std::alloc::Global;
 

@@ -7,12 +7,12 @@ ghost use Rattle.cmap_values.specs.FilesSeen.{file_seen};
 ghost use Rattle.cmap_values.specs.Outcomes.{Outcome};
 ghost use Rattle.cmap_c_writer.specs.Made.{PutsText};
 ghost use Rattle.cmap_c_writer.specs.Whole.{AnswersFor, AnswersForChosen, HasNoFile, HasNoFileOfChosen, HasNoWrittenText, IsWrittenText};
-ghost use Rattle.cmap_flatten.specs.Subsets.{IsFlat};
+ghost use Rattle.cmap_edit.specs.Subsets.{IsFlat};
 ghost use Rattle.cmap_c_writer.specs.Whole.{HasNoFlatFile};
 
 use crate::chosen::{ChosenCodes, chosen_codes};
 use crate::written::{NoText, put_text, text_of};
-use cmap_flatten::{flatten, subset};
+use cmap_edit::flatten::{flatten, subset};
 use cmap_handles::handle::MapHandle;
 use cmap_handles::status::Status;
 use cmap_layers::layers::Layers;

@@ -5,7 +5,7 @@ pub mod metadata;
 
 use self::codespaces::add_codespaces;
 use crate::list::line::{Given, Line, Place, add_texts_of, push_json, push_line};
-use cmap_diff::{CidDifference, TextDifference, cid_differences, text_differences};
+use cmap_edit::diff::{CidDifference, TextDifference, cid_differences, text_differences};
 use cmap_queries::code_lengths::LENGTHS;
 use hayro_cmap::runs::Range;
 use hayro_cmap::{BfRange, CMap, Cids, CodeLength, Layer};

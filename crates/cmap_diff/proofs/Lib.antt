@@ -1,6 +1,0 @@
-pub mod CidsGrow
-pub mod Growing
-pub mod Patterns
-pub mod TextsAlike
-pub mod TextsGrow
-pub mod TextsInRow

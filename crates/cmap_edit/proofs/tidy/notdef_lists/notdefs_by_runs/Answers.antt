@@ -1,0 +1,39 @@
+use Rattle.std.proofs.Common.{◌+◌, ap, ◌∙◌, sym, subst, arith}
+use Rattle.std.specs.Option.{option_copied}
+use Rattle.cmap_layers.specs.Lookups.{cid_span}
+use Rattle.cmap_values.specs.DeclarationsSeen.{cid_entry_seen, entries_seen}
+use Rattle.cmap_edit.specs.Tidy.{AreTidyNotdefs, notdef_at}
+use Rattle.cmap_edit.specs.TidyAdded.{SaysSoFar}
+use Rattle.cmap_edit.proofs.SaidSoFar.{added_on, passed_over, said_by}
+use Rattle.cmap_edit.proofs.tidy.notdef_lists.notdefs_by_runs.Goals as goal
+use Rattle.cmap_edit.proofs.tidy.notdef_lists.notdefs_by_runs.Goals.{in-Some-declaration+in_ok-push_notdefs, in_default-declaration}
+
+pub loop-next-preserved : goal.loop-next-preserved
+loop-next-preserved c =
+    let entries = entries_seen c.args.table.now in let last = c.in-Some.stretch.last in let next = c.loop-next.next in let old = c.loop-next.invariant in
+    let within = c.in-Some.ensures.within in let list = c.match-stretch.list in
+    let made : AreTidyNotdefs (entries_seen list.items) × SaysSoFar cid_span notdef_at entries (last + 1) (entries_seen list.items) =
+    elim c.match-stretch.branch [
+      | in-Some-declaration+in_ok-push_notdefs w ↦
+          let says = said_by cid_entry_seen cid_span notdef_at c.loop-next.stretches.declarations c.args.table.now c.loop-next.stretches.next next last _ _
+          old.declarations old.next (ap option_copied w.in-Some-declaration.is) c.in-Some.ensures.same in
+          let pushed = w.in_ok-push_notdefs.ensures in
+          subst (λ l. AreTidyNotdefs (entries_seen l.items) × SaysSoFar cid_span notdef_at entries (last + 1) (entries_seen l.items)) (sym w.list-is) (
+            pushed.tidy,
+            added_on cid_span notdef_at entries next last _ _ (λ code. w.in-Some-declaration.declaration.now.cid) old.so_far pushed.said pushed.last
+                says,
+          )
+      | in_default-declaration w ↦
+          let says = said_by cid_entry_seen cid_span notdef_at c.loop-next.stretches.declarations c.args.table.now c.loop-next.stretches.next next last _ _
+          old.declarations old.next (ap option_copied w.in_default-declaration.is) c.in-Some.ensures.same in
+          subst (λ l. AreTidyNotdefs (entries_seen l.items) × SaysSoFar cid_span notdef_at entries (last + 1) (entries_seen l.items)) (sym w.list-is)
+          (old.tidy, passed_over cid_span notdef_at entries next last _ old.so_far (omega (arith, within)) says)
+    ]
+    in
+    record {
+      declarations = c.in-Some.ensures.declarations ∙ old.declarations;
+      next = omega (arith, c.in-Some.ensures.next);
+      fits = omega (arith, within);
+      tidy = made.0;
+      so_far = subst (λ end. SaysSoFar cid_span notdef_at entries (end + 1) (entries_seen list.items)) (sym c.from-next.ensures) made.1;
+    }

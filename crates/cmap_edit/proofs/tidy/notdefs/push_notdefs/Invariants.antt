@@ -1,0 +1,18 @@
+use Rattle.std.proofs.Common.{◌+◌, ◌-◌, ◌<◌, ◌≤◌}
+use Rattle.std.specs.Prelude.{All}
+use Rattle.cmap_values.specs.DeclarationsSeen.{entries_seen}
+use Rattle.cmap_edit.specs.Tidy.{AreTidyNotdefs, notdef_said}
+use Rattle.cmap_edit.specs.TidyAdded.{IsSaidTo}
+use Rattle.cmap_edit.proofs.tidy.notdefs.push_notdefs.Given as goal
+
+abbrev pub invariant-loop-next : goal.invariant-loop-next
+invariant-loop-next l = record {
+  tidy : AreTidyNotdefs (entries_seen l.list.items);
+  before : All (λ e. e.end < l.next) (entries_seen l.list.items);
+  from : l.range.start ≤ l.next;
+  to : l.next ≤ l.end + 1;
+  said : IsSaidTo l.range.start l.next (λ code. l.cid) (notdef_said (entries_seen l.fn.list.items)) (notdef_said (entries_seen l.list.items));
+}
+
+abbrev pub decreases-loop-next : goal.decreases-loop-next
+decreases-loop-next l = l.end + 1 - l.next

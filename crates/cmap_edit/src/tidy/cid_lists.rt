@@ -1,0 +1,68 @@
+//! Lists of CIDs, written anew as tidy lists.
+
+ghost use Rattle.std.specs.Prelude.{◌≡◌, ◌≤◌, None, IfOk, MatchOption};
+ghost use Rattle.cmap_layers.specs.Lookups.{cid_at};
+ghost use Rattle.cmap_values.specs.DeclarationsSeen.{cid_entry_seen, entries_seen};
+ghost use Rattle.cmap_edit.specs.Tidied.{AreTidiedCids, SaysNone, SaysTheSame};
+ghost use Rattle.cmap_edit.specs.Tidy.{AreTidyCids, cid_said};
+ghost use Rattle.cmap_edit.specs.TidyAdded.{GivesCids};
+
+use crate::tidy::cids::push_cids;
+use crate::tidy::copies::copied_cids;
+use cmap_runs::runs::{Looks, Table};
+use cmap_values::declarations::CidRange;
+use cmap_values::names::Cid;
+use cmap_values::range::Range;
+use std::alloc::{AllocError, Global};
+
+/// The tidy list that says the same; or, where a CID passes 32 bits, the list as it is.
+pub(crate) fn tidied_cids(alloc: Global, list: &[CidRange]) -> Result<Vec<CidRange>, AllocError>
+    ensures { IfOk result (λ tidied. AreTidiedCids (entries_seen list.now) (entries_seen tidied.items)) }
+{
+    let table = Table::build(alloc, copied_cids(alloc, list)?)?;
+    match cids_by_runs(alloc, &table)? {
+        Some(tidied) => Ok(tidied),
+        None => copied_cids(alloc, list),
+    }
+}
+
+/// The tidy list that says the same, run by run; `None` where a CID passes 32 bits.
+fn cids_by_runs(alloc: Global, table: &Table<CidRange>) -> Result<Option<Vec<CidRange>>, AllocError>
+    ensures { IfOk result (λ tidied. MatchOption tidied (SaysNone (cid_said (entries_seen table.now)))
+        (λ list. AreTidyCids (entries_seen list.items)
+        × SaysTheSame (cid_said (entries_seen table.now)) (cid_said (entries_seen list.items)))) }
+{
+    let mut looks = Looks::new();
+    let mut list = Vec::new(alloc);
+    let mut stretches = table.stretches(0, &mut looks);
+    let mut next: u64 = 0;
+    while let Some(stretch) = stretches.next(&mut looks) {
+        if let Some(declaration) = stretch.declaration {
+            let range = Range {
+                start: next as u32,
+                end: stretch.last,
+            };
+            let Some(cid) = first_cid(declaration, &range) else {
+                return Ok(None);
+            };
+            push_cids(&mut list, range, cid)?;
+        }
+        next = u64::from(stretch.last) + 1;
+    }
+    Ok(Some(list))
+}
+
+/// The CID of the first code of a range, which the declaration contains; `None` where that of the last one
+/// passes 32 bits.
+fn first_cid(declaration: &CidRange, range: &Range) -> Option<Cid>
+    requires starts { declaration.now.range.start ≤ range.now.start }
+    requires filled { range.now.start ≤ range.now.end }
+    ensures { MatchOption result (cid_at (cid_entry_seen declaration.now) range.now.end ≡ None)
+        (λ cid. GivesCids (cid_entry_seen declaration.now) range.now cid) }
+{
+    let cid = declaration
+        .cid
+        .checked_add(range.start - declaration.range.start)?;
+    cid.checked_add(range.end - range.start)?;
+    Some(cid)
+}

@@ -1,0 +1,75 @@
+//! CIDs of codes, put into tidy lists.
+
+ghost use Rattle.std.specs.Prelude.{◌≡◌, ◌↔◌, ℕ, ◌+◌, ◌-◌, ◌<◌, ◌≤◌, ◌^◌, All, IsTrue, OnErr, OnOk, Some};
+ghost use Rattle.cmap_values.specs.DeclarationsSeen.{cid_entry_seen, entries_seen};
+ghost use Rattle.cmap_edit.specs.Tidy.{AreTidyCids, CouldBeOneCid, IsCidRow, IsSaidInPart, cid_said, said_with};
+ghost use Rattle.cmap_edit.specs.TidyAdded.{AddsCidRow};
+
+use crate::tidy::rows::row_end;
+use cmap_values::declarations::CidRange;
+use cmap_values::names::Cid;
+use cmap_values::range::Range;
+use std::alloc::AllocError;
+
+/// Adds codes, with CIDs that count on from `cid`, to a tidy list all of whose codes come before them.
+///
+/// A declaration is added for each row of 256 codes, so for up to 2^24 rows. Where the first row goes on
+/// from the last declaration of the list, the two are one.
+///
+/// It fails only if memory runs out. The list is tidy then, too, and may have the first of the codes.
+pub fn push_cids(list: &mut Vec<CidRange>, range: Range, cid: Cid) -> Result<(), AllocError>
+    requires tidy { AreTidyCids (entries_seen list.now.items) }
+    requires after { All (λ e. e.end < range.start) (entries_seen list.now.items) }
+    requires counts { (range.start ≤ range.end) × (cid + (range.end - range.start) < 2 ^ 32) }
+    ensures tidy { OnOk result (AreTidyCids (entries_seen list.new.items)) }
+    ensures said { OnOk result ((code : ℕ) → cid_said (entries_seen list.new.items) code
+        ≡ said_with range (λ code. Some (cid + (code - range.start))) (cid_said (entries_seen list.old.items)) code) }
+    ensures last { OnOk result (All (λ e. e.end ≤ range.end) (entries_seen list.new.items)) }
+    ensures err { OnErr result (AreTidyCids (entries_seen list.new.items)) }
+    ensures kept { OnErr result (IsSaidInPart range (λ code. Some (cid + (code - range.start)))
+        (cid_said (entries_seen list.old.items)) (cid_said (entries_seen list.new.items))) }
+{
+    let end = u64::from(range.end);
+    let mut next = u64::from(range.start);
+    while next <= end {
+        let start = next as u32;
+        let row = Range {
+            start,
+            end: row_end(start, range.end),
+        };
+        next = u64::from(row.end) + 1;
+        let cid = cid + (start - range.start);
+        add_row(list, CidRange { range: row, cid })?;
+    }
+    Ok(())
+}
+
+/// Adds a declaration for codes of a row. Where it goes on from the last one, the two are one.
+fn add_row(list: &mut Vec<CidRange>, row: CidRange) -> Result<(), AllocError>
+    requires tidy { AreTidyCids (entries_seen list.now.items) }
+    requires after { All (λ e. e.end < row.range.start) (entries_seen list.now.items) }
+    requires row { IsCidRow (cid_entry_seen row) }
+    ensures added { OnOk result (AddsCidRow (entries_seen list.old.items) (cid_entry_seen row) (entries_seen list.new.items)) }
+    ensures same { OnErr result (list.new.items ≡ list.old.items) }
+{
+    if let Some(last) = list.last_mut() {
+        if could_be_one(last, &row) {
+            last.range.end = row.range.end;
+            return Ok(());
+        }
+    }
+    list.push(row)?;
+    Ok(())
+}
+
+/// Whether one declaration could say what two say, of which one comes later.
+fn could_be_one(entry: &CidRange, later: &CidRange) -> bool
+    requires row { IsCidRow (cid_entry_seen entry.now) }
+    requires after { entry.now.range.end < later.now.range.start }
+    ensures { IsTrue result ↔ CouldBeOneCid (cid_entry_seen entry.now) (cid_entry_seen later.now) }
+{
+    let offset = later.range.start - entry.range.start;
+    entry.range.end == later.range.start - 1
+        && entry.range.start / 256 == later.range.start / 256
+        && u64::from(entry.cid) + u64::from(offset) == u64::from(later.cid)
+}

@@ -1,0 +1,135 @@
+//! Texts of codes, put into tidy lists.
+
+ghost use Rattle.std.specs.Prelude.{◌≡◌, ◌↔◌, ℕ, ◌+◌, ◌-◌, ◌/◌, ◌<◌, ◌≤◌, ◌^◌, All, IfOk, IsTrue, OnErr, OnOk, Some, length, map};
+ghost use Rattle.cmap_tokens.specs.Texts.{shifted};
+ghost use Rattle.cmap_values.specs.DeclarationsSeen.{bf_entry_seen};
+ghost use Rattle.cmap_values.specs.UnitsSeen.{units_seen};
+ghost use Rattle.cmap_edit.specs.Tidy.{AreTidyTexts, CouldBeOneText, IsSaidInPart, IsTextRow, last_unit, said_with, units_said};
+ghost use Rattle.cmap_edit.specs.TidyAdded.{AddsTextRow};
+
+use crate::tidy::rows::row_end;
+use cmap_values::declarations::BfRange;
+use cmap_values::range::Range;
+use cmap_values::units::Units;
+use std::alloc::{AllocError, Global};
+
+/// Adds codes to a tidy list all of whose codes come before them. The first code has the text of these
+/// units, and the last unit counts on from code to code.
+///
+/// A declaration is added for each row of 256 codes, and of those for each row of 256 last units. Where the
+/// first one goes on from the last declaration of the list, the two are one.
+///
+/// It fails only if memory runs out. The list is tidy then, too, and may have the first of the codes.
+pub fn push_texts(
+    alloc: Global,
+    list: &mut Vec<BfRange>,
+    range: Range,
+    units: &[u16],
+) -> Result<(), AllocError>
+    requires tidy { AreTidyTexts (map bf_entry_seen list.now.items) }
+    requires after { All (λ e. e.end < range.start) (map bf_entry_seen list.now.items) }
+    requires some { 0 < length units.now }
+    requires counts { (range.start ≤ range.end) × (last_unit units.now + (range.end - range.start) < 2 ^ 16) }
+    ensures tidy { OnOk result (AreTidyTexts (map bf_entry_seen list.new.items)) }
+    ensures said { OnOk result ((code : ℕ) → units_said (map bf_entry_seen list.new.items) code
+        ≡ said_with range (λ code. shifted units.now (code - range.start)) (units_said (map bf_entry_seen list.old.items)) code) }
+    ensures last { OnOk result (All (λ e. e.end ≤ range.end) (map bf_entry_seen list.new.items)) }
+    ensures err { OnErr result (AreTidyTexts (map bf_entry_seen list.new.items)) }
+    ensures kept { OnErr result (IsSaidInPart range (λ code. shifted units.now (code - range.start))
+        (units_said (map bf_entry_seen list.old.items)) (units_said (map bf_entry_seen list.new.items))) }
+{
+    let end = u64::from(range.end);
+    let mut next = u64::from(range.start);
+    while next <= end {
+        let start = next as u32;
+        let units = counted_on(alloc, units, start - range.start)?;
+        let row = Range {
+            start,
+            end: text_row_end(start, range.end, units.as_slice()),
+        };
+        next = u64::from(row.end) + 1;
+        add_row(list, BfRange { range: row, units })?;
+    }
+    Ok(())
+}
+
+/// Units whose last one counts on by the offset.
+pub(crate) fn counted_on(alloc: Global, units: &[u16], offset: u32) -> Result<Units, AllocError>
+    requires some { 0 < length units.now }
+    requires fits { last_unit units.now + offset < 2 ^ 16 }
+    ensures { IfOk result (λ made. shifted units.now offset ≡ Some (units_seen made)) }
+{
+    if offset == 0 {
+        return Units::from_slice(alloc, units);
+    }
+    let mut copy = Vec::from_slice(alloc, units)?;
+    if let Some(last) = copy.last_mut() {
+        *last += offset as u16;
+    }
+    Units::from_slice(alloc, copy.as_slice())
+}
+
+/// The last code, up to `last`, of the row of `first`, up to which the last unit counts on within the row of
+/// its last byte.
+fn text_row_end(first: u32, last: u32, units: &[u16]) -> u32
+    requires within { first ≤ last }
+    requires some { 0 < length units.now }
+    ensures within { (first ≤ result) × (result ≤ last) }
+    ensures row { IsTextRow (record { start = first; end = result; units = units.now }) }
+{
+    let end = row_end(first, last);
+    match units.last() {
+        Some(unit) => first + (end - first).min(u32::from(255 - unit % 256)),
+        None => end,
+    }
+}
+
+/// Adds a declaration for codes of a row. Where it goes on from the last one, the two are one.
+fn add_row(list: &mut Vec<BfRange>, row: BfRange) -> Result<(), AllocError>
+    requires tidy { AreTidyTexts (map bf_entry_seen list.now.items) }
+    requires after { All (λ e. e.end < row.range.start) (map bf_entry_seen list.now.items) }
+    requires row { IsTextRow (bf_entry_seen row) }
+    ensures added { OnOk result (AddsTextRow (map bf_entry_seen list.old.items) (bf_entry_seen row) (map bf_entry_seen list.new.items)) }
+    ensures same { OnErr result (list.new.items ≡ list.old.items) }
+{
+    if let Some(last) = list.last_mut() {
+        if could_be_one(last, &row) {
+            last.range.end = row.range.end;
+            return Ok(());
+        }
+    }
+    list.push(row)?;
+    Ok(())
+}
+
+/// Whether one declaration could say what two say, of which one comes later.
+fn could_be_one(entry: &BfRange, later: &BfRange) -> bool
+    requires row { IsTextRow (bf_entry_seen entry.now) }
+    requires after { entry.now.range.end < later.now.range.start }
+    ensures { IsTrue result ↔ CouldBeOneText (bf_entry_seen entry.now) (bf_entry_seen later.now) }
+{
+    entry.range.end == later.range.start - 1
+        && entry.range.start / 256 == later.range.start / 256
+        && count_on(
+            entry.units.as_slice(),
+            later.range.start - entry.range.start,
+            later.units.as_slice(),
+        )
+}
+
+/// Whether the last unit counts on to that of the later ones by the offset, in its last byte alone, after
+/// the same units.
+fn count_on(units: &[u16], offset: u32, later: &[u16]) -> bool
+    ensures { IsTrue result ↔ ((shifted units.now offset ≡ Some later.now)
+        × (last_unit units.now / 256 ≡ last_unit later.now / 256)) }
+{
+    let Some((unit, front)) = units.split_last() else {
+        return false;
+    };
+    let Some((later_unit, later_front)) = later.split_last() else {
+        return false;
+    };
+    u64::from(*unit) + u64::from(offset) == u64::from(*later_unit)
+        && unit / 256 == later_unit / 256
+        && front == later_front
+}

@@ -1,6 +1,0 @@
-use Rattle.std.proofs.Common.{◌≡◌, take, map}
-use Rattle.cmap_values.specs.DeclarationsSeen.{bf_entry_seen}
-use Rattle.cmap_tidy.proofs.copies.copied_texts.Given as goal
-
-abbrev pub invariant-loop-entry : goal.invariant-loop-entry
-invariant-loop-entry l = map bf_entry_seen l.copy.items ≡ map bf_entry_seen (take l.entry-index l.list)

@@ -1,3 +1,0 @@
-pub mod Tidied
-pub mod Tidy
-pub mod TidyAdded
