@@ -19,8 +19,8 @@ ghost use Rattle.cmap_values.specs.DeclarationsSeen.{cid_entry_seen, lists_seen,
 ghost use Rattle.cmap_values.specs.declared.declarations.Lists.{Lists};
 ghost use Rattle.cmap_values.specs.UnitsSeen.{units_seen};
 
-use crate::columns::{Columns, Shape, take_columns};
 use crate::Tables;
+use crate::columns::{Columns, Shape, take_columns};
 use crate::pieces::{take_byte, take_u16};
 use cmap_values::code_length::CodeLength;
 use cmap_values::declarations::{BfRange, CidRange, Lists};

@@ -10,8 +10,8 @@ ghost use Rattle.cmap_values.specs.Outcomes.{Finds, ReadsFile, RefusesWith, Stop
 ghost use Rattle.cmap_values.specs.FilesSeen.{file_seen};
 ghost use Rattle.cmap_values.specs.ListsAppended.{no_file};
 
-use crate::segments::read_segment;
 use crate::pieces::take_framed;
+use crate::segments::read_segment;
 use crate::{Bundle, Tables};
 use cmap_values::fault::{Fault, Reason, Stop};
 use cmap_values::file::File;

@@ -14,8 +14,8 @@ ghost use Rattle.cmap_binary.specs.WrongSegments.{WrongSegment};
 ghost use Rattle.cmap_binary.specs.BundleSeen.{bundle_seen, tables_seen};
 
 use crate::file::{HEAD, HEADER_LEN, SEGMENT_HEAD, TYPE_LEN, split_body};
-use crate::segments::read_segment;
 use crate::pieces::take_framed;
+use crate::segments::read_segment;
 use crate::{Bundle, Tables};
 use cmap_values::fault::{Fault, Reason, Stop};
 use cmap_values::file::{File, Salvaged};

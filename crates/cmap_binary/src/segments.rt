@@ -7,10 +7,10 @@ ghost use Rattle.cmap_binary.specs.WrongSegments.{WrongAs, WrongSegment};
 ghost use Rattle.cmap_binary.specs.BundleSeen.{tables_seen};
 ghost use Rattle.cmap_values.specs.FilesSeen.{file_seen};
 
+use crate::Tables;
 use crate::entries::{add_cids, add_texts};
 use crate::fields::{add_codespaces, add_notdefs, set_collection};
 use crate::kinds::Kind;
-use crate::Tables;
 use crate::pieces::take_byte;
 use cmap_values::fault::{Fault, Reason, Segment};
 use cmap_values::file::File;

@@ -2,10 +2,10 @@
 
 use cmap_binary::is_marked_binary;
 use cmap_io::escape::{escaped_name, escaped_names, push_name};
+use cmap_io::failure::Failure;
 use cmap_io::json::push_line;
 use cmap_io::object::Object;
 use cmap_io::value::Value;
-use cmap_io::failure::Failure;
 use cmap_sources::uses::uses_by_layer;
 use cmap_values::names::{KNOWN_COUNT, KNOWN_NAMES};
 use hayro_cmap::{Bundle, BundleFiles, NamedFiles};

@@ -8,12 +8,12 @@ ghost use Rattle.cmap_handles.specs.Rooms.{IsPut};
 ghost use Rattle.cmap_handles.specs.Statuses.{number};
 ghost use Rattle.cmap_handles.specs.declared.status.Status.TheVariants.{Absent, Done, NoMemory, NotABundle};
 
-use cmap_load::named_files::BundleFiles;
+use cmap_binary::OwnedBundle;
 use cmap_handles::bundle::BundleHandle;
 use cmap_handles::room::put_found;
 use cmap_handles::shared::Shared;
 use cmap_handles::status::Status;
-use cmap_binary::OwnedBundle;
+use cmap_load::named_files::BundleFiles;
 use std::alloc::Global;
 
 /// Opens the bundle with these bytes. The bundle that the handle held is freed.

@@ -12,14 +12,14 @@ use crate::fault::{FaultNumbers, Told, status_of};
 use crate::files::BaseFile;
 use crate::keep::keep_read;
 use crate::parse::{limit, tables_of};
-use cmap_load::named_files::NamedFiles;
+use cmap_binary::OwnedBundle;
 use cmap_handles::bundle::BundleHandle;
 use cmap_handles::handle::MapHandle;
 use cmap_handles::room::put;
 use cmap_handles::status::Status;
 use cmap_layers::layers::Layers;
+use cmap_load::named_files::NamedFiles;
 use cmap_load::read_layers;
-use cmap_binary::OwnedBundle;
 use cmap_values::fault::Fault;
 use std::alloc::Global;
 

@@ -5,10 +5,10 @@ ghost use Rattle.cmap_values.specs.NamesSeen.{names_seen};
 ghost use Rattle.cmap_values.specs.Outcomes.{Finds, RefusesWith};
 ghost use Rattle.cmap_c.specs.Faults.{HasNames, HasNumbers, IsToldFrom, ending_of, fault_numbers, numbers_of, possible_cause, possible_reason, reason_number, segment_number, segment_numbered, segment_of, status_of};
 
-use cmap_load::{Cause, Refusal};
 use cmap_handles::names::joined;
 use cmap_handles::room::fill;
 use cmap_handles::status::Status;
+use cmap_load::{Cause, Refusal};
 use cmap_values::fault::{Fault, Reason, Segment, Stop};
 use std::alloc::Global;
 

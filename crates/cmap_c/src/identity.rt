@@ -6,10 +6,10 @@ ghost use Rattle.cmap_load.specs.Identity.{identity_layer};
 ghost use Rattle.cmap_handles.specs.Statuses.{number};
 ghost use Rattle.cmap_handles.specs.declared.status.Status.TheVariants.{Done, NoMemory};
 
-use cmap_load::{identity_h, identity_v};
 use cmap_handles::handle::MapHandle;
 use cmap_handles::shared::Shared;
 use cmap_handles::status::Status;
+use cmap_load::{identity_h, identity_v};
 use std::alloc::Global;
 
 /// Makes the predefined CMap Identity-H, or Identity-V if `vertical` is set. The map that the handle held is freed.

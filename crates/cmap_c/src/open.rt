@@ -12,13 +12,13 @@ use crate::fault::ending_of;
 use crate::files::BaseFile;
 use crate::keep::keep_read;
 use crate::parse::{limit, tables_of};
-use cmap_load::named_files::NamedFiles;
+use cmap_binary::OwnedBundle;
 use cmap_handles::bundle::BundleHandle;
 use cmap_handles::handle::MapHandle;
 use cmap_handles::status::Status;
 use cmap_layers::layers::Layers;
+use cmap_load::named_files::NamedFiles;
 use cmap_load::open_layers;
-use cmap_binary::OwnedBundle;
 use std::alloc::Global;
 
 /// The map of the file of this name: the first of `files` with the name, else the bundle's file with the name. If

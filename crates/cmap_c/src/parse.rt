@@ -13,13 +13,13 @@ ghost use Rattle.cmap_handles.specs.declared.status.Status.TheVariants.{Done, Re
 use crate::fault::ending_of;
 use crate::files::BaseFile;
 use crate::keep::keep_read;
-use cmap_load::named_files::{BundleFiles, NamedFiles};
+use cmap_binary::{Bundle, OwnedBundle};
 use cmap_handles::bundle::BundleHandle;
 use cmap_handles::handle::MapHandle;
 use cmap_handles::status::Status;
 use cmap_layers::layers::Layers;
+use cmap_load::named_files::{BundleFiles, NamedFiles};
 use cmap_load::read_layers;
-use cmap_binary::{Bundle, OwnedBundle};
 use std::alloc::Global;
 
 /// The map of the file `data`, over files by their names: the first of `files` with the name, else the bundle's file

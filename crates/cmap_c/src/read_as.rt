@@ -8,8 +8,8 @@ ghost use Rattle.cmap_lint.specs.declared.read_as.ReadAs.{ReadAs};
 ghost use Rattle.cmap_c.specs.Readings.{IsReading};
 
 use crate::fault::FaultNumbers;
-use cmap_load::Cause;
 use cmap_lint::read_as::ReadAs;
+use cmap_load::Cause;
 
 /// The number for what the part at a fault of a text is read as, if the bytes before the fault show it; else 0. `text`
 /// is the file at fault, and is read past its faults.

@@ -12,8 +12,7 @@ ghost use Rattle.cmap_handles.specs.declared.status.Status.TheVariants.{Done, No
 use crate::fault::FaultNumbers;
 use crate::files::BaseFile;
 use crate::parse::{limit, tables_of};
-use cmap_load::named_files::NamedFiles;
-use cmap_load::{Refusal, SalvagedLayers, salvaged_layers};
+use cmap_binary::OwnedBundle;
 use cmap_handles::bundle::BundleHandle;
 use cmap_handles::handle::MapHandle;
 use cmap_handles::names::push_names;
@@ -21,7 +20,8 @@ use cmap_handles::room::{put, put_head};
 use cmap_handles::shared::Shared;
 use cmap_handles::status::Status;
 use cmap_layers::layers::Layers;
-use cmap_binary::OwnedBundle;
+use cmap_load::named_files::NamedFiles;
+use cmap_load::{Refusal, SalvagedLayers, salvaged_layers};
 use cmap_values::memory::both;
 use std::alloc::{AllocError, Global};
 

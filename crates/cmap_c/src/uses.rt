@@ -9,11 +9,11 @@ ghost use Rattle.cmap_handles.specs.Statuses.{number};
 ghost use Rattle.cmap_handles.specs.declared.status.Status.TheVariants.{Refused, NoMemory, Done, NoRoom};
 
 use crate::parse::tables_of;
-use cmap_load::uses;
 use cmap_handles::bundle::BundleHandle;
 use cmap_handles::names::joined;
 use cmap_handles::room::{fill, put};
 use cmap_handles::status::Status;
+use cmap_load::uses;
 use std::alloc::Global;
 
 /// Writes the names of the files that the file `data` uses, in the order of the uses: the lengths of the names, and

@@ -8,8 +8,8 @@ ghost use Rattle.cmap_layers.specs.Layers.{Layer};
 
 use crate::loose::Loose;
 use crate::shared::Shared;
-use cmap_layers::layers::Layers;
 use cmap_binary::OwnedBundle;
+use cmap_layers::layers::Layers;
 use std::alloc::Global;
 use std::marker::Model;
 

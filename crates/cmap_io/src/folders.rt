@@ -1,9 +1,9 @@
 //! The files in folders.
 
+use crate::count::Count;
 use crate::failure::Failure;
 use crate::inputs::{readable, report_unreadable};
 use crate::path_text::{is_plain, path_text};
-use crate::count::Count;
 use std::alloc::{AllocError, Global};
 use std::fs::{self, Files};
 use std::io::{self, ErrorKind, Read};

@@ -1,10 +1,10 @@
 //! The files that `check` reads.
 
+use crate::count::Count;
 use crate::failure::{Failure, fault, report_message};
 use crate::folders::{files_in, is_folder};
 use crate::inputs::{STANDARD_INPUT, needed};
 use crate::path_text::path_text;
-use crate::count::Count;
 
 /// A file that lists paths.
 #[derive(Clone, Copy)]

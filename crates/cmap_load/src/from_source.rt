@@ -16,8 +16,8 @@ use crate::identity::identity_named;
 use crate::loader::Loader;
 use crate::refusal::Refusal;
 use crate::source::Source;
-use cmap_layers::layers::Layers;
 use cmap_binary::Bundle;
+use cmap_layers::layers::Layers;
 use cmap_values::fault::Fault;
 use std::alloc::{AllocError, Global};
 

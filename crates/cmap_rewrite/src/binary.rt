@@ -1,8 +1,8 @@
 //! The binary form of a file, written with the tables of a bundle.
 
+use cmap_binary::Bundle;
 use cmap_io::escape::push_text;
 use cmap_io::failure::{Failure, fault};
-use cmap_binary::Bundle;
 use cmap_values::fault::Fault;
 use cmap_values::file::File;
 use cmap_writer::{Encoders, Obstacle, write_file};

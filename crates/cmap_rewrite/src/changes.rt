@@ -4,13 +4,13 @@
 use crate::filled::without_empty_texts;
 use crate::order::put_single_codes_first;
 use crate::within::cut_texts;
+use cmap_edit::flatten::{Codes, Contradiction, flatten, subset};
+use cmap_edit::tidy::tidy;
 use cmap_io::digits::push_code;
 use cmap_io::escape::push_text;
 use cmap_io::failure::Failure;
-use cmap_edit::flatten::{Codes, Contradiction, flatten, subset};
 use cmap_queries::code_lengths::LENGTHS;
 use cmap_runs::runs::{Looks, Table};
-use cmap_edit::tidy::tidy;
 use cmap_values::code_length::CodeLength;
 use cmap_values::declarations::{BfRange, ByLength, CidRange, Lists};
 use cmap_values::fault::Fault;

@@ -28,13 +28,13 @@ ghost use Rattle.cmap_load.specs.declared.refusal.Cause.TheVariants as Cause;
 
 use crate::budget::ParseError;
 use crate::files_by_name::FilesByName;
-use cmap_load::{
-    Cause, Refusal, SalvagedLayers, Source, identity_h, identity_v, salvaged_layers, uses,
-};
+use cmap_binary::Bundle;
 use cmap_layers::layers::Layers;
 use cmap_layers::string_codes::StringCode;
-use cmap_load::{open_layers, read_layers};
-use cmap_binary::Bundle;
+use cmap_load::{
+    Cause, Refusal, SalvagedLayers, Source, identity_h, identity_v, open_layers, read_layers,
+    salvaged_layers, uses,
+};
 use cmap_runs::runs::Looks;
 use cmap_tokens::utf16::BfString;
 use cmap_values::code_length::CodeLength;

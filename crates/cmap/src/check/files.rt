@@ -3,12 +3,12 @@
 use crate::check::progress::Progress;
 use crate::check::tally::Tally;
 use crate::check::warnings::{LintOptions, push_warnings, subject_of};
-use cmap_io::object::Object;
-use cmap_io::value::Value;
-use cmap_io::{escape, json};
 use cmap_io::failure::{Failure, fault, report_message};
 use cmap_io::inputs::{read, report_unreadable};
+use cmap_io::object::Object;
 use cmap_io::paths::{PathList, Paths, paths_of};
+use cmap_io::value::Value;
+use cmap_io::{escape, json};
 use cmap_sources::bases::Bases;
 use cmap_sources::format::format_of;
 use cmap_sources::reading::{Form, Input, Manner, Reading, read_over};

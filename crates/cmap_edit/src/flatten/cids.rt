@@ -7,10 +7,10 @@ ghost use Rattle.cmap_unicode.specs.Given.{given, Fits, given_after};
 ghost use Rattle.cmap_edit.specs.Parts.{AreDeclared, AreDeclaredBelow, IsAdded, IsRoom};
 
 use crate::flatten::codes::{Codes, codes_of_length};
+use crate::tidy::{push_cids, push_notdefs};
 use cmap_layers::layers::Layers;
 use cmap_layers::stretches::Cids;
 use cmap_runs::runs::{Looks, Table};
-use crate::tidy::{push_cids, push_notdefs};
 use cmap_unicode::declared_stretch;
 use cmap_values::code_length::CodeLength;
 use cmap_values::declarations::CidRange;

@@ -7,9 +7,9 @@ ghost use Rattle.cmap_layers.specs.Lookups.{bf_at, bf_of};
 ghost use Rattle.cmap_edit.specs.Parts.{AreTexts, AreTextsAdded, AreTextsBelow, IsTextRoom};
 
 use crate::flatten::codes::{Codes, numbers_of};
+use crate::tidy::push_texts;
 use cmap_layers::layers::Layers;
 use cmap_runs::runs::{Looks, Table};
-use crate::tidy::push_texts;
 use cmap_values::declarations::BfRange;
 use cmap_values::range::Range;
 use std::alloc::{AllocError, Global};
