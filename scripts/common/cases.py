@@ -13,7 +13,7 @@ SHORT = {"n": b"\n", "r": b"\r", "t": b"\t", "f": b"\f", "0": b"\0", "\\": b"\\"
 PLACE = re.compile(r"\{(at|byte|line)(?: ([^{}\"]+?))??(?: ([1-9][0-9]*))?\}")
 LINE_END = re.compile(rb"\r\n|\r|\n")
 BINARY_HEAD = b"bcmap\x01"
-PROGRAMS = ["cmap", "cmap_bench"]
+PROGRAMS = ["cmap", "cmap_query"]
 SECONDS = 120
 
 

@@ -1,7 +1,7 @@
 //! The arguments.
 
 ghost use Rattle.std.specs.Prelude.{◌≡◌, ◌≢◌, ℕ, MatchOption, map, string_bytes};
-ghost use Rattle.cmap_bench.specs.Arguments.{SpellsNoRequest, SpellsRequest, mode_argument};
+ghost use Rattle.cmap_query.specs.Rounds.{SpellsNoRequest, SpellsRequest, mode_argument};
 
 use cmap_queries::arguments::decimal;
 

@@ -2,8 +2,8 @@
 use Rattle.std.specs.Prelude.{◌≡◌, ℕ, List, [], ◌∷◌, codes}
 use Rattle.std.specs.Str.Parse.{digits_value}
 use Rattle.cmap_queries.specs.Decimals.{SpellsNumber}
-use Rattle.cmap_bench.specs.declared.request.Mode.{Mode}
-use Rattle.cmap_bench.specs.declared.request.Mode.TheVariants.{Parse, Lookup, Bf, Decode}
+use Rattle.cmap_query.specs.declared.bench.request.Mode.{Mode}
+use Rattle.cmap_query.specs.declared.bench.request.Mode.TheVariants.{Parse, Lookup, Bf, Decode}
 
 -- the argument that names a mode
 abbrev pub mode_argument : Mode → List ℕ

@@ -1,6 +1,6 @@
 //! Rounds of work on a file, and how long they take.
 
-use crate::request::Mode;
+use crate::bench::request::Mode;
 use cmap_queries::failure::Failure;
 use hayro_cmap::bcmap::Bundle;
 use hayro_cmap::{BfString, CMap, Fault};
