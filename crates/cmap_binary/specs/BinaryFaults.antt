@@ -1,4 +1,4 @@
--- Where a binary file is refused: at its header, or else at the first segment at fault.
+-- The fault for which a binary file is refused: at its header, or else at the first segment at fault.
 use Rattle.std.specs.Prelude.{◌≡◌, ◌≢◌, ◌⊎◌, ℕ, ◌+◌, List, [], length}
 use Rattle.cmap_values.specs.Only.{IsOnly, HoldsOfNone}
 use Rattle.cmap_values.specs.declared.fault.Reason.{Reason}
@@ -9,17 +9,17 @@ use Rattle.cmap_binary.specs.Fronts.{FramedAt}
 use Rattle.cmap_binary.specs.BinaryFiles.{BodyOf, Content}
 use Rattle.cmap_binary.specs.BinarySalvage.{SaysNothing, SegmentSays, header_fault}
 
--- the first fault of segments that stand at this offset of a file
+-- the first fault of the segments from this offset of a file on
 pub data SegmentFault (tables : PrefixTables) : ℕ → List ℕ → Stop → Type 0 where
-  -- what is no whole segment
+  -- the bytes don't begin with a whole segment
   no_segment : {offset : ℕ} {bytes : List ℕ} → bytes ≢ [] → HoldsOfNone (FramedAt 1 bytes) → SegmentFault tables offset bytes (record { offset = offset; reason = SegmentLength })
-  -- a segment that says nothing
+  -- the first segment can't be read
   says_nothing : {offset : ℕ} {bytes segment rest : List ℕ} → (reason : Reason) → FramedAt 1 bytes (segment, rest) → SaysNothing tables segment reason
       → SegmentFault tables offset bytes (record { offset = offset; reason = reason })
-  -- the first one after a segment that says something
+  -- the first fault after a segment that can be read
   after_segment : {offset : ℕ} {bytes segment rest : List ℕ} {content : Content} {stop : Stop} → FramedAt 1 bytes (segment, rest) → IsOnly (SegmentSays tables segment) content
       → SegmentFault tables (offset + length segment) rest stop → SegmentFault tables offset bytes stop
 
--- the first fault of bytes that are no binary file
+-- the first fault of bytes that aren't a binary file
 abbrev pub IsBinaryFault : PrefixTables → List ℕ → Stop → Type 0
 IsBinaryFault tables bytes stop = (HoldsOfNone (BodyOf bytes) × (stop ≡ header_fault)) ⊎ ((body : List ℕ) × BodyOf bytes body × SegmentFault tables 10 body stop)

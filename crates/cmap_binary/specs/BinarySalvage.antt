@@ -1,4 +1,4 @@
--- What a binary file says apart from its faults: each segment by itself.
+-- The content of a binary file apart from its faults: each segment is read by itself.
 use Rattle.std.specs.Prelude.{◌≡◌, ◌≢◌, ℕ, ◌+◌, ◌≤◌, List, [], ◌∷◌, ◌++◌, length, take, drop, slice_index}
 use Rattle.cmap_values.specs.Files.{File}
 use Rattle.cmap_values.specs.Only.{IsOnly, HoldsOfNone}
@@ -10,29 +10,29 @@ use Rattle.cmap_binary.specs.BinaryFiles.{BodyOf, Content, IsSegment, file_of, m
 use Rattle.cmap_binary.specs.Fronts.{BytesAt, FramedAt, GivesIf, Then}
 use Rattle.cmap_binary.specs.WrongSegments.{WrongSegment}
 
--- a segment, with its type and its length, says this
+-- a segment, with its type and its length, has this content
 abbrev pub SegmentSays : PrefixTables → List ℕ → Content → Type 0
 SegmentSays tables segment = IsSegment tables (slice_index segment 0) (drop 5 segment)
 
--- a segment says nothing, and this is wrong with it
+-- a segment can't be read, and this is the reason
 abbrev pub SaysNothing : PrefixTables → List ℕ → Reason → Type 0
 SaysNothing tables segment reason = HoldsOfNone (SegmentSays tables segment) × WrongSegment tables (slice_index segment 0) (drop 5 segment) reason
 
--- the bytes stand at this offset of a file: what their segments say, and the faults
+-- the contents and the faults of the segments in the bytes from this offset of a file on
 pub data SegmentsFrom (tables : PrefixTables) : ℕ → List ℕ → List Content → List Stop → Type 0 where
   -- the end
   ended : {offset : ℕ} → SegmentsFrom tables offset [] [] []
-  -- what is no whole segment is the last fault
+  -- the last fault: the bytes don't begin with a whole segment
   cut_short : {offset : ℕ} {bytes : List ℕ} → bytes ≢ [] → HoldsOfNone (FramedAt 1 bytes)
       → SegmentsFrom tables offset bytes [] (record { offset = offset; reason = SegmentLength } ∷ [])
-  -- a segment that says something
+  -- a segment that can be read adds its content
   said : {offset : ℕ} {bytes segment rest : List ℕ} {content : Content} {contents : List Content} {faults : List Stop} → FramedAt 1 bytes (segment, rest) → IsOnly (SegmentSays tables segment) content
       → SegmentsFrom tables (offset + length segment) rest contents faults → SegmentsFrom tables offset bytes (content ∷ contents) faults
-  -- a segment at fault says nothing
+  -- a segment at fault adds no content
   at_fault : {offset : ℕ} {bytes segment rest : List ℕ} {contents : List Content} {faults : List Stop} → (reason : Reason) → FramedAt 1 bytes (segment, rest) → SaysNothing tables segment reason
       → SegmentsFrom tables (offset + length segment) rest contents faults → SegmentsFrom tables offset bytes contents (record { offset = offset; reason = reason } ∷ faults)
 
--- what follows a header of version 1, whatever length it gives
+-- the bytes after a header of version 1, whatever length the header declares
 abbrev pub AfterHeader : List ℕ → List ℕ → Type 0
 AfterHeader bytes = Then (BytesAt 10 bytes) (λ header rest. GivesIf (take 6 header ≡ magic ++ 1 ∷ []) rest)
 
@@ -44,16 +44,16 @@ header_fault = record { offset = 0; reason = Header }
 pub data BodyRead (bytes : List ℕ) : List ℕ → List Stop → Type 0 where
   -- a file is read up to the length that its header gives
   whole : {body : List ℕ} → BodyOf bytes body → BodyRead bytes body []
-  -- where the length is wrong, all that follows the header is read
+  -- if the length is wrong, all bytes after the header are read
   wrong_length : {body : List ℕ} → HoldsOfNone (BodyOf bytes) → AfterHeader bytes body → BodyRead bytes body (header_fault ∷ [])
   -- without a header nothing is read
   no_header : HoldsOfNone (AfterHeader bytes) → BodyRead bytes [] (header_fault ∷ [])
 
--- the segments after a header say together what the file says, and their faults come after the first ones
+-- the contents of the segments after a header give the file together, and the faults of the segments come after the first faults
 abbrev pub SegmentsSalvaged : PrefixTables → List ℕ → File → List Stop → List Stop → Type 0
 SegmentsSalvaged tables body file first faults = (contents : List Content) × (later : List Stop) × SegmentsFrom tables 10 body contents later × (file ≡ file_of contents) × (faults ≡ first ++ later)
 
--- what a binary file says apart from its faults, and the faults
+-- the content of a binary file apart from its faults, and the faults
 abbrev pub SalvagesBinary : PrefixTables → List ℕ → File → List Stop → Type 0
 SalvagesBinary tables bytes file faults = (body : List ℕ) × (first : List Stop) × BodyRead bytes body first × SegmentsSalvaged tables body file first faults
 

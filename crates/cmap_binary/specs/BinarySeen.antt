@@ -1,4 +1,4 @@
--- Private aid: what contracts see of the types of segments, and of a file to which one is added.
+-- Private aid: what contracts see of the types of segments, and of a file to which a segment is added.
 use Rattle.std.specs.Prelude.{◌≡◌, ℕ, List, [], ◌∷◌, ◌++◌, map, Result}
 use Rattle.std.specs.Global.{Vec}
 use Rattle.cmap_values.specs.CodeLengths.{length_of}
@@ -29,35 +29,35 @@ kind_seen Codespaces = files.codespaces
 kind_seen Name = files.name
 kind_seen Collection = files.collection
 
--- what a file says with one segment more
+-- the file with the content of one more segment
 abbrev pub with_content : File → Content → File
 with_content file (declares ds) = record file { lists = append_lists file.lists (lists_of ds) }
 with_content file (uses text) = record file { uses = file.uses ++ text ∷ [] }
 with_content file content = record file { metadata = metadata_after file.metadata content }
 
--- one thing is read and no other, and the file says it
+-- exactly one content is read, and it is added to the file
 pub record SaysContent (reads : Content → Type 0) (old new : File) : Type 0 where
   pub content : Content
   pub only : IsOnly reads content
   pub says : new ≡ with_content old content
 
--- nothing is read, and this is wrong
+-- nothing can be read, and this is the reason
 abbrev pub IsWrong : {A : Type 0} → (A → Type 0) → (Reason → Type 0) → Reason → Type 0
 IsWrong reads wrong reason = HoldsOfNone reads × wrong reason
 
--- a call that reads one thing and no other, or else gives the reason
+-- a call that reads the only value that can be read, or else gives the reason
 abbrev pub ReadsOr : {A B : Type 0} → (B → Type 0) → (Reason → Type 0) → (A → B) → Result A (Fault Reason) → Type 0
 ReadsOr reads wrong seen = Outcome (λ x. IsOnly reads (seen x)) (IsWrong reads wrong)
 
--- a call that adds what it reads to a file
+-- a call that adds the content that it reads to a file
 abbrev pub Adds : (Content → Type 0) → (Reason → Type 0) → File → File → Result Unit (Fault Reason) → Type 0
 Adds reads wrong old new = Outcome (λ done. SaysContent reads old new) (IsWrong reads wrong)
 
--- the same, and where it adds nothing the file stays as it is
+-- a call that adds the content that it reads to a file; if nothing can be read, the file stays as it was
 abbrev pub AddsWhole : (Content → Type 0) → (Reason → Type 0) → File → File → Result Unit (Fault Reason) → Type 0
 AddsWhole reads wrong old new = Outcome (λ done. SaysContent reads old new) (λ reason. IsWrong reads wrong reason × (new ≡ old))
 
--- declarations are read and nothing else, and the lists have them
+-- exactly these declarations are read, and they are added to the lists
 pub record SaysDeclared (reads : Content → Type 0) (old new : Lists) : Type 0 where
   pub declared : List Declaration
   pub only : IsOnly reads (declares declared)
@@ -67,18 +67,18 @@ pub record SaysDeclared (reads : Content → Type 0) (old new : Lists) : Type 0 
 abbrev pub Declares : (Content → Type 0) → (Reason → Type 0) → Lists → Lists → Result Unit (Fault Reason) → Type 0
 Declares reads wrong old new = Outcome (λ done. SaysDeclared reads old new) (IsWrong reads wrong)
 
--- n things in a row are read and no others, and the lists have them, as declarations of this kind
+-- exactly these n entries in a row are read, and they are added to the lists as declarations of this kind
 pub record SaysRow {A S : Type 0} (item : S → A × S → Type 0) (kind : A → Declaration) (n : ℕ) (start : S) (old new : Lists) : Type 0 where
   pub entries : List A
   pub end : S
   pub only : IsOnly (RowOf item n start) (entries, end)
   pub says : new ≡ append_lists old (lists_of (map kind entries))
 
--- a call that adds things in a row to lists
+-- a call that adds the entries that it reads in a row to lists
 abbrev pub AddsRow : {A S : Type 0} → (S → A × S → Type 0) → (S → Reason → Type 0) → (A → Declaration) → ℕ → S → Lists → Lists → Result Unit (Fault Reason) → Type 0
 AddsRow item wrong kind n start old new = Outcome (λ done. SaysRow item kind n start old new) (IsWrong (RowOf item n start) (WrongInRow item wrong n start))
 
--- lists of which that of the CIDs for codes of two bytes is this one
+-- the other lists, with this list of the CIDs for codes of two bytes
 abbrev pub with_cids_of_two : Vec CidRange → declarations.Lists → declarations.Lists
 with_cids_of_two list others = record {
   cids = record { one = others.cids.one; two = list; three = others.cids.three; four = others.cids.four };
@@ -87,10 +87,10 @@ with_cids_of_two list others = record {
   spaces = others.spaces;
 }
 
--- the bytes are segments in a row, which say together what the file says
+-- the bytes are segments in a row, and their contents together give the file
 abbrev pub SegmentsSay : PrefixTables → List ℕ → File → Type 0
 SegmentsSay tables bytes file = (contents : List Content) × AllOf (SegmentAt tables) bytes contents × (file ≡ file_of contents)
 
--- for what says the same whatever the tables are
+-- for contents that don't depend on the tables
 abbrev pub no_tables : PrefixTables
 no_tables = record { delta = []; count = [] }

@@ -9,7 +9,7 @@ use Rattle.cmap_binary.specs.declared.bundle.Tables.{Tables}
 abbrev pub tables_seen : Tables → bundles.PrefixTables
 tables_seen tables = record { delta = tables.delta; count = tables.count }
 
--- the tables of a bundle, where one is handed in
+-- the tables of a bundle, if a bundle is given
 abbrev pub tables_given : Option (Bor Bundle) → Option bundles.PrefixTables
 tables_given bundle = option_map (λ b. tables_seen b.now.tables) bundle
 

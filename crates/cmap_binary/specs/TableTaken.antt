@@ -6,11 +6,11 @@ use Rattle.cmap_binary.specs.Reader.{Reading, after_bytes, bytes_left}
 use Rattle.cmap_binary.specs.PrefixWords.{CodeWord, IsSound, IsPrefixFree}
 use Rattle.cmap_binary.specs.TableFronts.{TableAt}
 
--- how many lengths are counted by a table that a text begins with
+-- the number of lengths that are counted by a table at the start of a text
 abbrev pub counted : List ℕ → ℕ
 counted text = if big_endian (take 2 text) == 0 then 0 else slice_index text 2
 
--- where the table ends: after these three bytes, the counts and the symbols
+-- the offset at which the table ends: after three bytes, the counts and the symbols
 abbrev pub table_end : ℕ → List ℕ → List CodeWord → ℕ
 table_end width text table = 3 + 2 * counted text + width * length table
 
@@ -21,7 +21,7 @@ pub record TakesTable (width : ℕ) (old : Reading) (table : List CodeWord) (new
   pub prefix_free : IsPrefixFree table
   pub moves : new ≡ after_bytes old (table_end width (bytes_left old) table)
 
--- the table that stands next is taken; the reader stays where none does, and where there is no memory
+-- the table that comes next is taken; the reader doesn't move if there is no table, or if memory runs out
 pub record ParsesTable {E : Type 0} (width : ℕ) (old new : Reading) (result : Result (Option (List CodeWord)) E) : Type 0 where
   pub ok : IfOk result (λ found. MatchOption found (HoldsOfNone (TableAt width (bytes_left old)) × (new ≡ old)) (λ table. TakesTable width old table new))
   pub err : OnErr result (new ≡ old)

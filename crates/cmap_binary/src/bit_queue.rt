@@ -1,4 +1,4 @@
-//! Bits of bytes, of which the next ones are at hand as one number.
+//! Queues of the bits of bytes. The next bits are held in one number.
 
 ghost use Rattle.std.specs.Prelude.{◌≡◌, ◌++◌, ℕ, ◌+◌, ◌-◌, ◌*◌, ◌/◌, ◌%◌, ◌^◌, ◌<◌, ◌≤◌, IfSome, length};
 ghost use Rattle.cmap_binary.specs.BitQueues.{IsFilled, after_held, bits_ahead};
@@ -6,11 +6,12 @@ ghost use Rattle.cmap_binary.specs.PrefixWords.{bits, bits_of};
 
 use std::marker::Model;
 
-/// How many bits are at hand after `fill`, where as many are left: as many as the longest word has.
+/// The least number of bits that are held after `fill`, unless fewer are left: the length of the
+/// longest word.
 const ENOUGH: u32 = 32;
 
-/// Bits that are taken from the front. The next `held` ones are the last bits of `ahead`, the high
-/// one first; those of `rest` come after them.
+/// A queue of bits. The next `held` bits are the last bits of `ahead`, the high one first; the bits
+/// of `rest` come after them.
 #[derive(Debug, Drop)]
 pub struct BitQueue<'a> {
     ahead: u64,
@@ -18,7 +19,7 @@ pub struct BitQueue<'a> {
     rest: &'a [u8],
 }
 
-// A clause sees the fields.
+// Contracts see the fields.
 impl<'a> Model for BitQueue<'a> {
     ghost use Rattle.std.specs.Prelude.{◌≤◌};
     ghost use Rattle.cmap_binary.specs.BitQueues.{Queue};
@@ -42,7 +43,7 @@ impl<'a> BitQueue<'a> {
         }
     }
 
-    /// The last `count` bits of a byte, and those of the bytes after it.
+    /// The last `count` bits of a byte, then the bits of the bytes in `rest`.
     pub(crate) fn after(byte: u8, count: u32, rest: &'a [u8]) -> BitQueue<'a>
         requires { count ≤ 8 }
         ensures { result ≡ record { ahead = byte; held = count; rest = rest.now } }
@@ -54,7 +55,8 @@ impl<'a> BitQueue<'a> {
         }
     }
 
-    /// Has the bits of the longest word at hand, or all that are left.
+    /// Makes the queue hold at least as many bits as the longest word has, or all bits that are
+    /// left.
     #[inline(always)]
     pub(crate) fn fill(&mut self)
         ensures same { bits_ahead self.new ≡ bits_ahead self.old }
@@ -75,7 +77,7 @@ impl<'a> BitQueue<'a> {
         }
     }
 
-    /// The next eight bits as a byte, where as many are at hand.
+    /// The next eight bits as a byte, if that many are held.
     #[inline(always)]
     pub(crate) fn peek_u8(&self) -> Option<u8>
         ensures { IfSome result (λ byte. (8 ≤ self.now.held)
@@ -87,7 +89,7 @@ impl<'a> BitQueue<'a> {
         Some((self.ahead >> (self.held - 8) & 0xFF) as u8)
     }
 
-    /// The bits that are at hand, as the last ones of a number, and how many they are.
+    /// The bits that are held, as the last bits of a number, and the number of these bits.
     pub(crate) fn at_hand(&self) -> (u64, u32)
         ensures all { result ≡ (self.now.ahead, self.now.held) }
         ensures most { self.now.held ≤ 64 }
@@ -95,7 +97,7 @@ impl<'a> BitQueue<'a> {
         (self.ahead, self.held)
     }
 
-    /// Moves past `count` bits, which are at hand.
+    /// Moves past `count` bits that are held.
     #[inline(always)]
     pub(crate) fn skip(&mut self, count: u32)
         requires { count ≤ self.old.held }
@@ -105,7 +107,7 @@ impl<'a> BitQueue<'a> {
     }
 }
 
-/// The number with the bits of up to three bytes after its own.
+/// The number, followed by the bits of up to three bytes.
 #[inline(never)]
 fn with_bytes(number: u64, bytes: &[u8]) -> u64
     requires { length bytes.now < 4 }

@@ -10,19 +10,20 @@ use crate::bit_queue::BitQueue;
 use cmap_values::code_length::read_code;
 use std::marker::Model;
 
-/// Bytes, and how far they have been read. Bits are taken from the high bit of each byte on. Whole
-/// bytes are taken only where no byte is begun (`at_byte`); what the calls that read them answer else
-/// isn't specified. A call that answers `None` takes nothing, and none takes memory.
+/// Bytes, and the position up to which they have been read. Bits are taken from the high bit of each
+/// byte on. Whole bytes are taken only at a byte boundary (`at_byte`); elsewhere the answers of the
+/// calls that read bytes aren't specified. A call that answers `None` takes nothing, and no call
+/// allocates memory.
 #[derive(Debug, Drop)]
 pub struct Reader<'a> {
     bytes: &'a [u8],
-    /// Whole bytes passed.
+    /// The number of whole bytes passed.
     byte: usize,
-    /// Bits taken of the next one.
+    /// The number of bits taken from the next byte.
     bit: u32,
 }
 
-// A clause sees the bytes, and how many bits have been taken.
+// Contracts see the bytes, and the number of bits that have been taken.
 impl<'a> Model for Reader<'a> {
     ghost use Rattle.std.specs.Prelude.{ℕ, ◌+◌, ◌*◌, ◌<◌, ◌≤◌, length};
     ghost use Rattle.cmap_binary.specs.Reader.{Reading};
@@ -46,7 +47,7 @@ impl<'a> Reader<'a> {
         }
     }
 
-    /// The next bit, 0 or 1; `None` where none is left.
+    /// The next bit, 0 or 1; `None` if no bit is left.
     pub fn read_bit(&mut self) -> Option<u8>
         ensures value { result ≡ slice_get (bits self.old.source) self.old.taken }
         ensures moves { self.new ≡ (if is_some result then after_bits self.old 1 else self.old) }
@@ -59,7 +60,7 @@ impl<'a> Reader<'a> {
         Some(bit)
     }
 
-    /// The next byte; `None` where none is left.
+    /// The next byte; `None` if no byte is left.
     pub fn read_u8(&mut self) -> Option<u8>
         requires { IsAtByte self.old }
         ensures value { result ≡ slice_get (bytes_left self.old) 0 }
@@ -70,7 +71,7 @@ impl<'a> Reader<'a> {
         Some(byte)
     }
 
-    /// The number that the next two bytes write, the high one first; `None` where fewer are left.
+    /// The big-endian number in the next two bytes; `None` if fewer bytes are left.
     pub fn read_u16(&mut self) -> Option<u16>
         requires { IsAtByte self.old }
         ensures value { result ≡ number_at 2 (bytes_left self.old) }
@@ -80,7 +81,7 @@ impl<'a> Reader<'a> {
         Some(u16::from_be_bytes([bytes[0], bytes[1]]))
     }
 
-    /// The number that the next four bytes write, the high one first; `None` where fewer are left.
+    /// The big-endian number in the next four bytes; `None` if fewer bytes are left.
     pub fn read_u32(&mut self) -> Option<u32>
         requires { IsAtByte self.old }
         ensures value { result ≡ number_at 4 (bytes_left self.old) }
@@ -89,8 +90,8 @@ impl<'a> Reader<'a> {
         self.read_n_bytes(4)
     }
 
-    /// The number that the next `n` bytes write, the high one first, for an `n` from 1 to 4;
-    /// `None` for any other `n`, and where fewer bytes are left.
+    /// The big-endian number in the next `n` bytes, for an `n` from 1 to 4; `None` for any other `n`,
+    /// and if fewer bytes are left.
     pub fn read_n_bytes(&mut self, n: u8) -> Option<u32>
         requires { IsAtByte self.old }
         ensures value { result ≡
@@ -104,7 +105,7 @@ impl<'a> Reader<'a> {
         Some(number)
     }
 
-    /// The next `n` bytes, a slice of those of the reader; `None` where fewer are left.
+    /// The next `n` bytes, as a slice of the reader's bytes; `None` if fewer bytes are left.
     pub fn read_bytes(&mut self, n: usize) -> Option<&'a [u8]>
         requires { IsAtByte self.old }
         ensures value { option_map (λ s. s.now) result ≡ front n (bytes_left self.old) }
@@ -115,9 +116,9 @@ impl<'a> Reader<'a> {
         Some(bytes)
     }
 
-    /// The bytes up to the first one for which `f` is true, which is not taken, or all that are
-    /// left where there is none: a slice of those of the reader. `f` may be asked any byte, and
-    /// answers by the byte alone.
+    /// The bytes before the first byte for which `f` is true, which is not taken, or all bytes that
+    /// are left if there is no such byte: a slice of the reader's bytes. `f` must accept any byte,
+    /// and its answer must depend on the byte alone.
     pub fn eat_until<F: Fn(u8) -> bool + Drop>(&mut self, f: F) -> &'a [u8]
         requires at_byte { IsAtByte self.old }
         requires callable { F.IsAlwaysCallable f }
@@ -138,7 +139,8 @@ impl<'a> Reader<'a> {
         &left[..count]
     }
 
-    /// How many whole bytes have been passed. A byte that is begun is not.
+    /// The number of whole bytes that have been passed. A byte from which only some bits are taken
+    /// doesn't count.
     pub fn position(&self) -> usize
         ensures value { result ≡ self.now.taken / 8 }
         ensures within { result ≤ length self.now.source }
@@ -153,7 +155,7 @@ impl<'a> Reader<'a> {
         self.byte == self.bytes.len()
     }
 
-    /// Whether no byte is begun, which the calls that read bytes ask for.
+    /// Whether the reader is at a byte boundary, as the calls that read bytes require.
     pub fn at_byte(&self) -> bool
         ensures { IsTrue result ↔ IsAtByte self.now }
     {
@@ -176,7 +178,7 @@ impl<'a> Reader<'a> {
         self.byte += n;
     }
 
-    /// Moves past `count` bits, no more than the longest word has.
+    /// Moves past `count` bits, at most as many as the longest word has.
     pub(crate) fn skip_bits(&mut self, count: u32)
         requires few { count ≤ 32 }
         requires within { count ≤ length (bits_left self.old) }

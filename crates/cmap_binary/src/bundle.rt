@@ -15,11 +15,11 @@ use crate::prefix::PrefixTable;
 use cmap_values::names::CMapName;
 use std::alloc::{AllocError, Global};
 
-/// What stands in a bundle for a file that isn't there: the head of a binary file of version 0, which no
-/// reader knows, and its length.
+/// The bytes in a bundle in place of a missing file: the head of a binary file of version 0, which no
+/// reader accepts, and the number of these bytes.
 pub const NO_FILE: &[u8] = b"bcmap\0\0\0\0\x0A";
 
-/// Prefix tables of binary CMap files, and such files by their indices. The files are slices of the
+/// The prefix tables of binary CMap files, and the files, each at its index. The files are slices of the
 /// bytes that were parsed.
 #[derive(Debug, Drop)]
 pub struct Bundle<'b> {
@@ -30,13 +30,13 @@ pub struct Bundle<'b> {
 /// The prefix tables that all binary files share.
 #[derive(Debug)]
 pub struct Tables {
-    /// How many codes an entry leaves out after the one before.
+    /// The table for the number of codes that an entry skips after the entry before.
     pub delta: PrefixTable,
-    /// How many codes more than two a range has.
+    /// The table for the number of codes in a range minus two.
     pub count: PrefixTable,
 }
 
-// A crate that drops the tables calls this, and proves nothing of their parts.
+// A crate that drops the tables calls this `drop`, and proves nothing about their parts.
 impl Drop for Tables {
     fn drop(self) {
         let Tables { delta: _, count: _ } = self;
@@ -44,8 +44,8 @@ impl Drop for Tables {
 }
 
 impl<'b> Bundle<'b> {
-    /// The bundle that the bytes are: four bytes that say how long the piece with the two prefix
-    /// tables is, that piece, and files up to the end. `None` where they are invalid.
+    /// Parses a bundle: four bytes with the length of a piece, the piece with the two prefix tables, and
+    /// files up to the end. `None` if the bytes are invalid.
     ///
     /// It fails only if memory runs out.
     pub fn parse(alloc: Global, mut bytes: &'b [u8]) -> Result<Option<Bundle<'b>>, AllocError>
@@ -87,10 +87,10 @@ impl Tables {
     }
 }
 
-/// How many bytes of a file, which aren't checked, stand before its length.
+/// The number of bytes in a file before its length; these bytes aren't checked.
 const UNCHECKED: usize = 6;
 
-/// All the files that the bytes are.
+/// Splits the bytes into files, up to the end.
 fn split_files<'b>(alloc: Global, mut bytes: &'b [u8]) -> Result<Option<Vec<&'b [u8]>>, AllocError>
     ensures { IfOk result (Finds (AllOf (FramedAt 6) bytes.now) (λ files. names_seen files.items)) }
 {
@@ -104,8 +104,8 @@ fn split_files<'b>(alloc: Global, mut bytes: &'b [u8]) -> Result<Option<Vec<&'b 
     Ok(Some(files))
 }
 
-/// The file of this name; `None` without a bundle, for a `Custom` name, and where the bundle has no
-/// file at the index of the name. It takes no memory.
+/// The file of this name; `None` without a bundle, for a `Custom` name, and if the bundle has no file at
+/// the index of the name. No memory is allocated.
 pub fn load_embedded<'b>(bundle: Option<&Bundle<'b>>, name: CMapName<'_>) -> Option<&'b [u8]>
     ensures { option_copied result ≡ option_and_then
         (λ b. option_and_then (λ at. slice_get (bundle_seen b).files at) (index_of_name name.entry))

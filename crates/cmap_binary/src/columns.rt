@@ -1,4 +1,4 @@
-//! Columns of the segments of a binary file: where the codes of the entries lie.
+//! Columns of the segments of a binary file, which encode the codes of the entries.
 
 ghost use Rattle.std.specs.Prelude.{◌≡◌, ◌+◌, ◌<◌, ◌≤◌, ◌^◌, IfOk, MatchOption, option_map};
 ghost use Rattle.cmap_binary.specs.BitQueues.{bits_ahead};
@@ -24,12 +24,12 @@ pub(crate) enum Shape {
     Singles,
 }
 
-/// What the columns have for the entries that are left.
+/// The columns of a segment, from the next entry on.
 #[derive(Drop)]
 pub(crate) struct Columns<'b> {
-    /// How many codes each entry leaves out after the end of the one before.
+    /// For each entry, the number of codes that it skips after the end of the entry before.
     deltas: BitQueue<'b>,
-    /// How many codes more than two each entry has, where the entries are ranges.
+    /// For each entry, the number of its codes minus two, if the entries are ranges.
     pub(crate) counts: Option<BitQueue<'b>>,
     /// The first code after the entry before.
     base: u64,
@@ -46,7 +46,7 @@ pub(crate) fn take_columns<'b>(text: &mut &'b [u8], shape: Shape) -> Option<Colu
     }
 }
 
-/// The columns that the text begins with after that of these deltas.
+/// The columns of a segment with these deltas; the text begins after the column of the deltas.
 fn take_others<'b>(text: &mut &'b [u8], deltas: &'b [u8], shape: Shape) -> Option<Columns<'b>>
     ensures { Finds (ColumnsAfter (shape_seen shape) deltas.now text.old.now)
         (λ columns. (columns_seen columns, text.new.now)) result }
@@ -61,7 +61,7 @@ fn take_others<'b>(text: &mut &'b [u8], deltas: &'b [u8], shape: Shape) -> Optio
     }
 }
 
-/// The column of counts that the text begins with, where there is one.
+/// The column of counts that the text begins with, if the entries are ranges.
 fn take_counts<'b>(text: &mut &'b [u8], shape: Shape) -> Option<Option<BitQueue<'b>>>
     ensures { Finds (CountsAt (shape_seen shape) text.old.now)
         (λ counts. (option_map bits_ahead counts, text.new.now)) result }
@@ -76,7 +76,7 @@ fn take_counts<'b>(text: &mut &'b [u8], shape: Shape) -> Option<Option<BitQueue<
 }
 
 impl Columns<'_> {
-    /// The codes of the next entry of such a segment.
+    /// The codes of the next entry. A fault names the kind of segment, `segment`.
     #[inline(always)]
     pub(crate) fn next_range(
         &mut self,
@@ -102,7 +102,7 @@ impl Columns<'_> {
     }
 }
 
-/// How far the next entry ends after its start.
+/// The distance from the start of the next entry to its end.
 #[inline(always)]
 fn next_width(table: &PrefixTable, counts: &mut Option<BitQueue<'_>>) -> Option<u64>
     ensures { Finds (WidthAt table.now (option_map bits_ahead counts.old))
@@ -126,7 +126,8 @@ fn next_symbol(table: &PrefixTable, bits: &mut BitQueue<'_>) -> Option<u32>
     take_symbol(table, bits)
 }
 
-/// The codes that start so far after the base; `None` where their end passes 32 bits.
+/// The range that starts `delta` after the base and ends `width` after its start; `None` if its end
+/// doesn't fit in 32 bits.
 fn range_after(base: u64, delta: u32, width: u64) -> Option<Range>
     ensures { MatchOption result (2 ^ 32 ≤ base + delta + width)
         (λ r. (r.start ≡ base + delta) × (r.end ≡ base + delta + width) × (r.end < 2 ^ 32)) }

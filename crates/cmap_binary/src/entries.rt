@@ -29,17 +29,17 @@ use cmap_values::units::Units;
 use std::alloc::Global;
 use std::mem::replace;
 
-/// What is left of the columns of a segment of CIDs.
+/// The columns of a segment of CIDs, from the next entry on.
 #[derive(Drop)]
 struct CidColumns<'b> {
     columns: Columns<'b>,
     raws: &'b [u8],
-    /// The CID after those of the entry before.
+    /// The CID after the CIDs of the entry before.
     next: u64,
 }
 
 impl CidColumns<'_> {
-    /// The next entry: raw CID 0 goes on after the CIDs of the entry before.
+    /// The next entry. Raw CID 0 stands for the CID after the CIDs of the entry before.
     #[inline(always)]
     fn next_entry(&mut self, tables: &Tables) -> Result<CidRange, Fault<Reason>>
         ensures { ReadsOr (CidEntryAt (tables_seen tables.now) (cid_columns_seen self.old))
@@ -58,8 +58,8 @@ impl CidColumns<'_> {
     }
 }
 
-/// Adds the CIDs of a segment with this payload, for codes of this length. Payload after its entries
-/// is ignored.
+/// Adds the CIDs of a segment with this payload, for codes of this length. Payload after the entries is
+/// ignored.
 #[inline(never)]
 pub(crate) fn add_cids(
     alloc: Global,
@@ -82,7 +82,7 @@ pub(crate) fn add_cids(
     let Some(columns) = take_columns(&mut payload, shape) else {
         return Err(Fault::Refused(Reason::Field(Segment::Cids)));
     };
-    // A count that is too great gets no more room than there are bytes.
+    // A count that is too large reserves space for no more entries than there are bytes.
     lists.reserve_cids(len, usize::from(count).min(payload.len()))?;
     let left = CidColumns {
         columns,
@@ -92,9 +92,9 @@ pub(crate) fn add_cids(
     add_cid_entries(alloc, tables, left, count, len, lists)
 }
 
-/// Adds the next `count` entries, for codes of this length. Each length has a loop of its own, which
-/// needn't look for its list; and so have single codes of two bytes, which have no counts to hold, where
-/// there is a raw CID for each.
+/// Adds the next `count` entries, for codes of this length. Each length has its own loop, which needn't
+/// look for its list. Single codes of two bytes, which need no counts, have their own loop too, if there
+/// is a raw CID for each entry.
 fn add_cid_entries(
     alloc: Global,
     tables: &Tables,
@@ -119,8 +119,8 @@ fn add_cid_entries(
     }
 }
 
-/// Adds the next `count` entries one by one, each of which has a raw CID, for codes of two bytes. Their
-/// list stands apart meanwhile, so that its length needn't be written for each.
+/// Adds the next `count` entries one by one, for codes of two bytes; each entry has a raw CID. The list
+/// is moved out of `lists` meanwhile, so that its length needn't be written for each entry.
 fn add_single_cids(
     alloc: Global,
     tables: &Tables,
@@ -140,7 +140,7 @@ fn add_single_cids(
     added
 }
 
-/// Adds the next `count` entries to the list of those for codes of two bytes, which has room for them.
+/// Adds the next `count` entries to the list for codes of two bytes, which has space for them.
 #[inline(always)]
 fn push_single_cids(
     tables: &Tables,
@@ -171,7 +171,7 @@ fn push_single_cids(
     Ok(())
 }
 
-/// The CID that a raw one means after those before `next`: 0 is the next one.
+/// The CID that a raw CID stands for: `next` for 0, or else the raw CID itself.
 #[inline(always)]
 fn cid_of(raw: u16, next: u64) -> u64
     ensures { result ≡ cid_from raw next }
@@ -199,8 +199,8 @@ fn add_each_cid(
     Ok(())
 }
 
-/// Adds the texts of a segment with this payload, where each destination has `fixed` units, or says
-/// itself how many. Payload after its entries is ignored.
+/// Adds the texts of a segment with this payload. Each destination has `fixed` units, or begins with the
+/// number of its units. Payload after the entries is ignored.
 #[inline(never)]
 pub(crate) fn add_texts(
     alloc: Global,
@@ -224,8 +224,8 @@ pub(crate) fn add_texts(
     add_text_entries(alloc, tables, (columns, payload), count, fixed, lists)
 }
 
-/// Adds the next `count` entries. One unit each, as nearly all have, is read in a loop of its own, and
-/// so are those of single codes.
+/// Adds the next `count` entries. Nearly all entries have one unit: such entries are read in loops of
+/// their own, one for single codes and one for ranges.
 fn add_text_entries(
     alloc: Global,
     tables: &Tables,
@@ -292,7 +292,7 @@ fn read_destination(
     }
 }
 
-/// The `count` units that the text begins with. More than two are gathered in the buffer.
+/// The `count` units that the text begins with. More than two units are gathered in the buffer.
 #[inline(always)]
 fn read_units(
     alloc: Global,

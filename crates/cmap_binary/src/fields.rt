@@ -18,9 +18,9 @@ use cmap_values::file::File;
 use cmap_values::range::Range;
 use std::alloc::Global;
 
-/// Adds the notdef declarations of a segment with this payload: the width of their codes, their
-/// number, and the entries. Only without entries may the width be that of no code. Payload after
-/// them is ignored.
+/// Adds the notdef declarations of a segment with this payload: the width of the codes, the number
+/// of entries, and the entries. If there are entries, the width must be the length of a code, 1 to 4
+/// bytes. Payload after the entries is ignored.
 pub(crate) fn add_notdefs(mut payload: &[u8], lists: &mut Lists) -> Result<(), Fault<Reason>>
     ensures { Declares (SaysAs no_tables files.notdefs payload.now) (WrongAs no_tables files.notdefs payload.now)
         (lists_seen lists.old) (lists_seen lists.new) result }
@@ -46,8 +46,8 @@ pub(crate) fn add_notdefs(mut payload: &[u8], lists: &mut Lists) -> Result<(), F
     Ok(())
 }
 
-/// The entry for codes of this width that the text begins with: a start, an end, and a CID of two
-/// bytes.
+/// The notdef entry that the text begins with, for codes of this width: a start, an end, and a CID
+/// of two bytes.
 fn take_notdef(text: &mut &[u8], width: u8) -> Option<CidRange>
     ensures { Finds (NotdefAt width text.old.now) (λ range. (cid_entry_seen range, text.new.now)) result }
 {
@@ -60,7 +60,7 @@ fn take_notdef(text: &mut &[u8], width: u8) -> Option<CidRange>
     })
 }
 
-/// Adds the codespace ranges of a segment with this payload. Payload after them is ignored.
+/// Adds the codespace ranges of a segment with this payload. Payload after the ranges is ignored.
 pub(crate) fn add_codespaces(mut payload: &[u8], lists: &mut Lists) -> Result<(), Fault<Reason>>
     ensures { Declares (SaysAs no_tables files.codespaces payload.now) (WrongAs no_tables files.codespaces payload.now)
         (lists_seen lists.old) (lists_seen lists.new) result }
@@ -78,8 +78,8 @@ pub(crate) fn add_codespaces(mut payload: &[u8], lists: &mut Lists) -> Result<()
     Ok(())
 }
 
-/// The codespace range that the text begins with: the length of its codes, then the low and the high
-/// one.
+/// The codespace range that the text begins with: the length of its codes, then the low code, then
+/// the high code.
 fn take_codespace(text: &mut &[u8]) -> Option<Codespace>
     ensures { Finds (CodespaceAt text.old.now) (λ space. (codespace_seen space, text.new.now)) result }
 {
@@ -90,7 +90,7 @@ fn take_codespace(text: &mut &[u8]) -> Option<Codespace>
     Some(Codespace { len, low, high })
 }
 
-/// What is wrong with the entry of a codespace range that stands here and isn't read.
+/// The reason why the entry of a codespace range at the start of these bytes can't be read.
 fn codespace_lack(entry: &[u8]) -> Reason
     ensures { WrongLength (slice_get entry.now 0) result }
 {
@@ -100,8 +100,8 @@ fn codespace_lack(entry: &[u8]) -> Reason
     }
 }
 
-/// Sets the character collection by a segment with this payload: a registry and an ordering, each up
-/// to a zero byte, and the number of a supplement. Payload after it is ignored.
+/// Sets the character collection from a segment with this payload: a registry and an ordering, each
+/// up to a zero byte, and the number of a supplement. Payload after the supplement is ignored.
 pub(crate) fn set_collection(
     alloc: Global,
     mut payload: &[u8],

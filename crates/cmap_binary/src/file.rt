@@ -1,4 +1,5 @@
-//! CMap files in the binary form bcmap: a header, and segments up to the end that it gives.
+//! CMap files in the binary form bcmap: a header that declares the length of the file, and segments
+//! up to that length.
 
 ghost use Rattle.std.specs.Prelude.{◌≡◌, ◌↔◌, ◌+◌, IfErr, IfOk, IsTrue, length};
 ghost use Rattle.cmap_binary.specs.BinaryFaults.{IsBinaryFault, SegmentFault};
@@ -17,19 +18,19 @@ use cmap_values::fault::{Fault, Reason, Stop};
 use cmap_values::file::File;
 use std::alloc::Global;
 
-/// What begins a binary file.
+/// The first bytes of a binary file.
 const MAGIC: &[u8] = b"bcmap";
 
-/// What begins a binary file of version 1, the one that is read and written.
+/// The first bytes of a binary file of version 1, the only version that is read and written.
 pub const HEAD: &[u8] = b"bcmap\x01";
 
-/// How many bytes the header of a file has.
+/// The number of bytes in the header of a file.
 pub(crate) const HEADER_LEN: usize = 10;
 
-/// How many bytes of a segment, its type, stand before its length.
+/// The number of bytes in a segment before its length: the type of the segment.
 pub(crate) const TYPE_LEN: usize = 1;
 
-/// How many bytes of a segment, its type and its length, stand before its payload.
+/// The number of bytes in a segment before its payload: the type and the length of the segment.
 pub(crate) const SEGMENT_HEAD: usize = 5;
 
 /// Whether the bytes are marked as a binary file.
@@ -39,8 +40,9 @@ pub fn is_marked_binary(bytes: &[u8]) -> bool
     bytes.starts_with(MAGIC)
 }
 
-/// What a binary file says, by the tables of a bundle. A file that is refused says where its first
-/// segment stands that can't be read, and why.
+/// Reads a binary file by the prefix tables of a bundle. If the file is refused, the error gives
+/// the reason and the offset of the fault: 0 for the header, or else the start of the first segment
+/// that can't be read.
 pub fn read_binary<'d>(
     alloc: Global,
     bundle: &Bundle<'_>,
@@ -48,7 +50,7 @@ pub fn read_binary<'d>(
 ) -> Result<File<'d>, Fault<Stop>>
     ensures file { ReadsFile (IsBinaryFile (bundle_seen bundle.now).tables) file_seen bytes.now result }
 
-    // It is that of the header, or else that of the first segment at fault.
+    // The error is the fault of the header, or else the fault of the first segment at fault.
     ensures place { IfErr result (RefusesWith (IsBinaryFault (bundle_seen bundle.now).tables bytes.now)) }
 {
     let Some(body) = split_body(bytes) else {
@@ -58,7 +60,8 @@ pub fn read_binary<'d>(
     read_segments(alloc, bundle.tables(), body)
 }
 
-/// The segments of a file, which stand after its header; bytes after its length are ignored.
+/// The segments of a file, without its header; bytes after the length that the header declares are
+/// ignored.
 pub(crate) fn split_body(mut bytes: &[u8]) -> Option<&[u8]>
     ensures { Finds (BodyOf bytes.now) (λ body. body.now) result }
 {
@@ -68,7 +71,7 @@ pub(crate) fn split_body(mut bytes: &[u8]) -> Option<&[u8]>
     }
 }
 
-/// What the segments after the header say.
+/// Reads the segments after the header into a new file.
 fn read_segments<'d>(
     alloc: Global,
     tables: &Tables,
@@ -85,7 +88,7 @@ fn read_segments<'d>(
     Ok(file)
 }
 
-/// Reads all the segments after the header, and adds what they say to a file that says nothing.
+/// Reads all the segments after the header, and adds their content to an empty file.
 fn add_segments<'d>(
     alloc: Global,
     tables: &Tables,

@@ -7,12 +7,12 @@ ghost use Rattle.cmap_binary.specs.BinarySeen.{kind_seen};
 use crate::columns::Shape;
 use cmap_values::code_length::CodeLength;
 
-/// What a segment holds.
+/// The kind of content that a segment has.
 #[derive(Clone, Copy)]
 pub(crate) enum Kind {
     /// CIDs for codes of this length.
     Cids(Shape, CodeLength),
-    /// Texts of this number of units each, or with their number before each.
+    /// Texts with this number of units each, or each after the number of its units.
     Texts(Shape, Option<u8>),
     /// The name of a file that is used.
     Base,
@@ -29,7 +29,7 @@ pub(crate) enum Kind {
 }
 
 impl Kind {
-    /// What a segment of this type holds.
+    /// The kind of content that a segment of this type has; `None` for an unknown type.
     pub(crate) fn of(number: u8) -> Option<Kind>
         ensures { option_map kind_seen result ≡ kind_of number }
     {

@@ -21,7 +21,7 @@ pub struct OwnedBundle {
     files: Vec<Vec<u8>>,
 }
 
-// A crate that drops a bundle calls this, and proves nothing of the bundle's parts.
+// A crate that drops a bundle calls this `drop`, and proves nothing about the bundle's parts.
 impl Drop for OwnedBundle {
     fn drop(self) {
         let OwnedBundle {
@@ -31,7 +31,7 @@ impl Drop for OwnedBundle {
     }
 }
 
-// A clause sees its tables and its files.
+// Contracts see the tables and the files.
 impl Model for OwnedBundle {
     ghost use Rattle.std.specs.Prelude.{◌≡◌, []};
     ghost use Rattle.cmap_binary.specs.BundleSeen.{tables_seen};
@@ -46,7 +46,7 @@ impl Model for OwnedBundle {
 }
 
 impl OwnedBundle {
-    /// The bundle that the bytes are, as `Bundle::parse` has it; `None` where they are invalid.
+    /// Parses a bundle as `Bundle::parse` does, and copies its files; `None` if the bytes are invalid.
     ///
     /// It fails only if memory runs out.
     pub fn parse(alloc: Global, bytes: &[u8]) -> Result<Option<OwnedBundle>, AllocError>
@@ -66,16 +66,16 @@ impl OwnedBundle {
         }))
     }
 
-    /// The tables, as a bundle without files: what a CMap is parsed with, where `file` gives the files
-    /// that it uses.
+    /// The tables, as a bundle without files. A CMap is parsed with this bundle if `file` gives the
+    /// files that the CMap uses.
     pub fn without_files(&self) -> &Bundle<'static>
         ensures { bundle_seen result.now ≡ record { tables = self.now.tables; files = [] } }
     {
         &self.without_files
     }
 
-    /// The file of this name, as `load_embedded` gives it: `None` for a `Custom` name, and where the
-    /// bundle has no file at the index of the name. It takes no memory.
+    /// The file of this name, as `load_embedded` gives it: `None` for a `Custom` name, and if the
+    /// bundle has no file at the index of the name. No memory is allocated.
     pub fn file(&self, name: CMapName<'_>) -> Option<&[u8]>
         ensures { option_copied result
             ≡ option_and_then (λ at. slice_get self.now.files at) (index_of_name name.entry) }

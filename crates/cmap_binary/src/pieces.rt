@@ -1,5 +1,5 @@
-//! What a text begins with: numbers, codes, and pieces that give their own length. Each call takes
-//! off the text what it finds.
+//! Numbers, codes, and pieces that declare their own length, at the start of a text. Each call
+//! moves the text past the item that it finds.
 
 ghost use Rattle.std.specs.Prelude.{◌<◌, ◌^◌};
 ghost use Rattle.cmap_binary.specs.Fronts.{ByteAt, CodeAt, FieldAt, FramedAt, SizedAt, TerminatedAt};
@@ -9,7 +9,7 @@ ghost use Rattle.cmap_values.specs.Outcomes.{Finds};
 use crate::bits::Reader;
 use cmap_values::code_length::CodeLength;
 
-/// How many bytes the length of a piece has.
+/// The number of bytes in the length of a piece.
 const SIZE: u8 = 4;
 
 /// The byte that the text begins with.
@@ -28,7 +28,7 @@ pub fn take_u16(text: &mut &[u8]) -> Option<u16>
     Some(number)
 }
 
-/// The number of this many bytes that the text begins with, one to four.
+/// The number of `width` bytes, one to four, that the text begins with.
 pub fn take_field(text: &mut &[u8], width: u8) -> Option<u32>
     requires { IsCodeLength width }
     ensures { Finds (FieldAt width text.old.now) (λ number. (number, text.new.now)) result }
@@ -46,7 +46,7 @@ pub fn take_code(text: &mut &[u8], width: u8) -> Option<u32>
     take_field(text, width)
 }
 
-/// The piece after its length in four bytes.
+/// The piece that the text begins with, after the length of the piece in four bytes.
 pub fn take_sized<'b>(text: &mut &'b [u8]) -> Option<&'b [u8]>
     ensures { Finds (SizedAt text.old.now) (λ piece. (piece.now, text.new.now)) result }
 {
@@ -54,7 +54,8 @@ pub fn take_sized<'b>(text: &mut &'b [u8]) -> Option<&'b [u8]>
     text.split_off(..size as usize)
 }
 
-/// The piece that gives its whole length in the four bytes after its first `before` ones.
+/// The piece that the text begins with. The piece declares its whole length in four bytes, after
+/// its first `before` bytes.
 pub fn take_framed<'b>(text: &mut &'b [u8], before: usize) -> Option<&'b [u8]>
     requires { before < 2 ^ 32 }
     ensures { Finds (FramedAt before text.old.now) (λ piece. (piece.now, text.new.now)) result }

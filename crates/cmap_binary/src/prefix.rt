@@ -1,4 +1,4 @@
-//! Prefix tables: symbols that are spelled by words of bits, none of which begins another one.
+//! Prefix tables: symbols that are encoded by words of bits. No word is a prefix of another word.
 
 ghost use Rattle.std.specs.Prelude.{◌≡◌, ℕ, IfSome, IfNone, length};
 ghost use Rattle.cmap_binary.specs.PrefixWords.{AreWordLengths, BeginsAt, Decodes, lengths_from, zip_words};
@@ -17,18 +17,18 @@ use std::alloc::{AllocError, Global};
 use std::fmt;
 use std::marker::Model;
 
-/// Symbols, each spelled by a word of 1 to 32 bits, so that bits can be read word by word. A row
-/// of bits need not begin with a word.
+/// Symbols, each encoded by a word of 1 to 32 bits, so that bits can be read word by word. A row of
+/// bits need not begin with a word.
 #[derive(Drop)]
 pub struct PrefixTable {
-    /// How many words there are of each length, from 1 on.
+    /// The number of words of each length, from 1 on.
     counts: Vec<u32>,
     symbols: Vec<u32>,
-    /// What is known of the word that comes next, by each byte.
+    /// The results of the search for the next word, for each value of the next byte.
     known: Known,
 }
 
-// A clause sees the symbols in the order of their words, each with the length of its word in bits.
+// Contracts see the symbols in the order of their words, each with the length of its word in bits.
 impl Model for PrefixTable {
     ghost use Rattle.std.specs.Prelude.{◌≡◌, List, length};
     ghost use Rattle.cmap_binary.specs.PrefixWords.{CodeWord};
@@ -46,7 +46,7 @@ impl Model for PrefixTable {
     } };
 }
 
-/// The counts and the symbols; what is known by bytes follows from these.
+/// The counts and the symbols; the known words follow from these.
 impl fmt::Debug for PrefixTable {
     fn fmt<W: fmt::Write>(&self, f: &mut fmt::Formatter<W>) -> fmt::Result {
         fmt::Debug::fmt(&(&self.counts, &self.symbols), f)
@@ -54,13 +54,13 @@ impl fmt::Debug for PrefixTable {
 }
 
 impl PrefixTable {
-    /// The table that comes next, whose symbols have four bytes each: two bytes that are 0 where
-    /// there is no symbol, a byte that says how many lengths are counted, the counts of two bytes
-    /// each from length 1 on, and the symbols, all big-endian. `None` where none stands there:
-    /// where bytes are missing, a word is longer than 32 bits, or there are more words than fit.
+    /// Reads the table that comes next, with symbols of four bytes each: two bytes that are 0 if there
+    /// is no symbol, a byte with the number of lengths that are counted, the counts in two bytes each
+    /// from length 1 on, and the symbols, all big-endian. `None` if no valid table comes next: if bytes
+    /// are missing, a word is longer than 32 bits, or there are more words than fit.
     ///
-    /// It fails only if memory runs out. Only a table moves the reader, to the byte after
-    /// it. No byte of the reader is begun, as for all calls that read bytes.
+    /// It fails only if memory runs out. The reader moves only past a valid table, to the byte after
+    /// it. The reader must be at a byte boundary, as for all calls that read bytes.
     pub fn parse_delta(
         alloc: Global,
         reader: &mut Reader<'_>,
@@ -71,8 +71,7 @@ impl PrefixTable {
         parse(alloc, reader, 4)
     }
 
-    /// The table that comes next, whose symbols have one byte each. All else is as in
-    /// `parse_delta`.
+    /// Reads the table that comes next, with symbols of one byte each. All else is as in `parse_delta`.
     pub fn parse_count(
         alloc: Global,
         reader: &mut Reader<'_>,
@@ -83,7 +82,7 @@ impl PrefixTable {
         parse(alloc, reader, 1)
     }
 
-    /// How many words there are of each length, from 1 on, and the symbols in the order of their words.
+    /// The number of words of each length, from 1 on, and the symbols in the order of their words.
     pub fn parts(&self) -> (&[u32], &[u32])
         ensures words { zip_words (lengths_from 1 result.0.now) result.1.now ≡ self.now }
         ensures lengths { AreWordLengths (lengths_from 1 result.0.now) }
@@ -92,8 +91,8 @@ impl PrefixTable {
         (&self.counts, &self.symbols)
     }
 
-    /// The symbol whose word comes next, and the reader moves past that word; `None` where no
-    /// word of the table does, and then the reader stays. It takes no memory.
+    /// The symbol of the word that comes next; the reader moves past that word. `None` if no word of
+    /// the table comes next; then the reader doesn't move. No memory is allocated.
     pub fn decode(&self, reader: &mut Reader<'_>) -> Option<u32>
         ensures found { IfSome result (λ symbol. (len : ℕ)
             × Decodes self.now (bits_left reader.old) symbol len (bits_left reader.new)
@@ -111,8 +110,8 @@ impl PrefixTable {
     }
 }
 
-/// The symbol whose word the bits begin with, and that word is taken off; `None` where they begin with
-/// no word of the table, and then they stay. It takes no memory.
+/// The symbol of the word that the bits begin with; the word is taken from the bits. `None` if the bits
+/// begin with no word of the table; then no bit is taken. No memory is allocated.
 #[inline(always)]
 pub fn take_symbol(table: &PrefixTable, bits: &mut BitQueue<'_>) -> Option<u32>
     ensures found { IfSome result (λ symbol. (len : ℕ)

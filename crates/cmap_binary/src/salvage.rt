@@ -1,4 +1,4 @@
-//! What a binary file says apart from its faults: reading goes on after each.
+//! The content of a binary file apart from its faults: reading goes on after each fault.
 
 ghost use Rattle.std.specs.Prelude.{◌≡◌, [], ◌∷◌, ◌++◌, IfOk, OnOk, length};
 ghost use Rattle.cmap_values.specs.Faults.{Ascend};
@@ -21,9 +21,9 @@ use cmap_values::fault::{Fault, Reason, Stop};
 use cmap_values::file::{File, Salvaged};
 use std::alloc::{AllocError, Global};
 
-/// What a binary file says apart from its faults, by the tables of a bundle, and the faults. A segment
-/// at fault says nothing, and the others stay. Bytes that don't begin with a header of version 1 say
-/// nothing.
+/// Reads a binary file by the prefix tables of a bundle, and gives its content apart from its faults,
+/// and the faults. A segment at fault has no content, and the other segments are kept. Bytes that don't
+/// begin with a header of version 1 have no content.
 ///
 /// It fails only if memory runs out.
 pub fn salvage_binary<'d>(
@@ -31,20 +31,20 @@ pub fn salvage_binary<'d>(
     bundle: &Bundle<'_>,
     bytes: &'d [u8],
 ) -> Result<Salvaged<'d>, AllocError>
-    // Each segment is read by itself, as `SegmentsFrom` says.
+    // Each segment is read by itself, as `SegmentsFrom` states.
     ensures says { IfOk result (λ found. SalvagesBinary (bundle_seen bundle.now).tables bytes.now
         (file_seen found.file) found.faults.items) }
 
-    // Of a file it gives just that, and no fault.
+    // For a valid file, the result is that file and no fault.
     ensures file { IfOk result (λ found. (file : files.File)
         → IsBinaryFile (bundle_seen bundle.now).tables bytes.now file
         → (file_seen found.file ≡ file) × (found.faults.items ≡ [])) }
 
-    // Of other bytes there is a fault.
+    // For other bytes there is a fault.
     ensures first { IfOk result (λ found. HoldsOfNone (IsBinaryFile (bundle_seen bundle.now).tables bytes.now)
         → BeginsWithin (length bytes.now) found.faults.items) }
 
-    // The faults are in order, and in the bytes.
+    // The faults are in order, and lie within the bytes.
     ensures ascend { IfOk result (λ found. Ascend 0 found.faults.items (length bytes.now)) }
 {
     let mut faults = Vec::new(alloc);
@@ -52,7 +52,7 @@ pub fn salvage_binary<'d>(
     Ok(Salvaged { file, faults })
 }
 
-/// What the bytes say apart from their faults, which are added.
+/// The content of the bytes apart from their faults; the faults are added to `faults`.
 fn salvage_file<'d>(
     alloc: Global,
     tables: &Tables,
@@ -66,7 +66,7 @@ fn salvage_file<'d>(
     salvage_segments(alloc, tables, body, faults)
 }
 
-/// The bytes that are read as segments. A fault of the header is added.
+/// The bytes that are read as segments. A fault of the header is added to `faults`.
 fn salvage_body<'d>(bytes: &'d [u8], faults: &mut Vec<Stop>) -> Result<&'d [u8], AllocError>
     ensures { IfOk result (λ body. faults.old.items ≡ []
         → BodyRead bytes.now body.now faults.new.items) }
@@ -80,7 +80,7 @@ fn salvage_body<'d>(bytes: &'d [u8], faults: &mut Vec<Stop>) -> Result<&'d [u8],
     }
 }
 
-/// What follows a header of version 1, whatever length it gives.
+/// The bytes after a header of version 1, whatever length the header declares.
 fn after_header(bytes: &[u8]) -> Option<&[u8]>
     ensures { Finds (AfterHeader bytes.now) (λ rest. rest.now) result }
 {
@@ -91,7 +91,8 @@ fn after_header(bytes: &[u8]) -> Option<&[u8]>
     }
 }
 
-/// What the segments after the header say apart from their faults, which are added.
+/// The content of the segments after the header apart from their faults; the faults are added to
+/// `faults`.
 fn salvage_segments<'d>(
     alloc: Global,
     tables: &Tables,
@@ -106,7 +107,7 @@ fn salvage_segments<'d>(
     Ok(file)
 }
 
-/// Reads all the segments after the header, and adds what they say to a file that says nothing.
+/// Reads all the segments after the header, and adds their content to an empty file.
 fn add_segments<'d>(
     alloc: Global,
     tables: &Tables,
@@ -141,8 +142,8 @@ fn add_fault(faults: &mut Vec<Stop>, offset: usize, reason: Reason) -> Result<()
     Ok(())
 }
 
-/// Reads a segment, and adds what it says to the file. Where it is at fault the file stays as it is: so
-/// it is read once before.
+/// Reads a segment, and adds its content to the file. A segment at fault leaves the file as it is, so
+/// each segment is first read into another file.
 fn try_segment<'d>(
     alloc: Global,
     tables: &Tables,
@@ -158,7 +159,7 @@ fn try_segment<'d>(
     read_segment(alloc, tables, number, payload, file)
 }
 
-/// Whether a segment says something.
+/// Checks that a segment can be read.
 fn check_segment(
     alloc: Global,
     tables: &Tables,

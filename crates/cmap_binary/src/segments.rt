@@ -1,4 +1,4 @@
-//! What segments say, by their types.
+//! The content of segments, by their types.
 
 ghost use Rattle.cmap_binary.specs.BinaryFiles as files;
 ghost use Rattle.cmap_binary.specs.BinaryFiles.{IsSegment, SaysAs};
@@ -17,7 +17,7 @@ use cmap_values::file::File;
 use cmap_values::writing_mode::WritingMode;
 use std::alloc::Global;
 
-/// Reads a segment, and adds what it says to the file.
+/// Reads a segment, and adds its content to the file.
 pub(crate) fn read_segment<'d>(
     alloc: Global,
     tables: &Tables,
@@ -35,7 +35,7 @@ pub(crate) fn read_segment<'d>(
     }
 }
 
-/// Adds what a payload of this type says.
+/// Adds the content of a payload of this type.
 fn add_content<'d>(
     alloc: Global,
     tables: &Tables,
@@ -66,7 +66,7 @@ fn add_content<'d>(
     }
 }
 
-/// The name of a file that is used.
+/// Adds the name of a file that is used.
 fn add_use<'d>(payload: &'d [u8], file: &mut File<'d>) -> Result<(), Fault<Reason>>
     ensures { Adds (SaysAs no_tables files.base payload.now) (WrongAs no_tables files.base payload.now)
         (file_seen file.old) (file_seen file.new) result }
@@ -75,7 +75,7 @@ fn add_use<'d>(payload: &'d [u8], file: &mut File<'d>) -> Result<(), Fault<Reaso
     Ok(())
 }
 
-/// The writing mode: the first byte is 0 for horizontal, 1 for vertical.
+/// Sets the writing mode: the first byte is 0 for horizontal, 1 for vertical.
 fn set_mode(mut payload: &[u8], file: &mut File<'_>) -> Result<(), Fault<Reason>>
     ensures { Adds (SaysAs no_tables files.mode payload.now) (WrongAs no_tables files.mode payload.now)
         (file_seen file.old) (file_seen file.new) result }
@@ -87,7 +87,7 @@ fn set_mode(mut payload: &[u8], file: &mut File<'_>) -> Result<(), Fault<Reason>
     Ok(())
 }
 
-/// The name of the file.
+/// Sets the name of the file.
 fn set_name(alloc: Global, payload: &[u8], file: &mut File<'_>) -> Result<(), Fault<Reason>>
     ensures { Adds (SaysAs no_tables files.name payload.now) (WrongAs no_tables files.name payload.now)
         (file_seen file.old) (file_seen file.new) result }

@@ -1,4 +1,4 @@
--- The codes of a string with their CIDs and their texts, as C sees them.
+-- The codes of a string with their CIDs and their texts, in their C form.
 use Rattle.std.specs.Prelude.{◌≡◌, ℕ, ◌+◌, ◌-◌, ◌<◌, ◌≤◌, ◌⊎◌, List, [], ◌∷◌, ◌++◌, Option, Some, None, drop, length, is_some, unwrap_or}
 use Rattle.std.specs.Int.{from_bool}
 use Rattle.std.specs.List.{flat_map}
@@ -13,12 +13,12 @@ use Rattle.cmap_c.specs.declared.extract.Extracted.{Extracted}
 use Rattle.cmap_c.specs.declared.extract.ExtractedCharacter.{ExtractedCharacter}
 use Rattle.cmap_handles.specs.declared.status.Status.TheVariants.{Done, NoMemory, NoRoom}
 
--- a string begins with these characters, one after another, and this is left of it
+-- the string begins with these characters, one after another, and `left` is the rest of the string
 abbrev pub BeginsWithCharacters : Font → List ℕ → List Character → List ℕ → Type 0
 BeginsWithCharacters font string [] left = left ≡ string
 BeginsWithCharacters font string (character ∷ characters) left = IsNextCharacter font string character × BeginsWithCharacters font (drop character.code.byte_len string) characters left
 
--- the text of a character in UTF-8; no bytes where it has none
+-- the text of a character in UTF-8; no bytes where the character has no text
 abbrev pub bytes_of : Option BfString → List ℕ
 bytes_of None = []
 bytes_of (Some text) = utf8_of text
@@ -39,7 +39,7 @@ character_seen start character = record {
   text_len = length (bytes_of character.text);
 }
 
--- characters whose texts stand one after another, from this offset on
+-- characters with consecutive texts, from this offset on
 abbrev pub characters_seen : ℕ → List Character → List ExtractedCharacter
 characters_seen start [] = []
 characters_seen start (character ∷ characters) = character_seen start character ∷ characters_seen (start + length (bytes_of character.text)) characters
@@ -47,20 +47,20 @@ characters_seen start (character ∷ characters) = character_seen start characte
 abbrev pub texts_of : List Character → List ℕ
 texts_of characters = flat_map (λ character. bytes_of character.text) characters
 
--- the string begins with a character whose text has more bytes than there is room for
+-- the string begins with a character whose text doesn't fit in the buffer
 pub record PassesRoom (font : Font) (string : List ℕ) (room : ℕ) : Type 0 where
   pub character : Character
   pub is_next : IsNextCharacter font string character
   pub passes : room < length (bytes_of character.text)
 
--- why no more characters are made: the string ends, a room is full, or memory ran out, as it may for a text of more than one character
+-- the reason why no more characters are made: the string ends, a buffer is full, or memory ran out, which is possible for a text of more than one character
 abbrev pub IsEnd : Font → List ℕ → List ExtractedCharacter → List ℕ → Extracted → ℕ → Type 0
 IsEnd font string codes text extracted status = let left = drop extracted.taken string in
     ((status ≡ number Done) × (extracted.taken ≡ length string))
     ⊎ ((status ≡ number NoRoom) × (extracted.taken < length string) × ((extracted.made ≡ length codes) ⊎ PassesRoom font left (length text - extracted.used)))
     ⊎ ((status ≡ number NoMemory) × BeginsWithLongText font left)
 
--- the characters that a string begins with stand at the head of one room, and their texts at the head of another one; what follows them there is as it was
+-- the first characters of the string stand at the head of one buffer, and their texts at the head of another; the rest of each buffer is unchanged
 pub record IsExtracted (font : Font) (string : List ℕ) (old new : List ExtractedCharacter) (old_text new_text : List ℕ) (extracted : Extracted) (status : ℕ) : Type 0 where
   pub found : List Character
   pub characters : BeginsWithCharacters font string found (drop extracted.taken string)
@@ -71,6 +71,6 @@ pub record IsExtracted (font : Font) (string : List ℕ) (old new : List Extract
   pub texts : new_text ≡ texts_of found ++ drop extracted.used old_text
   pub end : IsEnd font string old old_text extracted status
 
--- the maps of three handles; one without a map is as one that the font doesn't have
+-- the font with the maps of three handles; a handle without a map counts as a map that the font doesn't have
 abbrev pub font_given : List Layer → Option (List Layer) → Option (List Layer) → Font
 font_given encoding to_unicode collection = record { encoding = encoding; to_unicode = to_unicode; collection = collection }

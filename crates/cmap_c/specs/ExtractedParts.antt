@@ -1,4 +1,4 @@
--- Private aid: how the characters of a string are made one by one.
+-- Private aid: the characters of a string, made one by one.
 use Rattle.std.specs.Prelude.{◌≡◌, ℕ, ◌+◌, ◌<◌, ◌≤◌, List, [], ◌++◌, drop, length, take}
 use Rattle.cmap_unicode.specs.Characters.{BeginsWithLongText, IsNextCharacter}
 use Rattle.cmap_unicode.specs.TextsOfCodes.{Font}
@@ -8,12 +8,12 @@ use Rattle.cmap_c.specs.declared.extract.ExtractedCharacter.{ExtractedCharacter}
 use Rattle.cmap_handles.specs.declared.status.Status.{Status}
 use Rattle.cmap_handles.specs.declared.status.Status.TheVariants.{Done, NoMemory, NoRoom}
 
--- bytes stand at an offset of a room, and the rest of it is as it was
+-- bytes stand at an offset of a buffer, and the rest of the buffer is unchanged
 pub record IsPutAt (bytes : List ℕ) (start : ℕ) (old new : List ℕ) : Type 0 where
   pub within : start + length bytes ≤ length old
   pub put : new ≡ take start old ++ bytes ++ drop (start + length bytes) old
 
--- the next character of a string is made, and its text stands at an offset of a room
+-- the next character of a string is made, and its text stands at an offset of a buffer
 pub record IsMade (font : Font) (string : List ℕ) (start : ℕ) (old new : List ℕ) (made : ExtractedCharacter) : Type 0 where
   pub character : Character
   pub is_next : IsNextCharacter font string character
@@ -22,7 +22,7 @@ pub record IsMade (font : Font) (string : List ℕ) (start : ℕ) (old new : Lis
   pub seen : made ≡ character_seen start character
   pub text : IsPutAt (bytes_of character.text) start old new
 
--- why the next character isn't made, in this room for its text
+-- the reason why the next character isn't made, with `room` bytes left for its text
 abbrev pub IsStop : Font → List ℕ → ℕ → Status → Type 0
 IsStop font string room Done = string ≡ []
 IsStop font string room NoRoom = PassesRoom font string room

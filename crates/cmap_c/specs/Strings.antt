@@ -1,4 +1,4 @@
--- The codes of a string, as C sees them.
+-- The codes of a string, in their C form.
 use Rattle.std.specs.Prelude.{◌≡◌, ℕ, ◌<◌, ◌≤◌, ◌⊎◌, List, [], ◌∷◌, ◌++◌, drop, length, map, is_some, unwrap_or}
 use Rattle.std.specs.Int.{from_bool}
 use Rattle.cmap_values.specs.Only.{IsOnly}
@@ -10,12 +10,12 @@ use Rattle.cmap_handles.specs.Statuses.{number}
 use Rattle.cmap_c.specs.declared.decode.Code.{Code}
 use Rattle.cmap_handles.specs.declared.status.Status.TheVariants.{Done, NoRoom}
 
--- a string begins with these codes, one after another, and this is left of it
+-- the string begins with these codes, one after another, and `left` is the rest of the string
 abbrev pub BeginsWith : List Layer → List ℕ → List StringCode → List ℕ → Type 0
 BeginsWith layers string [] left = left ≡ string
 BeginsWith layers string (code ∷ codes) left = IsOnly (IsNextCode layers string) code × BeginsWith layers (drop code.byte_len string) codes left
 
--- a code with its CID; without one the number is 0
+-- a code with its CID; a code without a CID has the number 0
 abbrev pub code_seen : List Layer → StringCode → Code
 code_seen layers found = record {
   code = found.code;
@@ -26,7 +26,8 @@ code_seen layers found = record {
   cut_short = from_bool found.cut_short;
 }
 
--- the codes that a string begins with, with their CIDs, stand at the head of the room, and what follows them there is as it was; they are all of the string, or the room is full
+-- the first codes of the string, with their CIDs, stand at the head of the buffer, and the rest of the buffer is unchanged; they are all codes of the string, or the buffer is
+-- full
 pub record IsDecoded (layers : List Layer) (string : List ℕ) (old new : List Code) (made taken status : ℕ) : Type 0 where
   pub found : List StringCode
   pub codes : BeginsWith layers string found (drop taken string)

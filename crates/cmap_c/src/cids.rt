@@ -7,7 +7,8 @@ use cmap_handles::handle::MapHandle;
 use cmap_runs::runs::Looks;
 use std::alloc::Global;
 
-/// The CID of a code of `byte_len` bytes, big-endian: whether there is one, and which.
+/// The CID of a code of `byte_len` bytes, big-endian. The result is whether the code has a CID,
+/// which is then written.
 #[unsafe(no_mangle)]
 pub extern "C" fn hayro_cmap_cid(
     map: &mut MapHandle,
@@ -27,7 +28,8 @@ pub extern "C" fn hayro_cmap_cid(
     }
 }
 
-/// The same, where the code lies in a codespace range of some layer.
+/// The CID of a code, as from `hayro_cmap_cid`, if the code lies in a codespace range of some
+/// layer; otherwise no CID.
 #[unsafe(no_mangle)]
 pub extern "C" fn hayro_cmap_cid_strict(
     map: &mut MapHandle,
@@ -50,7 +52,7 @@ pub extern "C" fn hayro_cmap_cid_strict(
     }
 }
 
-/// Writes a CID, if there is one: whether there is.
+/// Writes a CID, if there is one. The result is whether there is one.
 fn put_cid(answer: Option<u32>, cid: &mut u32) -> bool
     ensures { MatchOption answer
         ((result ≡ false) × (cid.new ≡ cid.old))

@@ -15,7 +15,7 @@ use cmap_values::code_length::CodeLength;
 use cmap_values::range::Range;
 use std::alloc::{AllocError, Global};
 
-/// The codes of `byte_len` bytes that have a CID over all layers, as ranges in order.
+/// The codes of `byte_len` bytes that have a CID in the whole map, as ranges in order.
 #[unsafe(no_mangle)]
 pub extern "C" fn hayro_cmap_codes_of_cid(
     map: &mut MapHandle,
@@ -41,7 +41,7 @@ pub extern "C" fn hayro_cmap_codes_of_cid(
     }
 }
 
-/// The codes of `byte_len` bytes that have a CID; none of a length that no code has.
+/// The codes of `byte_len` bytes that have a CID; no codes where no code has that many bytes.
 fn codes_of(
     alloc: Global,
     layers: &Layers,

@@ -1,4 +1,4 @@
-//! What the file of a layer declares for its codes, for C.
+//! The declarations in the file of a layer, for C.
 
 ghost use Rattle.std.specs.Prelude.{◌≡◌, MatchOption, option_map};
 ghost use Rattle.std.specs.Option.{option_copied};
@@ -73,7 +73,8 @@ pub extern "C" fn hayro_cmap_text_ranges(
     put_texts(layer_at(map.layers(), layer), ranges, needed)
 }
 
-/// The units of the declaration of texts at an index of a layer: those of the text of its first code.
+/// The units of the declaration of texts at an index in a layer. They are the units of the text of
+/// its first code.
 #[unsafe(no_mangle)]
 pub extern "C" fn hayro_cmap_text_units(
     map: &mut MapHandle,
@@ -91,7 +92,7 @@ pub extern "C" fn hayro_cmap_text_units(
     put_found(units_at(map.layers(), layer, index), units, needed)
 }
 
-/// Writes the declarations of CIDs of a layer, if there is one.
+/// Writes the declarations of CIDs of a layer, if the layer exists.
 fn put_cids(
     layer: Option<&Layer>,
     byte_len: u8,
@@ -111,7 +112,7 @@ fn put_cids(
     }
 }
 
-/// Writes the declarations of notdefs of a layer, if there is one.
+/// Writes the declarations of notdefs of a layer, if the layer exists.
 fn put_notdefs(
     layer: Option<&Layer>,
     byte_len: u8,
@@ -131,7 +132,7 @@ fn put_notdefs(
     }
 }
 
-/// Writes the declarations of texts of a layer, if there is one.
+/// Writes the declarations of texts of a layer, if the layer exists.
 fn put_texts(layer: Option<&Layer>, ranges: &mut [DeclaredTexts], needed: &mut usize) -> u32
     ensures { MatchOption (option_map layer_seen (option_copied layer.entry))
         ((result ≡ number Absent) × (ranges.new ≡ ranges.old) × (needed.new ≡ needed.old))
@@ -143,7 +144,7 @@ fn put_texts(layer: Option<&Layer>, ranges: &mut [DeclaredTexts], needed: &mut u
     }
 }
 
-/// The units of the declaration of texts at an index of a layer.
+/// The units of the declaration of texts at an index in a layer.
 fn units_at(map: Option<&Layers>, layer: usize, index: usize) -> Option<&[u16]>
     ensures { option_copied result ≡ option_map (λ declared. declared.units)
         (text_in (option_copied map.entry) layer index) }

@@ -12,27 +12,27 @@ use cmap_layers::string_codes::StringCode;
 use cmap_runs::runs::Looks;
 use std::alloc::Global;
 
-/// A code of a string, with its CID. It has no padding, and each of its fields may have any value,
-/// since C may hand in a room that was never written.
+/// A code of a string, with its CID. The struct has no padding, and each of its fields may have any
+/// value, since C may hand in an uninitialized buffer.
 #[repr(C)]
 #[derive(Clone, Copy)]
 pub struct Code {
-    /// The number that its bytes write, the first one high.
+    /// The number that the bytes of the code form, with the first byte as the high byte.
     pub(crate) code: u32,
-    /// Its CID, or 0 where it has none.
+    /// The CID of the code, or 0 where it has none.
     pub(crate) cid: u32,
-    /// How many bytes it has, 1 to 4.
+    /// The number of bytes of the code, 1 to 4.
     pub(crate) byte_len: u8,
-    /// 1 where it lies in a codespace range, else 0.
+    /// 1 where the code lies in a codespace range, otherwise 0.
     pub(crate) in_codespace: u8,
-    /// 1 where it has a CID, else 0.
+    /// 1 where the code has a CID, otherwise 0.
     pub(crate) has_cid: u8,
-    /// 1 where the string ends before it does, else 0.
+    /// 1 where the string ends before the code does, otherwise 0.
     pub(crate) cut_short: u8,
 }
 
-/// Cuts a string into codes, each with its CID, as many as there is room for; `made` is how many they
-/// are, and `taken` how many bytes they have.
+/// Cuts a string into codes, each with its CID, as many as the buffer can hold. `made` is the number
+/// of codes, and `taken` the number of their bytes.
 #[unsafe(no_mangle)]
 pub extern "C" fn hayro_cmap_decode(
     map: &mut MapHandle,
@@ -55,7 +55,7 @@ pub extern "C" fn hayro_cmap_decode(
     decode(layers, text, codes, made, taken)
 }
 
-/// Cuts a string into codes, as many as there is room for.
+/// Cuts a string into codes, as many as the buffer can hold.
 fn decode(
     layers: &Layers,
     text: &[u8],

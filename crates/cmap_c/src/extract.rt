@@ -17,34 +17,35 @@ use cmap_tokens::utf16::BfString;
 use cmap_unicode::{Character, Extractor};
 use std::alloc::Global;
 
-/// A code of a string with its CID, and with its text in a room for texts. It has no padding, and each
-/// of its fields may have any value, since C may hand in a room that was never written.
+/// A code of a string with its CID, and with the place of its text in a buffer for texts. The struct
+/// has no padding, and each of its fields may have any value, since C may hand in an uninitialized
+/// buffer.
 #[repr(C)]
 #[derive(Clone, Copy)]
 pub struct ExtractedCharacter {
     /// The code, and the CID that the font's CMap declares for it.
     pub(crate) code: Code,
-    /// 1 where it has a text, else 0.
+    /// 1 where the code has a text, otherwise 0.
     pub(crate) has_text: u32,
-    /// The offset at which its text begins.
+    /// The offset of the text in the buffer for texts.
     pub(crate) text_start: usize,
-    /// How many bytes its text has in UTF-8.
+    /// The number of bytes of the text in UTF-8.
     pub(crate) text_len: usize,
 }
 
-/// How far a string is extracted.
+/// The progress through a string.
 #[repr(C)]
 #[derive(Clone, Copy)]
 pub struct Extracted {
-    /// How many codes are made.
+    /// The number of codes that were made.
     pub(crate) made: usize,
-    /// How many bytes of the string they have.
+    /// The number of bytes of the string in these codes.
     pub(crate) taken: usize,
-    /// How many bytes their texts have in UTF-8.
+    /// The number of bytes of their texts in UTF-8.
     pub(crate) used: usize,
 }
 
-/// Cuts a string into codes, each with its CID and its text, as many as there is room for.
+/// Cuts a string into codes, each with its CID and its text, as many as the buffers can hold.
 #[unsafe(no_mangle)]
 pub extern "C" fn hayro_cmap_extract(
     encoding: &mut MapHandle,
@@ -91,7 +92,7 @@ fn font<'m>(
 }
 
 impl Extracted {
-    /// Nothing.
+    /// No progress.
     fn none() -> Extracted
         ensures { result ≡ record { made = 0; taken = 0; used = 0 } }
     {
@@ -103,7 +104,8 @@ impl Extracted {
     }
 }
 
-/// Cuts a string into codes, as many as there is room for; nothing is extracted before.
+/// Cuts a string into codes, as many as the buffers can hold. Nothing has been extracted before the
+/// call.
 fn extract(
     alloc: Global,
     font: &Extractor<'_>,
@@ -140,7 +142,7 @@ fn extract(
     }
 }
 
-/// The next code of a string, with its text at an offset of the room for texts.
+/// The next code of a string, with its text at an offset of the buffer for texts.
 fn next_code(
     alloc: Global,
     font: &Extractor<'_>,
@@ -169,7 +171,7 @@ fn next_code(
     }
 }
 
-/// A text in UTF-8, no bytes where there is none. The buffer is for a text of one character.
+/// The text in UTF-8; no bytes without a text. The buffer is for a text of one character.
 #[tactic(auto, using(crate::proofs::TextsOfBytes::encode_one))]
 fn utf8_of<'t>(text: &'t Option<BfString>, buffer: &'t mut [u8; 4]) -> &'t [u8]
     ensures { result.now ≡ bytes_of text.now }
@@ -181,7 +183,7 @@ fn utf8_of<'t>(text: &'t Option<BfString>, buffer: &'t mut [u8; 4]) -> &'t [u8]
     }
 }
 
-/// Writes bytes at an offset of the room, if it has room for them there; whether it has.
+/// Writes bytes at an offset of the buffer, if they fit there. The result is whether they fit.
 fn put_at(bytes: &[u8], start: usize, room: &mut [u8]) -> bool
     requires { start ≤ length room.old }
     ensures { MatchBool result (IsPutAt bytes.now start room.old room.new)
@@ -194,7 +196,7 @@ fn put_at(bytes: &[u8], start: usize, room: &mut [u8]) -> bool
     true
 }
 
-/// A code whose text has this many bytes, from this offset on.
+/// A code with its text, which has this number of bytes and begins at this offset.
 fn code_of(found: &Character, start: usize, text_len: usize) -> ExtractedCharacter
     requires { text_len ≡ length (bytes_of found.now.text) }
     ensures { result ≡ character_seen start found.now }

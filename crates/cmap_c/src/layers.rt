@@ -16,7 +16,7 @@ use cmap_layers::layer::Layer;
 use cmap_layers::layers::Layers;
 use std::alloc::Global;
 
-/// How many layers the map has.
+/// The number of layers of the map.
 #[unsafe(no_mangle)]
 pub extern "C" fn hayro_cmap_layers(map: &mut MapHandle, alloc: Global) -> usize
     ensures same { map.new.slot.map ≡ map.old.slot.map }

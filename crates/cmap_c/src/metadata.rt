@@ -1,4 +1,4 @@
-//! What the file of a map, and that of each of its layers, says of itself, for C.
+//! The metadata of the file of a map, and of the file of each of its layers, for C.
 
 ghost use Rattle.std.specs.Prelude.{◌≡◌, MatchOption, option_map, true, false};
 ghost use Rattle.std.specs.Option.{option_copied};
@@ -18,7 +18,7 @@ use cmap_values::character_collection::CharacterCollection;
 use cmap_values::writing_mode::WritingMode;
 use std::alloc::Global;
 
-/// The name that the file gives.
+/// The name that the file states.
 #[tactic(auto, using(crate::proofs::TopLayer::top_layer))]
 #[unsafe(no_mangle)]
 pub extern "C" fn hayro_cmap_name(
@@ -35,7 +35,7 @@ pub extern "C" fn hayro_cmap_name(
     hayro_cmap_layer_name(map, alloc, 0, room, needed)
 }
 
-/// The name that the file of this layer gives.
+/// The name that the file of this layer states.
 #[unsafe(no_mangle)]
 pub extern "C" fn hayro_cmap_layer_name(
     map: &mut MapHandle,
@@ -52,7 +52,7 @@ pub extern "C" fn hayro_cmap_layer_name(
     put_found(name_at(map.layers(), layer), room, needed)
 }
 
-/// The registry of the character collection that the file gives.
+/// The registry of the character collection that the file states.
 #[tactic(auto, using(crate::proofs::TopLayer::top_layer))]
 #[unsafe(no_mangle)]
 pub extern "C" fn hayro_cmap_registry(
@@ -69,7 +69,7 @@ pub extern "C" fn hayro_cmap_registry(
     hayro_cmap_layer_registry(map, alloc, 0, room, needed)
 }
 
-/// The registry of the character collection that the file of this layer gives.
+/// The registry of the character collection that the file of this layer states.
 #[unsafe(no_mangle)]
 pub extern "C" fn hayro_cmap_layer_registry(
     map: &mut MapHandle,
@@ -89,7 +89,7 @@ pub extern "C" fn hayro_cmap_layer_registry(
     }
 }
 
-/// The ordering of the character collection that the file gives.
+/// The ordering of the character collection that the file states.
 #[tactic(auto, using(crate::proofs::TopLayer::top_layer))]
 #[unsafe(no_mangle)]
 pub extern "C" fn hayro_cmap_ordering(
@@ -106,7 +106,7 @@ pub extern "C" fn hayro_cmap_ordering(
     hayro_cmap_layer_ordering(map, alloc, 0, room, needed)
 }
 
-/// The ordering of the character collection that the file of this layer gives.
+/// The ordering of the character collection that the file of this layer states.
 #[unsafe(no_mangle)]
 pub extern "C" fn hayro_cmap_layer_ordering(
     map: &mut MapHandle,
@@ -126,7 +126,8 @@ pub extern "C" fn hayro_cmap_layer_ordering(
     }
 }
 
-/// The supplement of the character collection that the file gives: whether it gives one, and which.
+/// The supplement of the character collection that the file states. The result is whether the file
+/// states a collection.
 #[tactic(auto, using(crate::proofs::TopLayer::top_layer))]
 #[unsafe(no_mangle)]
 pub extern "C" fn hayro_cmap_supplement(
@@ -142,8 +143,8 @@ pub extern "C" fn hayro_cmap_supplement(
     hayro_cmap_layer_supplement(map, alloc, 0, supplement)
 }
 
-/// The supplement of the character collection that the file of this layer gives: whether it gives one,
-/// and which.
+/// The supplement of the character collection that the file of this layer states. The result is
+/// whether the file states a collection.
 #[unsafe(no_mangle)]
 pub extern "C" fn hayro_cmap_layer_supplement(
     map: &mut MapHandle,
@@ -165,7 +166,8 @@ pub extern "C" fn hayro_cmap_layer_supplement(
     }
 }
 
-/// The writing mode that the file gives: 0 horizontal, 1 vertical, 2 where it gives none.
+/// The writing mode that the file states: 0 for horizontal, 1 for vertical, 2 where the file states
+/// none.
 #[tactic(auto, using(crate::proofs::TopLayer::top_layer))]
 #[unsafe(no_mangle)]
 pub extern "C" fn hayro_cmap_writing_mode(map: &mut MapHandle, alloc: Global) -> u32
@@ -175,7 +177,7 @@ pub extern "C" fn hayro_cmap_writing_mode(map: &mut MapHandle, alloc: Global) ->
     hayro_cmap_layer_writing_mode(map, alloc, 0)
 }
 
-/// The writing mode that the file of this layer gives, as a number.
+/// The writing mode that the file of this layer states, as a number.
 #[unsafe(no_mangle)]
 pub extern "C" fn hayro_cmap_layer_writing_mode(
     map: &mut MapHandle,
@@ -193,7 +195,7 @@ pub extern "C" fn hayro_cmap_layer_writing_mode(
     }
 }
 
-/// The name that the file of a layer gives.
+/// The name that the file of a layer states.
 fn name_at(map: Option<&Layers>, layer: usize) -> Option<&[u8]>
     ensures { option_copied result ≡ layer_name (option_copied map.entry) layer }
 {
@@ -203,7 +205,7 @@ fn name_at(map: Option<&Layers>, layer: usize) -> Option<&[u8]>
     }
 }
 
-/// The character collection that the file of a layer gives.
+/// The character collection that the file of a layer states.
 fn collection_at(map: Option<&Layers>, layer: usize) -> Option<&CharacterCollection>
     ensures { option_map collection_seen (option_copied result)
         ≡ layer_collection (option_copied map.entry) layer }
@@ -214,7 +216,7 @@ fn collection_at(map: Option<&Layers>, layer: usize) -> Option<&CharacterCollect
     }
 }
 
-/// The writing mode that the file of a layer gives.
+/// The writing mode that the file of a layer states.
 fn mode_at(map: Option<&Layers>, layer: usize) -> Option<WritingMode>
     ensures { option_map mode_seen result ≡ layer_mode (option_copied map.entry) layer }
 {

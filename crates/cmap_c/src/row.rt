@@ -1,4 +1,4 @@
-//! The CIDs of codes in a row, for C.
+//! The CIDs of consecutive codes, for C.
 
 ghost use Rattle.std.specs.Prelude.{◌≡◌, MatchOption, true, false};
 ghost use Rattle.cmap_layers.specs.Rows.{AreCidsOf};
@@ -6,8 +6,8 @@ ghost use Rattle.cmap_layers.specs.Rows.{AreCidsOf};
 use cmap_handles::handle::MapHandle;
 use std::alloc::Global;
 
-/// The CIDs of the codes of `byte_len` bytes from `first` on, one after another, as many as there is
-/// room for: whether there is a map. `absent` stands for a code without a CID.
+/// The CIDs of the codes of `byte_len` bytes from `first` on, one after another, as many as the
+/// buffer can hold. `absent` stands for a code without a CID. The result is whether there is a map.
 #[unsafe(no_mangle)]
 pub extern "C" fn hayro_cmap_cids(
     map: &mut MapHandle,

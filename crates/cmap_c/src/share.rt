@@ -1,4 +1,4 @@
-//! Maps that several handles have, for C.
+//! Maps that several handles share, for C.
 
 ghost use Rattle.std.specs.Prelude.{◌≡◌, ◌⊎◌, None};
 ghost use Rattle.cmap_handles.specs.Statuses.{number};
@@ -8,7 +8,7 @@ use cmap_handles::handle::MapHandle;
 use cmap_handles::status::Status;
 use std::alloc::Global;
 
-/// Gives an `other` handle the same map; without one, `other` is empty. A map that it has is freed.
+/// Gives the handle `other` the same map, or none without a map. A map that `other` had is freed.
 #[unsafe(no_mangle)]
 pub extern "C" fn hayro_cmap_share(map: &mut MapHandle, alloc: Global, other: &mut MapHandle) -> u32
     ensures same { map.new.slot.map ≡ map.old.slot.map }

@@ -11,8 +11,8 @@ use cmap_handles::room::put_found;
 use cmap_unicode::unicode_name;
 use cmap_values::writing_mode::WritingMode;
 
-/// The name of the map from Unicode, in UTF-16, to the CIDs of a character collection, as `UniJIS-UTF16-H` of
-/// `Adobe-Japan1`, for the writing mode with this number.
+/// The name of the map from Unicode, in UTF-16, to the CIDs of a character collection, such as
+/// `UniJIS-UTF16-H` for `Adobe-Japan1`, for the writing mode with this number.
 #[unsafe(no_mangle)]
 pub extern "C" fn hayro_cmap_unicode_name(
     collection: &[u8],
@@ -27,7 +27,7 @@ pub extern "C" fn hayro_cmap_unicode_name(
     put_found(unicode_name(collection, mode_of(mode)), room, needed)
 }
 
-/// The writing mode with a number: horizontal, but for that of vertical.
+/// The writing mode with a number: vertical for its number, otherwise horizontal.
 fn mode_of(number: u32) -> WritingMode
     ensures { result ≡ mode_for number }
 {

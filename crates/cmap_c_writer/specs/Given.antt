@@ -1,4 +1,4 @@
--- What C hands in to make a file: the file that it stands for.
+-- The file for the metadata and the declarations that C hands in.
 use Rattle.std.specs.Prelude.{ℕ, ◌==◌, ◌&&◌, Bool, false, not, true, List, [], ◌∷◌, Option, Some, None, flat_map, length, nat_le, nat_lt, option_and_then, option_map, if◌then◌else◌}
 use Rattle.std.specs.Char.Escape.{encode_utf16}
 use Rattle.std.specs.Str.{chars, is_utf8}
@@ -17,11 +17,11 @@ use Rattle.cmap_c_writer.specs.declared.facts.Facts.{Facts}
 abbrev pub length_given : ℕ → Option ℕ
 length_given count = if nat_le 1 count && nat_le count 4 then Some count else None
 
--- the units of UTF-16 of a text, which is UTF-8 and has a character or more
+-- the UTF-16 units of a text that is UTF-8 and has a character or more
 abbrev pub units_given : List ℕ → Option (List ℕ)
 units_given text = if is_utf8 text && nat_lt 0 (length text) then Some (flat_map encode_utf16 (chars text)) else None
 
--- the numbers of kinds in the header
+-- the numbers of the kinds in the C header
 abbrev pub kind_numbered : ℕ → Option Kind
 kind_numbered number =
     if number == 0 then Some CodespaceRange
@@ -30,23 +30,23 @@ kind_numbered number =
     else if number == 3 then Some TextRange
     else None
 
--- what a declaration of this kind says of its codes of len bytes
+-- the declaration of this kind for codes of len bytes
 abbrev pub said_by : Declaration → ℕ → Kind → Option files.Declaration
 said_by d len CodespaceRange = Some (codespace (record { len = len; low = d.first; high = d.last }))
 said_by d len CidRange = Some (cid len (record { start = d.first; end = d.last; cid = d.cid }))
 said_by d len NotdefRange = Some (notdef len (record { start = d.first; end = d.last; cid = d.cid }))
 said_by d len TextRange = option_map (λ units. bf (record { start = d.first; end = d.last; units = units })) (units_given d.text.now)
 
--- what a declaration says; nothing where it has no length or no kind, or where its text is none
+-- the declaration that C hands in; nothing where its length or its kind isn't valid, or where it needs a text and has none
 abbrev pub declared_by : Declaration → Option files.Declaration
 declared_by d = option_and_then (λ len. option_and_then (said_by d len) (kind_numbered d.kind)) (length_given d.byte_len)
 
--- what all of them say, where each says something
+-- the declarations that C hands in, if each is valid
 abbrev pub all_declared : List Declaration → Option (List files.Declaration)
 all_declared [] = Some []
 all_declared (d ∷ ds) = option_and_then (λ said. option_map (λ more. said ∷ more) (all_declared ds)) (declared_by d)
 
--- what the file says of itself
+-- the metadata of the file
 abbrev pub name_given : Facts → Option (List ℕ)
 name_given facts = if facts.has_name == 0 then None else Some facts.name.now
 
@@ -56,7 +56,7 @@ collection_given facts = if facts.has_collection == 0 then None else Some (recor
 abbrev pub metadata_given : Facts → FileMetadata
 metadata_given facts = record { collection = collection_given facts; name = name_given facts; mode = mode_numbered facts.writing_mode }
 
--- the file that says this of itself and these declarations, and uses no other
+-- the file with this metadata and these declarations, which uses no other file
 abbrev pub file_given : Facts → List Declaration → Option File
 file_given facts ds = option_map (λ said. record { metadata = metadata_given facts; lists = lists_of said; uses = [] }) (all_declared ds)
 
@@ -65,19 +65,19 @@ abbrev pub gives_text : Option Kind → Bool
 gives_text (Some TextRange) = true
 gives_text other = false
 
--- the length is another one
+-- the length differs from the one before
 abbrev pub is_other : Option ℕ → ℕ → Bool
 is_other None len = false
 is_other (Some before) len = not (before == len)
 
--- how many bytes the codes of all texts have, also of those before; nothing where these differ, or where there is no text
+-- the number of bytes of the codes of all texts, including the texts before; nothing where the numbers differ, or where there is no text
 abbrev pub same_after : Option ℕ → List Declaration → Option ℕ
 same_after before [] = before
 same_after before (d ∷ ds) =
     if gives_text (kind_numbered d.kind) then (if is_other before d.byte_len then None else same_after (Some d.byte_len) ds)
     else same_after before ds
 
--- a code of a text has as many, or four where these are too few; else by the codespace ranges
+-- the length of the code of a text: the common length, or four where the code doesn't fit in it; without a common length, the length by the codespace ranges
 abbrev pub length_of_text : Option ℕ → List Codespace → ℕ → ℕ
 length_of_text (Some len) ss code = end_length len code
 length_of_text None ss code = length_by ss code

@@ -1,4 +1,4 @@
--- What a handle of an encoder owns.
+-- The memory that a handle of an encoder owns.
 use denote.RattleType.{RattleType}
 use Rattle.cmap_encode.specs.contracts.encoder.Encoder as encoder
 use Rattle.cmap_handles.specs.contracts.shared.Shared as shared

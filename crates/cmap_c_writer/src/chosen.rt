@@ -20,12 +20,12 @@ pub struct ChosenCodes {
     pub(crate) first: u32,
     /// The last code.
     pub(crate) last: u32,
-    /// How many bytes they have, 1 to 4.
+    /// The number of bytes of each code, 1 to 4.
     pub(crate) byte_len: u32,
 }
 
 impl ChosenCodes {
-    /// The codes, where they have a length of codes.
+    /// The codes, if their number of bytes is 1 to 4.
     fn codes(&self) -> Option<Codes>
         ensures { MatchOption result (length_given self.now.byte_len ≡ None)
             (λ codes. chosen_seen codes ≡ self.now) }
@@ -39,7 +39,7 @@ impl ChosenCodes {
     }
 }
 
-/// All codes that are chosen; refused where some have no length of codes.
+/// All chosen codes; refused if some codes have a number of bytes other than 1 to 4.
 pub(crate) fn chosen_codes(
     alloc: Global,
     chosen: &[ChosenCodes],

@@ -1,4 +1,4 @@
-//! A declaration of a file that is made, as C hands it in.
+//! A declaration for a file, as C hands it in.
 
 ghost use Rattle.std.specs.Prelude.{◌≡◌, Some, None, [], ◌∷◌};
 ghost use Rattle.cmap_values.specs.DeclarationsSeen.{lists_seen};
@@ -16,21 +16,21 @@ use cmap_values::fault::Fault;
 use cmap_values::range::Range;
 use std::alloc::Global;
 
-/// What a declaration gives its codes.
+/// The content that a declaration gives its codes.
 #[derive(Clone, Copy)]
 pub(crate) enum Kind {
-    /// They are codes.
+    /// A codespace range.
     CodespaceRange,
-    /// CIDs that count on.
+    /// CIDs that count on from code to code.
     CidRange,
-    /// One CID for all, where they have no other.
+    /// One CID for all codes that have no other.
     NotdefRange,
     /// Texts whose last units count on.
     TextRange,
 }
 
 impl Kind {
-    /// The kind of a number in the header.
+    /// The kind with a number in the C header.
     pub(crate) fn numbered(number: u16) -> Option<Kind>
         ensures { result ≡ kind_numbered number }
     {
@@ -44,24 +44,24 @@ impl Kind {
     }
 }
 
-/// A declaration for the codes from `first` to `last`. All its bytes are in a field.
+/// A declaration for the codes from `first` to `last`. The struct has no padding.
 #[repr(C)]
 #[derive(Clone, Copy)]
 pub struct Declaration<'a> {
-    /// What it gives them.
+    /// The number of the kind of the declaration.
     pub(crate) kind: u16,
-    /// How many bytes they have, 1 to 4.
+    /// The number of bytes of each code, 1 to 4.
     pub(crate) byte_len: u16,
     pub(crate) first: u32,
     pub(crate) last: u32,
-    /// The CID of the first code, or of all.
+    /// The CID of the first code, or of all codes.
     pub(crate) cid: u32,
     /// The text of the first code, in UTF-8.
     pub(crate) text: &'a [u8],
 }
 
 impl Declaration<'_> {
-    /// Adds what is declared; refused where that is nothing.
+    /// Adds the declaration to the lists. A declaration that declares nothing is refused.
     pub(crate) fn add_to(&self, alloc: Global, lists: &mut Lists) -> Result<(), Fault<NoText>>
         ensures { Outcome (λ _. (said : files.Declaration) × (declared_by self.now ≡ Some said)
             × (lists_seen lists.new ≡ append_lists (lists_seen lists.old) (lists_of (said ∷ []))))

@@ -1,4 +1,4 @@
-//! All declarations of a file that is made.
+//! All declarations for a file.
 
 ghost use Rattle.std.specs.Prelude.{◌≡◌, Some, None, option_map};
 ghost use Rattle.cmap_values.specs.DeclarationsSeen.{lists_seen};
@@ -12,7 +12,7 @@ use cmap_values::declarations::Lists;
 use cmap_values::fault::Fault;
 use std::alloc::Global;
 
-/// What is declared, in order; refused where one declares nothing.
+/// The lists of these declarations, in order; refused if a declaration declares nothing.
 pub(crate) fn declared_lists(
     alloc: Global,
     declarations: &[Declaration<'_>],

@@ -1,4 +1,4 @@
-//! What a file that is made says of itself, as C hands it in.
+//! The metadata for a file, as C hands it in.
 
 ghost use Rattle.std.specs.Prelude.{◌≡◌, IfOk, option_map};
 ghost use Rattle.cmap_values.specs.Metadata.{mode_numbered};
@@ -10,28 +10,28 @@ use cmap_values::metadata::Metadata;
 use cmap_values::writing_mode::WritingMode;
 use std::alloc::{AllocError, Global};
 
-/// What a file says of itself. All its bytes are in a field.
+/// The metadata of a file. The struct has no padding.
 #[repr(C)]
 #[derive(Clone, Copy)]
 pub struct Facts<'a> {
-    /// Its name.
+    /// The name of the file.
     pub(crate) name: &'a [u8],
-    /// The registry of its character collection.
+    /// The registry of the character collection.
     pub(crate) registry: &'a [u8],
-    /// The ordering of its character collection.
+    /// The ordering of the character collection.
     pub(crate) ordering: &'a [u8],
-    /// The supplement of its character collection.
+    /// The supplement of the character collection.
     pub(crate) supplement: i32,
-    /// 0 where it gives no name.
+    /// 0 where the file states no name.
     pub(crate) has_name: u8,
-    /// 0 where it gives no character collection.
+    /// 0 where the file states no character collection.
     pub(crate) has_collection: u8,
-    /// Its writing mode; it gives none but for 0 and 1.
+    /// The writing mode: 0 or 1; any other number states none.
     pub(crate) writing_mode: u16,
 }
 
 impl Facts<'_> {
-    /// What the file says of itself. It fails only if memory runs out.
+    /// The metadata of the file. An error means that memory ran out.
     pub(crate) fn metadata(&self, alloc: Global) -> Result<Metadata, AllocError>
         ensures { IfOk result (λ metadata. metadata_seen metadata ≡ metadata_given self.now) }
     {
@@ -43,7 +43,7 @@ impl Facts<'_> {
         })
     }
 
-    /// Its name, where it gives one.
+    /// The name of the file, if it states one.
     fn given_name(&self, alloc: Global) -> Result<Option<Vec<u8>>, AllocError>
         ensures { IfOk result
             (λ name. option_map (λ name. name.items) name ≡ name_given self.now) }
@@ -54,7 +54,7 @@ impl Facts<'_> {
         Ok(Some(Vec::from_slice(alloc, self.name)?))
     }
 
-    /// Its character collection, where it gives one.
+    /// The character collection of the file, if it states one.
     fn given_collection(&self, alloc: Global) -> Result<Option<CharacterCollection>, AllocError>
         ensures { IfOk result
             (λ collection. option_map collection_seen collection ≡ collection_given self.now) }
@@ -69,7 +69,7 @@ impl Facts<'_> {
         }))
     }
 
-    /// Its writing mode, where it gives one.
+    /// The writing mode of the file, if it states one.
     fn given_mode(&self) -> Option<WritingMode>
         ensures { option_map mode_seen result ≡ mode_numbered self.now.writing_mode }
     {

@@ -1,4 +1,4 @@
-//! The file of what C hands in.
+//! The file with the metadata and the declarations that C hands in.
 
 ghost use Rattle.std.specs.Prelude.{◌≡◌, Some, None};
 ghost use Rattle.cmap_values.specs.FilesSeen.{file_seen};
@@ -13,7 +13,7 @@ use cmap_values::fault::Fault;
 use cmap_values::file::File;
 use std::alloc::Global;
 
-/// The file that says this of itself and declares this; refused where a declaration declares nothing.
+/// The file with this metadata and these declarations; refused if a declaration declares nothing.
 pub(crate) fn file_of<'d>(
     alloc: Global,
     facts: &Facts<'_>,

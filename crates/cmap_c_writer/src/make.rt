@@ -12,7 +12,7 @@ use cmap_edit::tidy::tidy;
 use cmap_values::fault::Fault;
 use std::alloc::Global;
 
-/// The text of a file that says this of itself and declares this, in the fewest declarations.
+/// The text of a file with this metadata and these declarations, in the fewest declarations.
 #[unsafe(no_mangle)]
 pub extern "C" fn hayro_cmap_make(
     alloc: Global,
@@ -28,7 +28,7 @@ pub extern "C" fn hayro_cmap_make(
     put_text(made_text(alloc, facts, declarations), room, needed)
 }
 
-/// The text; refused where there is none.
+/// The text of the file; refused where there is none.
 fn made_text(
     alloc: Global,
     facts: &Facts<'_>,

@@ -1,4 +1,4 @@
-//! How many bytes the codes of texts are written with.
+//! The number of bytes of the codes of texts.
 
 ghost use Rattle.std.specs.Prelude.{◌≡◌, ℕ, None, map, option_and_then, option_map};
 ghost use Rattle.cmap_text_writer.specs.Lengths.{text_length};
@@ -12,7 +12,8 @@ use cmap_text_writer::TextLengths;
 use cmap_values::code_length::CodeLength;
 use cmap_values::declarations::Codespace;
 
-/// As many as the declarations of texts say, if all say the same; else as the codespace ranges have.
+/// The length that all declarations of texts give to their codes, if it is the same; otherwise the
+/// lengths by the codespace ranges.
 pub(crate) fn text_lengths(declarations: &[Declaration<'_>], spaces: &[Codespace]) -> TextLengths
     ensures { (code : ℕ) → text_length result code
         ≡ text_lengths_given declarations.now (map codespace_seen spaces.now) code }
@@ -23,7 +24,7 @@ pub(crate) fn text_lengths(declarations: &[Declaration<'_>], spaces: &[Codespace
     }
 }
 
-/// The length of the codes of texts, if all have the same.
+/// The length of the codes of texts, if all declarations of texts give the same.
 fn same_length(declarations: &[Declaration<'_>]) -> Option<CodeLength>
     ensures { option_map length_of result ≡ option_and_then length_given (same_after None declarations.now) }
 {
@@ -47,7 +48,7 @@ fn is_text(declaration: &Declaration<'_>) -> bool
     matches!(Kind::numbered(declaration.kind), Some(Kind::TextRange))
 }
 
-/// Whether this is another length than the one before.
+/// Whether this length differs from the one before.
 fn is_other(before: Option<u16>, len: u16) -> bool
     ensures { result ≡ is_other before len }
 {

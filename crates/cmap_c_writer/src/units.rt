@@ -13,7 +13,7 @@ use cmap_values::units::Units;
 use std::alloc::{AllocError, Global};
 use std::str;
 
-/// The units of a text in UTF-8. One that is empty or isn't UTF-8 is refused.
+/// The units of a text in UTF-8. A text that is empty or isn't UTF-8 is refused.
 pub(crate) fn units_of(alloc: Global, text: &[u8]) -> Result<Units, Fault<NoText>>
     ensures { Outcome (λ units. units_given text.now ≡ Some (units_seen units))
         (λ _. units_given text.now ≡ None) result }

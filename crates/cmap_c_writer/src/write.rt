@@ -21,7 +21,8 @@ use cmap_values::fault::Fault;
 use cmap_values::file::File;
 use std::alloc::Global;
 
-/// The text of one file with the answers of the map, for these codes alone, or for all if there are none.
+/// The text of one file with the answers of the map, for these codes only, or for all codes if none are
+/// given.
 #[unsafe(no_mangle)]
 pub extern "C" fn hayro_cmap_write(
     map: &mut MapHandle,
@@ -42,7 +43,7 @@ pub extern "C" fn hayro_cmap_write(
     put_text(written_text(alloc, layers, codes), room, needed)
 }
 
-/// The text; refused where there is none.
+/// The text of the file; refused where there is none.
 fn written_text(
     alloc: Global,
     layers: &Layers,
@@ -55,7 +56,7 @@ fn written_text(
     text_of(alloc, &file, TextLengths::by(&file.lists.spaces))
 }
 
-/// The file; refused where there is none.
+/// The file with the answers of the map; refused where there is none.
 fn file_for<'d>(
     alloc: Global,
     layers: &Layers,
@@ -82,7 +83,7 @@ fn flat_file<'d>(alloc: Global, layers: &Layers) -> Result<File<'d>, Fault<NoTex
     }
 }
 
-/// The file for the codes that are chosen.
+/// The file for the chosen codes.
 fn chosen_file<'d>(
     alloc: Global,
     layers: &Layers,

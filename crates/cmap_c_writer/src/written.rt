@@ -1,4 +1,4 @@
-//! A file as text, in a room.
+//! A file as text in a buffer.
 
 ghost use Rattle.std.specs.Prelude.{◌≡◌, List, ℕ, MatchResult};
 ghost use Rattle.cmap_values.specs.FilesSeen.{file_seen};
@@ -15,11 +15,11 @@ use cmap_values::fault::Fault;
 use cmap_values::file::File;
 use std::alloc::Global;
 
-/// No text says what is handed in.
+/// The reason that no text represents the content that C hands in.
 #[derive(Clone, Copy)]
 pub(crate) struct NoText;
 
-/// A text that says what the file says, with these lengths of the codes of texts; refused where there is none.
+/// A text with the content of the file, with these lengths of the codes of texts; refused where there is none.
 pub(crate) fn text_of(
     alloc: Global,
     file: &File<'_>,
@@ -35,7 +35,8 @@ pub(crate) fn text_of(
     }
 }
 
-/// Writes the text at the head of the room, where it has room, and how many bytes it has.
+/// Writes the text at the head of the buffer `room`, if it fits, and the number of its bytes to `needed`. The
+/// result is the number of the status.
 pub(crate) fn put_text(
     text: Result<Vec<u8>, Fault<NoText>>,
     room: &mut [u8],

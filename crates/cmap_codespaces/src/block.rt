@@ -1,5 +1,5 @@
-//! Bits for 64 codespace ranges: which of them have codes of a length, and which have a value at a place
-//! of their codes.
+//! Rows of bits for 64 codespace ranges: the ranges with codes of each length, and the ranges with each
+//! value at each place of their codes.
 
 ghost use Rattle.std.specs.Prelude.{◌≡◌, ◌↔◌, ℕ, ◌+◌, ◌*◌, ◌<◌, ◌≤◌, ◌⊎◌, get_or, length, replicate, IfOk};
 ghost use Rattle.std.specs.Int.{bit_at};
@@ -10,13 +10,13 @@ ghost use Rattle.cmap_codespaces.specs.SpaceBits.{HaveBits, InRow, row_count, ro
 use cmap_values::declarations::Codespace;
 use std::alloc::{AllocError, Global};
 
-/// How many ranges a block has bits for.
+/// The number of ranges for which a block has bits.
 pub(crate) const BLOCK_LEN: usize = 64;
 
-/// How many rows a block has for values: one for each value of each of four bytes.
+/// The number of rows for values in a block: one for each value of each of four bytes.
 const VALUE_ROW_COUNT: usize = 4 * 256;
 
-/// How many rows a block has: those for values, and then one for each length.
+/// The number of rows in a block: the rows for values, and then one for each length.
 pub(crate) const ROW_COUNT: usize = VALUE_ROW_COUNT + 4;
 
 /// The row of the ranges that have a value at a place of their codes; the first byte is at place 0.
@@ -33,11 +33,11 @@ pub(crate) fn row_of_length(byte_len: u8) -> usize
     VALUE_ROW_COUNT - 1 + usize::from(byte_len)
 }
 
-/// How many rows are cleared at once.
+/// The number of rows that are cleared at once.
 const CLEARED_AT_ONCE: usize = 128;
 
 /// The rows of a block or a group with no range. A long stretch of memory may be cleared byte by byte, so
-/// they are cleared in short ones.
+/// the rows are cleared in short stretches.
 pub(crate) fn no_rows(alloc: Global) -> Result<Vec<u64>, AllocError>
     ensures { IfOk result (λ rows. rows.items ≡ replicate row_count 0) }
 {
@@ -66,7 +66,7 @@ pub(crate) fn rows_of(
     Ok(rows)
 }
 
-/// Sets the bit of a range in each row that it is in.
+/// Sets the bit of a range in each row that contains the range.
 fn add(rows: &mut [u64], space: &Codespace, bit: u32)
     requires size { length rows.old ≡ row_count }
     requires bit { bit < 64 }
@@ -84,7 +84,7 @@ fn add(rows: &mut [u64], space: &Codespace, bit: u32)
     }
 }
 
-/// Sets a bit in the rows from `low` to `high`, both among them.
+/// Sets a bit in the rows from `low` to `high`, both included.
 fn set_rows(rows: &mut [u64], low: usize, high: usize, bit: u32)
     requires within { high < length rows.old }
     requires bit { bit < 64 }
@@ -96,7 +96,7 @@ fn set_rows(rows: &mut [u64], low: usize, high: usize, bit: u32)
     }
 }
 
-/// The byte of a number that stands `after` bytes before its last.
+/// The byte of a number at `after` bytes before its last byte.
 pub(crate) fn byte_at(number: u32, after: u8) -> u32
     requires { after < 4 }
     ensures { result ≡ byte_at number after }

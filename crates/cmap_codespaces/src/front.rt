@@ -1,4 +1,4 @@
-//! The shortest code in a codespace range that a string begins with.
+//! The shortest prefix of a string that is a code in a codespace range.
 
 ghost use Rattle.std.specs.Prelude.{◌≡◌, ℕ, ◌+◌, ◌*◌, ◌<◌, ◌≤◌, Some, length, slice_index, take};
 ghost use Rattle.std.specs.Bool.{MatchBool};
@@ -11,8 +11,7 @@ use crate::block::{row_of_length, row_of_value};
 use crate::query::Query;
 use crate::search::any_of_tops;
 
-/// How many bytes the shortest code has that a text begins with, of those that a range of some block
-/// contains.
+/// The number of bytes in the shortest prefix of a text that is a code in a range of some block.
 pub(crate) fn shortest_among_blocks(blocks: &[Vec<u64>], text: &[u8]) -> Option<u8>
     requires { HaveRows blocks.now }
     ensures { IsLeast (IsInsideWithin text.now blocks.now 0 (length blocks.now)) result }
@@ -24,8 +23,8 @@ pub(crate) fn shortest_among_blocks(blocks: &[Vec<u64>], text: &[u8]) -> Option<
     shortest
 }
 
-/// The answer of `shortest_among_blocks`, where no code of a range has fewer bytes than `fewest`, and only
-/// those blocks are looked at that may have a range.
+/// The answer of `shortest_among_blocks`, if no range with codes of fewer than `fewest` bytes matches the
+/// text. Only blocks that may have a matching range are searched.
 #[inline(never)]
 pub(crate) fn shortest_among_groups(
     blocks: &[Vec<u64>],
@@ -51,8 +50,8 @@ pub(crate) fn shortest_among_groups(
     None
 }
 
-/// The same of one block. Most codes have one or two bytes: outside of a loop, what is then done for each
-/// length needs no test of it.
+/// The answer of `shortest_among_blocks` for one block. Most codes have one or two bytes: outside of the
+/// loop, the steps for each of these lengths need no test of the length.
 #[inline(always)]
 pub(crate) fn shortest_in_block(rows: &[u64], text: &[u8]) -> Option<u8>
     requires { length rows.now ≡ row_count }
@@ -80,8 +79,9 @@ pub(crate) fn shortest_in_block(rows: &[u64], text: &[u8]) -> Option<u8>
     None
 }
 
-/// Whether a range of a block contains a code that ends with the byte at a place. `found` has a bit for
-/// each range that may begin with the bytes before, and then for each that may begin with this one too.
+/// Whether a range of a block contains a code that ends with the byte at a place. Before the call, `found`
+/// has a bit for each range that may begin with the bytes before that byte; after the call, for each range
+/// that may begin with that byte too.
 #[inline(always)]
 fn ends_at(rows: &[u64], text: &[u8], place: u8, found: &mut u64) -> bool
     requires size { length rows.now ≡ row_count }
@@ -96,7 +96,7 @@ fn ends_at(rows: &[u64], text: &[u8], place: u8, found: &mut u64) -> bool
     *found & rows[row_of_length(place + 1)] != 0
 }
 
-/// How many bytes the codes have at least of the ranges of a block that may begin with these bytes.
+/// The number of bytes in the shortest codes of the ranges of a block that may begin with these bytes.
 pub(crate) fn fewest_with_front(rows: &[u64], front: &[u8]) -> Option<u8>
     requires rows { length rows.now ≡ row_count }
     requires few { length front.now ≤ 4 }
@@ -127,7 +127,7 @@ fn with_front(rows: &[u64], front: &[u8]) -> u64
     found
 }
 
-/// The lesser of two numbers, or the one that is there.
+/// The lesser of two numbers, or the other number if one is `None`.
 pub fn lesser(one: Option<u8>, other: Option<u8>) -> Option<u8>
     ensures { result ≡ lesser one other }
 {

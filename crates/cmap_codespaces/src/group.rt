@@ -1,4 +1,4 @@
-//! Bits for 64 blocks: which of them have a range in a row at all.
+//! Rows of bits for 64 blocks: in each row, the blocks that have a range in that row.
 
 ghost use Rattle.std.specs.Prelude.{◌≡◌, ◌≢◌, ◌↔◌, ℕ, ◌<◌, ◌≤◌, ◌⊎◌, get_or, length, IfOk};
 ghost use Rattle.std.specs.Int.{bit_at};

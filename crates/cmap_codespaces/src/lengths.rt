@@ -1,4 +1,4 @@
-//! Which lengths the codes have that begin with a byte, or with two bytes.
+//! The lengths of the codes that begin with a byte, or with two bytes.
 
 ghost use Rattle.std.specs.Prelude.{◌≡◌, ◌↔◌, ℕ, ◌+◌, ◌-◌, ◌*◌, ◌/◌, ◌%◌, ◌<◌, ◌≤◌, ◌⊎◌, get_or, length, replicate, IfOk};
 ghost use Rattle.std.specs.Int.{bit_at};
@@ -10,19 +10,19 @@ use crate::block::byte_at;
 use cmap_values::declarations::Codespace;
 use std::alloc::{AllocError, Global};
 
-/// The row of the first pair of bytes. Before it are a row for no byte, and one for each first byte.
+/// The row of the first pair of bytes. A row for no byte, and one row for each first byte, come before it.
 const FIRST_PAIR: usize = 1 + 256;
 
-/// How many rows there are: after the first ones, one for each two bytes.
+/// The number of rows: the rows before `FIRST_PAIR`, and one row for each pair of bytes.
 const FRONT_ROW_COUNT: usize = FIRST_PAIR + 256 * 256;
 
-/// How many rows are cleared at once.
+/// The number of rows that are cleared at once.
 const CLEARED_AT_ONCE: usize = 1024;
 
-/// In how many rows a range may stand on average.
+/// The most rows that a range may be in, on average.
 const MOST_ROWS: u64 = 1024;
 
-/// The row of the first two bytes, or of all where there are fewer.
+/// The row of the first two bytes, or of all bytes if there are fewer.
 #[inline(always)]
 fn row_of_front(front: &[u8]) -> usize
     ensures { result ≡ row_of_front front.now }
@@ -36,7 +36,7 @@ fn row_of_front(front: &[u8]) -> usize
     }
 }
 
-/// A bit for each length of codes that the row of these bytes has.
+/// The bits in the row of these bytes, one for each length of codes.
 #[inline(always)]
 pub(crate) fn lengths_with_front(rows: &[u8], front: &[u8]) -> u64
     ensures { result ≡ get_or rows.now (row_of_front front.now) 0 }
@@ -47,8 +47,8 @@ pub(crate) fn lengths_with_front(rows: &[u8], front: &[u8]) -> u64
     }
 }
 
-/// In each row a bit for each length of codes that begin as it says. There are no rows where ranges are so
-/// wide that it would take long to make them.
+/// The rows for the first bytes of codes: each row has a bit for each length of the codes that begin with
+/// its bytes. There are no rows if ranges are so wide that it would take long to make the rows.
 pub(crate) fn lengths_of(alloc: Global, spaces: &[Codespace]) -> Result<Vec<u8>, AllocError>
     ensures { IfOk result (λ rows. 0 < length rows.items
         → HaveLengths spaces.now (length spaces.now) rows.items) }
@@ -59,7 +59,7 @@ pub(crate) fn lengths_of(alloc: Global, spaces: &[Codespace]) -> Result<Vec<u8>,
     rows_of(alloc, spaces)
 }
 
-/// Whether ranges stand in many rows.
+/// Whether the ranges are in too many rows on average.
 fn are_wide(spaces: &[Codespace]) -> bool {
     let mut rows: u64 = 0;
     for space in spaces {
@@ -68,7 +68,7 @@ fn are_wide(spaces: &[Codespace]) -> bool {
     rows / MOST_ROWS > spaces.len() as u64
 }
 
-/// In how many rows of two bytes a range stands.
+/// The number of rows for two bytes that a range is in.
 fn row_count(space: &Codespace) -> u64 {
     values_at(space, 0)
         .count()
@@ -85,7 +85,7 @@ fn rows_of(alloc: Global, spaces: &[Codespace]) -> Result<Vec<u8>, AllocError>
     Ok(rows)
 }
 
-/// The rows of no range. They are cleared in short stretches, as those of blocks are.
+/// The rows of no range. The rows are cleared in short stretches, as the rows of blocks are.
 fn no_lengths(alloc: Global) -> Result<Vec<u8>, AllocError>
     ensures { IfOk result (λ rows. rows.items ≡ replicate front_row_count 0) }
 {
@@ -97,7 +97,7 @@ fn no_lengths(alloc: Global) -> Result<Vec<u8>, AllocError>
     Ok(rows)
 }
 
-/// Sets the bit of a range's length in each row as which a code of it may begin.
+/// Sets the bit of a range's length in each row with whose bytes a code of the range may begin.
 fn add_length(rows: &mut [u8], space: &Codespace)
     requires { length rows.old ≡ front_row_count }
     ensures { (row i : ℕ) → row < front_row_count → (bit_at (get_or rows.new row 0) i ≡ 1)
@@ -123,7 +123,7 @@ struct Values {
 }
 
 impl Values {
-    /// How many there are.
+    /// The number of bytes.
     fn count(self) -> u64 {
         (self.high as u64)
             .saturating_sub(self.low as u64)
@@ -131,7 +131,8 @@ impl Values {
     }
 }
 
-/// The bytes that codes of a range may have at a place; all where they have fewer bytes.
+/// The bytes that codes of a range may have at a place; all bytes if the codes are too short to have that
+/// place.
 fn values_at(space: &Codespace, place: u8) -> Values
     ensures within { result.high < 256 }
     ensures low { result.low < 256 }
@@ -149,7 +150,7 @@ fn values_at(space: &Codespace, place: u8) -> Values
     }
 }
 
-/// Sets the bit of a length in the rows from `low` to `high`, both among them.
+/// Sets the bit of a length in the rows from `low` to `high`, both included.
 fn set_lengths(rows: &mut [u8], low: usize, high: usize, len: u8)
     requires within { high < length rows.old }
     requires len { len < 8 }

@@ -1,4 +1,4 @@
-//! Codespace ranges with codes of one length that begin with given bytes, by rows of bits.
+//! Queries for codespace ranges with codes of one length that begin with given bytes, by rows of bits.
 
 ghost use Rattle.std.specs.Prelude.{◌≡◌, ◌↔◌, ℕ, ◌≤◌, length, IsTrue};
 ghost use Rattle.std.specs.Int.{bit_at};
@@ -10,8 +10,8 @@ ghost use Rattle.cmap_codespaces.specs.SpaceBits.{AreRows, AreSet, InRows, IsFou
 use crate::block::{row_of_length, row_of_value};
 use cmap_values::code_length::CodeLength;
 
-/// The rows that the ranges have to be in: that of their length, and that of each byte. Where fewer than
-/// four bytes are given, the row of the length stands in their place.
+/// The rows that must contain the ranges: the row of their length, and the row of each byte. If fewer
+/// than four bytes are given, the row of the length takes the place of each missing byte.
 #[derive(Clone, Copy)]
 pub struct Query {
     length: usize,
@@ -22,7 +22,8 @@ pub struct Query {
 }
 
 impl Query {
-    /// The ranges with codes of `byte_len` bytes, from 1 to 4, that may begin with these, at most four.
+    /// The ranges with codes of `byte_len` bytes, from 1 to 4, that may begin with the bytes of `front`,
+    /// at most four.
     #[inline(always)]
     pub fn of_front(byte_len: u8, front: &[u8]) -> Query
         requires length { IsCodeLength byte_len }
@@ -42,7 +43,7 @@ impl Query {
         }
     }
 
-    /// The ranges that contain a code of this length.
+    /// The ranges that contain `code`, a code of this length.
     #[inline(always)]
     pub fn of_code(code: u32, len: CodeLength) -> Query
         ensures rows { AreRows result }
@@ -58,7 +59,7 @@ impl Query {
         }
     }
 
-    /// Whether a range of a block is in all rows.
+    /// Whether a range of a block is in all rows of the query.
     #[inline(always)]
     pub(crate) fn finds(&self, rows: &[u64]) -> bool
         requires size { length rows.now ≡ row_count }
@@ -68,7 +69,7 @@ impl Query {
         self.among(rows) != 0
     }
 
-    /// The bits that are set in all rows.
+    /// The bits that are set in all rows of the query.
     #[inline(always)]
     pub(crate) fn among(&self, rows: &[u64]) -> u64
         requires size { length rows.now ≡ row_count }
@@ -83,7 +84,7 @@ impl Query {
     }
 }
 
-/// The row of the byte at a place, or another one where there are fewer bytes.
+/// The row of the byte at a place, or `otherwise` if there are fewer bytes.
 #[inline(always)]
 fn row_at(front: &[u8], otherwise: usize, place: u8) -> usize
     ensures { result ≡ front_row front.now otherwise place }

@@ -1,4 +1,4 @@
-//! Whether a codespace range is asked for, by the bits of blocks and of groups of them.
+//! Whether a codespace range matches a query, by the bits of blocks and of groups of blocks.
 
 ghost use Rattle.std.specs.Prelude.{◌≡◌, ◌↔◌, ℕ, ◌+◌, ◌*◌, ◌<◌, ◌≤◌, IfSome, IsTrue, length};
 ghost use Rattle.std.specs.Int.{bit_at};
@@ -8,7 +8,7 @@ ghost use Rattle.cmap_codespaces.specs.SpaceBits.{AreGroups, AreRows, HaveRows, 
 use crate::block::BLOCK_LEN;
 use crate::query::Query;
 
-/// Whether a range of some block is asked for. Each block is looked at.
+/// Whether a range of some block matches the query. Each block is looked at.
 pub(crate) fn any_of_blocks(blocks: &[Vec<u64>], query: &Query) -> bool
     requires rows { HaveRows blocks.now }
     requires query { AreRows query.now }
@@ -22,8 +22,8 @@ pub(crate) fn any_of_blocks(blocks: &[Vec<u64>], query: &Query) -> bool
     false
 }
 
-/// The answer of `any_of_blocks`. Each top group is looked at, of its groups those that may have a range, and
-/// of their blocks too.
+/// The answer of `any_of_blocks`. Each top group is looked at. Groups and blocks are looked at only if they
+/// may have a matching range.
 #[inline(always)]
 pub(crate) fn any_of_tops(
     blocks: &[Vec<u64>],
@@ -45,7 +45,7 @@ pub(crate) fn any_of_tops(
     false
 }
 
-/// Whether a range is asked for of the blocks of those groups from `first` on that have their bits set.
+/// Whether a range matches the query in the blocks of the groups, from `first` on, whose bits are set.
 #[inline(always)]
 fn any_of_top(
     blocks: &[Vec<u64>],
@@ -72,7 +72,7 @@ fn any_of_top(
     false
 }
 
-/// Whether a range is asked for of the blocks of the group at this index, if there is one.
+/// Whether a range matches the query in the blocks of the group at this index, if there is such a group.
 #[inline(always)]
 fn finds_in_group(blocks: &[Vec<u64>], groups: &[Vec<u64>], index: usize, query: &Query) -> bool
     requires groups { AreGroups blocks.now groups.now }
@@ -87,7 +87,7 @@ fn finds_in_group(blocks: &[Vec<u64>], groups: &[Vec<u64>], index: usize, query:
     any_of_group(blocks, index * BLOCK_LEN, bits, query)
 }
 
-/// Whether a range is asked for of the blocks from `first` on that have their bits set.
+/// Whether a range matches the query in the blocks, from `first` on, whose bits are set.
 #[inline(always)]
 fn any_of_group(blocks: &[Vec<u64>], first: usize, bits: u64, query: &Query) -> bool
     requires first { first < length blocks.now }
@@ -107,7 +107,7 @@ fn any_of_group(blocks: &[Vec<u64>], first: usize, bits: u64, query: &Query) -> 
     false
 }
 
-/// Whether a range is asked for of the block at this index, if there is one.
+/// Whether a range matches the query in the block at this index, if there is such a block.
 #[inline(always)]
 fn finds_at(blocks: &[Vec<u64>], index: usize, query: &Query) -> bool
     requires rows { HaveRows blocks.now }
@@ -120,7 +120,7 @@ fn finds_at(blocks: &[Vec<u64>], index: usize, query: &Query) -> bool
     }
 }
 
-/// The first bit that is set, from a place on.
+/// The index of the first set bit, from `from` on.
 #[inline(always)]
 pub(crate) fn next_bit(bits: u64, from: u32) -> Option<u32>
     ensures within { IfSome result (λ bit. bit < 64) }

@@ -19,15 +19,15 @@ use std::alloc::{AllocError, Global};
 use std::fmt;
 use std::marker::Model;
 
-/// With fewer blocks, each is looked at, and there are no groups.
+/// The least number of blocks for which there are groups. With fewer blocks, each block is looked at.
 const FEWEST_BLOCKS: usize = 2;
 
-/// The most bytes of a front whose row has the lengths of those codes alone that begin with it.
+/// The most bytes of a prefix whose row has exactly the lengths of the codes that begin with the prefix.
 const EXACT_LEN: usize = 2;
 
-/// Codespace ranges in the order of their file, with the rows of bits of each block of 64. Where there are many
-/// blocks, with those of each group of 64 blocks, of each top group of 64 groups, and unless ranges are wide, with
-/// the lengths of the codes that begin with a byte, or with two.
+/// Codespace ranges in the order of their file, with the rows of bits of each block of 64 ranges. If there are
+/// many blocks, there are also the rows of each group of 64 blocks and of each top group of 64 groups, and, unless
+/// ranges are wide, the lengths of the codes that begin with a byte, or with two bytes.
 #[derive(Drop)]
 pub struct Spaces {
     list: Vec<Codespace>,
@@ -91,8 +91,7 @@ impl Spaces {
         &self.list
     }
 
-    /// How many bytes the codes have at least of the ranges that may begin with these bytes, at most
-    /// four.
+    /// The number of bytes in the shortest codes of the ranges that may begin with these bytes, at most four.
     pub fn fewest_with_front(&self, front: &[u8]) -> Option<u8>
         requires { length front.now ≤ 4 }
         ensures { IsLeast (λ n. IsCodeLength n
@@ -112,7 +111,7 @@ impl Spaces {
         self.fewest_by_queries(front)
     }
 
-    /// The answer of `fewest_with_front`, of any number of blocks.
+    /// The answer of `fewest_with_front` for any number of blocks.
     #[inline(never)]
     fn fewest_by_queries(&self, front: &[u8]) -> Option<u8>
         requires { length front.now ≤ 4 }
@@ -127,7 +126,7 @@ impl Spaces {
         None
     }
 
-    /// Whether one of the ranges is asked for.
+    /// Whether one of the ranges matches the query.
     #[inline(always)]
     pub fn any(&self, query: &Query) -> bool
         requires { AreRows query.now }
@@ -139,7 +138,7 @@ impl Spaces {
         }
     }
 
-    /// The answer of `any`, of any number of blocks.
+    /// The answer of `any` for any number of blocks.
     #[inline(never)]
     fn any_of_all(&self, query: &Query) -> bool
         requires { AreRows query.now }
@@ -152,8 +151,7 @@ impl Spaces {
         }
     }
 
-    /// How many bytes the shortest code has that a text begins with, of those that one of the ranges
-    /// contains.
+    /// The number of bytes in the shortest prefix of a text that is a code in one of the ranges.
     #[inline(always)]
     pub fn shortest(&self, text: &[u8]) -> Option<u8>
         ensures { IsLeast (IsInsideRanges text.now (map codespace_seen self.now)) result }
@@ -164,8 +162,8 @@ impl Spaces {
         }
     }
 
-    /// The answer of `shortest`, of any number of blocks; 0 for `None`, since an `Option` that a call
-    /// returns is kept whole, and so are others where it may stand.
+    /// The answer of `shortest` for any number of blocks, with 0 for `None`: an `Option` that a call returns is
+    /// kept whole, and so are other `Option`s that may take its place.
     #[inline(never)]
     fn count_of_all(&self, text: &[u8]) -> u8
         ensures { IsLeast (IsInsideRanges text.now (map codespace_seen self.now)) (some_count result) }
@@ -173,7 +171,7 @@ impl Spaces {
         self.shortest_of_all(text).unwrap_or(0)
     }
 
-    /// The answer of `shortest`, of any number of blocks.
+    /// The answer of `shortest` for any number of blocks.
     fn shortest_of_all(&self, text: &[u8]) -> Option<u8>
         ensures { IsLeast (IsInsideRanges text.now (map codespace_seen self.now)) result }
     {

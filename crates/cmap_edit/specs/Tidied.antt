@@ -3,23 +3,23 @@ use Rattle.std.specs.Prelude.{◌≡◌, ◌⊎◌, ℕ, ◌<◌, ◌^◌, List,
 use Rattle.cmap_values.specs.Files.{BfEntry, CidEntry, File, Lists, of_length}
 use Rattle.cmap_edit.specs.Tidy.{AreTidyCids, AreTidyNotdefs, AreTidyTexts, cid_said, notdef_said, units_said}
 
--- of each code of 32 bits the same is said
+-- each code of 32 bits has the same answer in both
 abbrev pub SaysTheSame : {X : Type 0} → (ℕ → Option X) → (ℕ → Option X) → Type 0
 SaysTheSame old new = (code : ℕ) → code < 2 ^ 32 → new code ≡ old code
 
--- of some code of 32 bits it is said that it stands for nothing: no tidy list says so
+-- some code of 32 bits has a declaration that gives nothing: a tidy list has no such code
 abbrev pub SaysNone : {X : Type 0} → (ℕ → Option (Option X)) → Type 0
 SaysNone said = (code : ℕ) × (code < 2 ^ 32) × (said code ≡ Some None)
 
--- the new list is tidy and says the same; or it is the old list, which says of some code that its CID would pass 32 bits
+-- the new list is tidy and gives the same answers; or it is the old list, in which the CID of some code would pass 32 bits
 abbrev pub AreTidiedCids : List CidEntry → List CidEntry → Type 0
 AreTidiedCids old new = (AreTidyCids new × SaysTheSame (cid_said old) (cid_said new)) ⊎ (SaysNone (cid_said old) × (new ≡ old))
 
--- the new list is tidy and says the same
+-- the new list is tidy and gives the same answers
 abbrev pub AreTidiedNotdefs : List CidEntry → List CidEntry → Type 0
 AreTidiedNotdefs old new = AreTidyNotdefs new × SaysTheSame (notdef_said old) (notdef_said new)
 
--- the new list is tidy and says the same; or it is the old list, which says of some code that it has no units or that its last one would pass 16 bits
+-- the new list is tidy and gives the same answers; or it is the old list, in which some code has no units or a last unit that would pass 16 bits
 abbrev pub AreTidiedTexts : List BfEntry → List BfEntry → Type 0
 AreTidiedTexts old new = (AreTidyTexts new × SaysTheSame (units_said old) (units_said new)) ⊎ (SaysNone (units_said old) × (new ≡ old))
 
@@ -30,7 +30,7 @@ pub record AreTidiedLists (old new : Lists) : Type 0 where
   pub texts : AreTidiedTexts old.bfs new.bfs
   pub spaces : new.spaces ≡ old.spaces
 
--- so is each list of the file, and all else stays
+-- the lists of the file are tidied, and all else stays
 pub record IsTidied (old new : File) : Type 0 where
   pub metadata : new.metadata ≡ old.metadata
   pub lists : AreTidiedLists old.lists new.lists

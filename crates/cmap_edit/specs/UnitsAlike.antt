@@ -1,7 +1,7 @@
 -- ---- private aid: units of texts that are the same
 use Rattle.std.specs.Prelude.{◌≡◌, ℕ, ◌+◌, ◌-◌, ◌<◌, List, length, slice_index, take}
 
--- there are units on both sides, and they are the same with the offsets added to their last ones
+-- both sides have units, and the units are equal when each offset is added to the last unit of its side
 pub record AreAlike (units : List ℕ) (offset : ℕ) (others : List ℕ) (other_offset : ℕ) : Type 0 where
   pub some : 0 < length units
   pub some_too : 0 < length others

@@ -1,4 +1,4 @@
-//! Of a map of several layers one file with the same answers, or with those of chosen codes alone.
+//! One file with the answers of a map of several layers, for all codes or for the chosen codes.
 
 mod answers;
 mod cids;

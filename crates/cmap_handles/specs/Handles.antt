@@ -1,4 +1,4 @@
--- What a handle answers: what its map does, and nothing where it has none.
+-- The answers of a handle: the answers of its map, and none without a map.
 use Rattle.std.specs.Prelude.{ℕ, List, [], ◌∷◌, Option, Some, None, encode_utf8_all, map, option_and_then, option_map, slice_get}
 use Rattle.std.specs.String.{string_bytes}
 use Rattle.cmap_tokens.specs.declared.utf16.BfString.{BfString}
@@ -17,7 +17,7 @@ handle_cid map code len = option_and_then (λ m. cid_of m code len) map
 abbrev pub handle_text : Option (List Layer) → ℕ → Option (List ℕ)
 handle_text map code = option_and_then (λ m. bf_of m code) map
 
--- a codespace range of some layer contains the code of len bytes
+-- a codespace range of some layer of the map contains the code of len bytes
 abbrev pub InHandle : Option (List Layer) → ℕ → ℕ → Type 0
 InHandle None code len = ⊥
 InHandle (Some map) code len = InCodespace map code len
@@ -34,7 +34,7 @@ handle_collection map = option_and_then (λ metadata. metadata.collection) (hand
 abbrev pub handle_mode : Option (List Layer) → Option Mode
 handle_mode map = option_and_then (λ metadata. metadata.mode) (handle_metadata map)
 
--- what the file of a layer says of itself, the top layer being 0; nothing where there is no such layer
+-- the metadata of the file of a layer, with the top layer at 0; nothing where there is no such layer
 abbrev pub metadata_at : List Layer → ℕ → Option FileMetadata
 metadata_at map layer = option_map (λ found. found.metadata) (slice_get map layer)
 
@@ -53,7 +53,7 @@ layer_collection map layer = option_and_then (λ metadata. metadata.collection) 
 abbrev pub layer_mode : Option (List Layer) → ℕ → Option Mode
 layer_mode map layer = option_and_then (λ metadata. metadata.mode) (layer_metadata map layer)
 
--- codespace ranges as C has them
+-- codespace ranges in their C form
 abbrev pub range_seen : Codespace → CodespaceRange
 range_seen space = record { low = space.low; high = space.high; byte_len = space.len }
 

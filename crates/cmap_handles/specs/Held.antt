@@ -1,4 +1,4 @@
--- What a handle owns.
+-- The memory that a handle owns.
 use Rattle.std.specs.Prelude.{Option, None, Some}
 use base.Fml.{Fml, ftrue}
 use denote.RattleType.{RattleType}
@@ -10,7 +10,7 @@ use Rattle.cmap_layers.specs.contracts.layers.Layers as map
 use Rattle.cmap_binary.specs.contracts.owned_bundle.OwnedBundle as bundle
 use Rattle.cmap_handles.specs.contracts.shared.Shared as shared
 
--- the value at the pointer with its block, where there is one
+-- ownership of the value at the pointer and of its block, where there is a value
 abbrev pub held : (R : RattleType) → Global → Ptr → Option R.Denot → Fml
 held R alloc at None = ftrue
 held R alloc at (Some value) = box_owns (ghosts.dealloc_token alloc) R at value

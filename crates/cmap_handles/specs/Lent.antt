@@ -1,4 +1,4 @@
--- What a slot and a handle are once the borrow of their value ends.
+-- The value of a slot and of a handle after the borrow of their value ends.
 use mathlib.Core.Option.{none}
 use Rattle.std.specs.Prelude.{◌≡◌, List, Some, ⊤}
 use Rattle.std.specs.Borrow.{Lends, MutBor, Fml, follows_so}
@@ -14,14 +14,14 @@ use Rattle.cmap_handles.specs.contracts.handle.MapHandle as map_handle
 use Rattle.cmap_handles.specs.contracts.slot.MapSlot as map_slot
 use Rattle.cmap_handles.specs.contracts.slot.BundleSlot as bundle_slot
 
--- it has what was left behind the reference
+-- the slot has the value that was left behind the reference
 abbrev pub LendsMap : MutBor MapSlot → MutBor (List Layer) → Fml
 LendsMap slot lent = Lends map_slot.the_row shared_map slot lent (λ map. record slot.now { map = Some map })
 
 abbrev pub LendsBundle : MutBor BundleSlot → MutBor Bundle → Fml
 LendsBundle slot lent = Lends bundle_slot.the_row shared_bundle slot lent (λ bundle. record slot.now { bundle = Some bundle })
 
--- a handle has what it had
+-- the handle keeps its value
 abbrev pub RestsMap : MutBor MapHandle → Fml
 RestsMap handle = follows_so map_handle.the_row map_handle.the_row handle.ghost_name none (λ _ _. ⊤) (λ last. last.slot.map ≡ handle.now.slot.map)
 

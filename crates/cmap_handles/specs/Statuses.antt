@@ -1,4 +1,4 @@
--- The numbers by which calls say how they end.
+-- The numbers of the outcomes of a call.
 use Rattle.std.specs.Prelude.{ℕ}
 use Rattle.cmap_handles.specs.declared.status.Status.{Status}
 use Rattle.cmap_handles.specs.declared.status.Status.TheVariants.{Done, Refused, NoMemory, OverBudget, NotABundle, Absent, NoRoom}

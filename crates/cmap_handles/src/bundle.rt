@@ -13,7 +13,7 @@ use cmap_binary::OwnedBundle;
 use std::alloc::{AllocError, Global};
 use std::mem;
 
-/// A bundle that C holds, or none. One that is empty is all zero bytes.
+/// A bundle that C holds, or none. An empty handle is all zero bytes.
 #[repr(C)]
 #[derive(Drop)]
 pub struct BundleHandle {
@@ -71,7 +71,8 @@ impl BundleHandle {
         };
     }
 
-    /// Gives an empty handle the bundle that was made, or none where memory ran out.
+    /// Gives an empty handle the bundle that was made, or none where memory ran out. The result is
+    /// the number of the status.
     pub fn keep(&mut self, made: Result<Box<Shared<OwnedBundle>>, AllocError>) -> u32
         requires { self.old.slot.bundle ≡ None }
         ensures { MatchResult made

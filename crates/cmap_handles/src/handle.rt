@@ -13,7 +13,7 @@ use cmap_layers::layers::Layers;
 use std::alloc::{AllocError, Global};
 use std::mem;
 
-/// A map that C holds, or none. One that is empty is all zero bytes.
+/// A map that C holds, or none. An empty handle is all zero bytes.
 #[repr(C)]
 #[derive(Drop)]
 pub struct MapHandle {
@@ -49,7 +49,7 @@ impl MapHandle {
         }
     }
 
-    /// The map, if there is one, to ask it.
+    /// The map, if there is one, to look codes up in it.
     pub fn layers(&mut self) -> Option<&Layers>
         ensures* rests { sem 𝓛 (RestsMap self.entry) }
         ensures map { option_copied result ≡ self.old.slot.map }
@@ -71,7 +71,8 @@ impl MapHandle {
         };
     }
 
-    /// Gives an empty handle the map that was made, or none where memory ran out.
+    /// Gives an empty handle the map that was made, or none where memory ran out. The result is the
+    /// number of the status.
     pub fn keep(&mut self, made: Result<Box<Shared<Layers>>, AllocError>) -> u32
         requires { self.old.slot.map ≡ None }
         ensures { MatchResult made

@@ -1,4 +1,5 @@
-//! What C holds and what it hands in: maps and bundles behind handles, rooms for answers, and how a call ends.
+//! The values that C holds and hands in: maps and bundles behind handles, buffers for answers, and the outcome
+//! of a call.
 #![tactic(auto)]
 
 pub mod bundle;

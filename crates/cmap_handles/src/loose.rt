@@ -6,11 +6,11 @@ ghost use Rattle.std.specs.Box.Ownership.{box_owns};
 use std::alloc::Allocator;
 use std::marker::Model;
 
-/// A pointer that owns what a box owns.
+/// A pointer that owns the value of a box and its block.
 pub struct Loose<T, A: Allocator> {
-    /// Where the value lies.
+    /// The address of the value.
     pub at: *mut T,
-    /// What frees its block.
+    /// The allocator that frees the block.
     pub alloc: A,
     /// The value.
     pub ghost value: { T },
@@ -21,7 +21,7 @@ impl<T, A: Allocator> Model for Loose<T, A> {
 }
 
 impl<T: Drop, A: Allocator> Loose<T, A> {
-    /// A pointer that owns what this box owns.
+    /// A pointer that owns the value and the block of this box.
     pub fn of(value: Box<T, A>) -> Loose<T, A>
         ensures { result.value ≡ value.value }
     {
@@ -29,7 +29,7 @@ impl<T: Drop, A: Allocator> Loose<T, A> {
         Loose { at, alloc }
     }
 
-    /// A box that owns what the pointer owns.
+    /// A box that owns the value and the block of the pointer.
     pub fn into_box(self) -> Box<T, A>
         ensures { result.value ≡ self.value }
     {

@@ -1,4 +1,4 @@
-//! Names of files that go to C: their bytes one after another, and their lengths.
+//! Names of files for C: their concatenated bytes, and their lengths.
 
 ghost use Rattle.std.specs.Prelude.{◌≡◌, ◌++◌, ℕ, IfOk, MatchResult, take};
 ghost use Rattle.std.specs.List.{concat};
@@ -7,7 +7,7 @@ ghost use Rattle.cmap_values.specs.NamesSeen.{names_seen};
 use crate::room::Items;
 use std::alloc::{AllocError, Global};
 
-/// The names, one after another.
+/// The names, concatenated.
 pub fn joined(alloc: Global, names: &[&[u8]]) -> Result<Vec<u8>, AllocError>
     ensures { IfOk result (λ bytes. bytes.items ≡ concat (names_seen names.now)) }
 {
@@ -16,7 +16,8 @@ pub fn joined(alloc: Global, names: &[&[u8]]) -> Result<Vec<u8>, AllocError>
     Ok(bytes)
 }
 
-/// Adds the names, one after another; the first of them, each whole, if memory runs out.
+/// Appends the names, concatenated. If memory runs out, only the first names are appended, each of
+/// them whole.
 pub fn push_names(bytes: &mut Vec<u8>, names: &[&[u8]]) -> Result<(), AllocError>
     ensures { MatchResult result
         (λ _. bytes.new.items ≡ bytes.old.items ++ concat (names_seen names.now))

@@ -1,11 +1,12 @@
-//! Ranges of codes and declarations, as C has them.
+//! Ranges of codes and declarations in their C form.
 
 use crate::room::Items;
 use cmap_runs::runs::{Looks, Table};
 use cmap_values::declarations::{BfRange, CidRange, Codespace};
 use cmap_values::range::Range;
 
-/// A codespace range: codes of `byte_len` bytes, each byte between those of `low` and `high`.
+/// A codespace range: codes of `byte_len` bytes, each byte between the corresponding bytes of `low`
+/// and `high`.
 #[repr(C)]
 #[derive(Clone, Copy)]
 pub struct CodespaceRange {
@@ -13,7 +14,7 @@ pub struct CodespaceRange {
     pub low: u32,
     /// The code with the highest bytes.
     pub high: u32,
-    /// How many bytes its codes have, 1 to 4.
+    /// The number of bytes of each code, 1 to 4.
     pub byte_len: u32,
 }
 
@@ -38,7 +39,7 @@ impl<'s> Items for &'s [Codespace] {
     }
 }
 
-/// A declaration of CIDs: the codes from `first` to `last`, and the CID of the first of them.
+/// A declaration of CIDs: the codes from `first` to `last`, and the CID of the first code.
 #[repr(C)]
 #[derive(Clone, Copy)]
 pub struct DeclaredCids {
@@ -50,8 +51,8 @@ pub struct DeclaredCids {
     pub cid: u32,
 }
 
-/// A declaration of texts: the codes from `first` to `last`, and how many units of UTF-16 the text of
-/// the first of them has.
+/// A declaration of texts: the codes from `first` to `last`, and the number of UTF-16 units of the
+/// text of the first code.
 #[repr(C)]
 #[derive(Clone, Copy)]
 pub struct DeclaredTexts {
@@ -59,7 +60,7 @@ pub struct DeclaredTexts {
     pub first: u32,
     /// The last code.
     pub last: u32,
-    /// How many units of UTF-16 the text of the first code has.
+    /// The number of UTF-16 units of the text of the first code.
     pub units: usize,
 }
 

@@ -1,4 +1,4 @@
-//! Room that C hands in.
+//! Buffers that C hands in.
 
 ghost use Rattle.std.specs.Prelude.{◌≡◌, ◌≤◌, ◌<◌, ◌++◌, List, MatchOption, Some, drop, length, slice_get, take};
 ghost use Rattle.std.specs.Option.{option_copied};
@@ -8,15 +8,15 @@ ghost use Rattle.cmap_handles.specs.declared.status.Status.TheVariants.{Absent};
 
 use crate::status::Status;
 
-/// A list of which C gets each item in a form of its own.
+/// A list whose items have a form of their own in C.
 pub trait Items {
-    /// An item as C has it.
+    /// The C form of an item.
     type Item: Copy;
 
     /// All items, in order.
     ghost items: { Self → List Self.Item };
 
-    /// How many items there are.
+    /// The number of items.
     fn count(&self) -> usize
         ensures { result ≡ length (items self.now) };
 
@@ -26,8 +26,8 @@ pub trait Items {
         ensures { slice_get (items self.now) index ≡ Some result };
 }
 
-/// Writes the items of a list at the head of the room, where all of them have room, and how many they
-/// are.
+/// Writes the items of a list at the head of the buffer `room`, where it is long enough for all of
+/// them, and writes the number of items to `needed`. The result is the number of the status.
 pub fn put_items<L: Items>(list: &L, room: &mut [L::Item], needed: &mut usize) -> u32
     ensures { IsPut (L.items list.now) room.old room.new needed.new result }
 {
@@ -39,7 +39,7 @@ pub fn put_items<L: Items>(list: &L, room: &mut [L::Item], needed: &mut usize) -
     Status::Done.number()
 }
 
-/// Writes the items of a list at the head of the room.
+/// Writes the items of a list at the head of the buffer `room`.
 pub fn fill<L: Items>(list: &L, room: &mut [L::Item])
     requires { length (L.items list.now) ≤ length room.old }
     ensures { room.new ≡ L.items list.now ++ drop (length (L.items list.now)) room.old }
@@ -49,7 +49,8 @@ pub fn fill<L: Items>(list: &L, room: &mut [L::Item])
     }
 }
 
-/// Writes the items at the head of the room, where all of them have room, and how many they are.
+/// Writes the items at the head of the buffer `room`, where it is long enough for all of them, and
+/// writes the number of items to `needed`. The result is the number of the status.
 pub fn put<T: Copy>(items: &[T], room: &mut [T], needed: &mut usize) -> u32
     ensures { IsPut items.now room.old room.new needed.new result }
 {
@@ -61,7 +62,7 @@ pub fn put<T: Copy>(items: &[T], room: &mut [T], needed: &mut usize) -> u32
     Status::Done.number()
 }
 
-/// Writes the items at the head of the room, as many as have room.
+/// Writes the first items at the head of the buffer `room`, as many as it can hold.
 pub fn put_head<T: Copy>(items: &[T], room: &mut [T])
     ensures { room.new ≡ take (length room.old) items.now ++ drop (length items.now) room.old }
 {
@@ -69,7 +70,7 @@ pub fn put_head<T: Copy>(items: &[T], room: &mut [T])
     room[..count].copy_from_slice(&items[..count]);
 }
 
-/// The same of items that are found, if they are.
+/// Writes the items like `put`, if there are items; otherwise the status is `Absent`.
 pub fn put_found<T: Copy>(items: Option<&[T]>, room: &mut [T], needed: &mut usize) -> u32
     ensures { MatchOption (option_copied items.entry)
         ((result ≡ number Absent) × (room.new ≡ room.old) × (needed.new ≡ needed.old))

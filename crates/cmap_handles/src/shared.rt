@@ -1,4 +1,4 @@
-//! A value that several handles have.
+//! A value that several handles share.
 
 ghost use Rattle.std.specs.Prelude.{◌≡◌, IfOk};
 
@@ -6,7 +6,7 @@ use std::alloc::{AllocError, Global};
 use std::marker::Model;
 use std::sync::Arc;
 
-/// A value that several handles have. A clause sees the value.
+/// A value that several handles share. A clause sees the value.
 #[derive(Drop)]
 pub struct Shared<T> {
     value: Arc<T>,
@@ -21,7 +21,7 @@ impl<T> Model for Shared<T> {
 }
 
 impl<T: Drop> Shared<T> {
-    /// A value that one handle has. It fails only if memory runs out.
+    /// A value of one handle. An error means that memory ran out.
     pub fn new(alloc: Global, value: T) -> Result<Box<Shared<T>>, AllocError>
         ensures { IfOk result (λ shared. shared.value ≡ value) }
     {
@@ -36,7 +36,7 @@ impl<T: Drop> Shared<T> {
         &self.value
     }
 
-    /// The same value once more, for another handle. It fails only if memory runs out.
+    /// A second reference to the value, for another handle. An error means that memory ran out.
     pub fn share(&self, alloc: Global) -> Result<Box<Shared<T>>, AllocError>
         ensures { IfOk result (λ shared. shared.value ≡ self.now) }
     {

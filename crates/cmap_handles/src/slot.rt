@@ -1,4 +1,4 @@
-//! What C holds behind a pointer.
+//! The pointers behind which C holds maps and bundles.
 //!
 //! An export takes no type with a parameter, so a map and a bundle have a slot each.
 
@@ -13,7 +13,7 @@ use cmap_layers::layers::Layers;
 use std::alloc::Global;
 use std::marker::Model;
 
-/// A pointer to a map, or to none.
+/// A pointer to a map, or a null pointer.
 #[repr(C)]
 #[derive(Drop)]
 pub struct MapSlot {
@@ -29,7 +29,7 @@ impl Model for MapSlot {
     ghost also_owns = { λ slot. held shared_map slot.alloc slot.at slot.map };
 }
 
-/// It may go to another thread, since a map may be read in several.
+/// A slot may go to another thread, since several threads may read a map.
 unsafe impl Send for MapSlot {}
 
 impl MapSlot {
@@ -66,7 +66,7 @@ impl MapSlot {
         unsafe { &mut *(self.at as *mut Shared<Layers>) }
     }
 
-    /// The map, which the pointer then no longer owns.
+    /// The pointer that owns the map, in place of the slot.
     pub(crate) fn into_loose(self) -> Loose<Shared<Layers>, Global>
         requires { IsSome self.map }
         ensures { Some result.value ≡ self.map }
@@ -79,7 +79,7 @@ impl MapSlot {
     }
 }
 
-/// A pointer to a bundle, or to none.
+/// A pointer to a bundle, or a null pointer.
 #[repr(C)]
 #[derive(Drop)]
 pub struct BundleSlot {
@@ -95,7 +95,7 @@ impl Model for BundleSlot {
     ghost also_owns = { λ slot. held shared_bundle slot.alloc slot.at slot.bundle };
 }
 
-/// It may go to another thread, since a bundle may be read in several.
+/// A slot may go to another thread, since several threads may read a bundle.
 unsafe impl Send for BundleSlot {}
 
 impl BundleSlot {
@@ -132,7 +132,7 @@ impl BundleSlot {
         unsafe { &mut *(self.at as *mut Shared<OwnedBundle>) }
     }
 
-    /// The bundle, which the pointer then no longer owns.
+    /// The pointer that owns the bundle, in place of the slot.
     pub(crate) fn into_loose(self) -> Loose<Shared<OwnedBundle>, Global>
         requires { IsSome self.bundle }
         ensures { Some result.value ≡ self.bundle }

@@ -1,29 +1,29 @@
-//! How a call ends, as a number for C.
+//! The outcome of a call, as a number for C.
 
 ghost use Rattle.std.specs.Prelude.{◌≡◌};
 ghost use Rattle.cmap_handles.specs.Statuses.{number};
 
-/// How a call ends.
+/// The outcome of a call.
 #[derive(Clone, Copy)]
 pub enum Status {
-    /// There is an answer, and it is written.
+    /// There is an answer, and it was written.
     Done,
-    /// The file, or one that it uses, is outside the grammar or missing.
+    /// The file, or a file that it uses, is missing or doesn't follow the grammar.
     Refused,
     /// Out of memory: an allocation failed.
     NoMemory,
-    /// The files that are opened have more bytes than the budget.
+    /// The opened files have more bytes than the budget.
     OverBudget,
     /// The bundle is invalid.
     NotABundle,
     /// There is no answer.
     Absent,
-    /// There is an answer, and it is longer than its room.
+    /// There is an answer, and it is longer than its buffer.
     NoRoom,
 }
 
 impl Status {
-    /// The number in the header.
+    /// The number in the C header.
     pub fn number(self) -> u32
         ensures { result ≡ number self }
     {

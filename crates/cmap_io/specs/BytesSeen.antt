@@ -1,4 +1,4 @@
--- What contracts see of the bytes of a file: the bytes, whoever holds them.
+-- The bytes of a file that contracts see, whoever holds them.
 use Rattle.std.specs.Prelude.{ℕ, List}
 use Rattle.std.specs.Rc.{rc_slice_items}
 use Rattle.cmap_io.specs.declared.file_bytes.FileBytes.{FileBytes}

@@ -1,4 +1,4 @@
--- Names and codes as they are printed, and what a call adds to a text.
+-- Names and codes in their printed form, and the text that a call adds to a text.
 use Rattle.std.specs.Prelude.{◌≡◌, ◌⊎◌, ℕ, ◌+◌, ◌-◌, ◌/◌, ◌%◌, ◌≤◌, ◌==◌, ◌&&◌, nat_lt, nat_le, if◌then◌else◌, List, [], ◌∷◌, ◌++◌, drop, All}
 use Rattle.std.specs.Int.{w32, to_be_bytes}
 use Rattle.std.specs.List.{flat_map}
@@ -9,19 +9,19 @@ use Rattle.cmap_io.specs.declared.digits.Letters.TheVariants.{Capital, Small}
 abbrev pub IsPrintable : ℕ → Type 0
 IsPrintable byte = (0x20 ≤ byte) × (byte ≤ 0x7E)
 
--- what stood before still stands, and only such bytes come after it
+-- the new text is the old one and printable bytes
 abbrev pub AddsPrintable : List ℕ → List ℕ → Type 0
 AddsPrintable old new = (added : List ℕ) × (new ≡ old ++ added) × All IsPrintable added
 
--- what stood before still stands, and one line of such bytes comes after it
+-- the new text is the old one and one line of printable bytes
 abbrev pub AddsLine : List ℕ → List ℕ → Type 0
 AddsLine old new = (line : List ℕ) × (new ≡ old ++ (line ++ 0x0A ∷ [])) × All IsPrintable line
 
--- the line, or a front of it
+-- the line or a prefix of it is added
 abbrev pub AddsOfLine : List ℕ → List ℕ → Type 0
 AddsOfLine old new = AddsPrintable old new ⊎ AddsLine old new
 
--- the letter of the digit 10, less 10
+-- the number that makes a letter of a digit from 10 on
 abbrev pub letters_from : Letters → ℕ
 letters_from Capital = 0x37
 letters_from Small = 0x57
@@ -38,7 +38,7 @@ digits_of letters byte = digit_of letters (byte / 16) ∷ digit_of letters (byte
 abbrev pub bytes_shown : List ℕ → List ℕ
 bytes_shown bytes = flat_map (digits_of Capital) bytes
 
--- the digits of a code, two for each of its bytes, of which there are one to four
+-- the digits of a code, two for each of its one to four bytes
 abbrev pub code_shown : ℕ → ℕ → List ℕ
 code_shown byte_len code = bytes_shown (drop (4 - byte_len) (to_be_bytes w32 code))
 

@@ -1,4 +1,4 @@
--- Why a run ends.
+-- The reasons for which a run ends.
 use Rattle.std.specs.Prelude.{ℕ}
 use Rattle.cmap_io.specs.Statuses.{failed, reader_gone, refused}
 use Rattle.cmap_io.specs.declared.failure.Failure.{Failure}
@@ -9,7 +9,7 @@ status_of ReaderGone = reader_gone
 status_of Refused = refused
 status_of failure = failed
 
--- the run may go on after it
+-- the run may go on after the failure
 abbrev pub IsMessage : Failure → Type 0
 IsMessage (Message line) = Unit {0}
 IsMessage failure = ⊥

@@ -1,4 +1,4 @@
--- The text of a value of JSON, as it is printed.
+-- The printed text of a value of JSON.
 use Rattle.std.specs.Prelude.{ℕ, ◌/◌, ◌%◌, ◌==◌, ◌&&◌, ◌||◌, nat_le, nat_lt, if◌then◌else◌, List, [], ◌∷◌, ◌++◌}
 use Rattle.std.specs.Char.Escape.{encode_utf16}
 use Rattle.std.specs.List.{flat_map}
@@ -6,7 +6,7 @@ use Rattle.std.specs.Str.{chars}
 use Rattle.cmap_io.specs.Escapes.{digits_of}
 use Rattle.cmap_io.specs.declared.digits.Letters.TheVariants.{Small}
 
--- the letter of a byte's short escape, or 0 for a byte without one
+-- the letter of the short escape of a byte, or 0 for a byte without a short escape
 abbrev pub letter_of : ℕ → ℕ
 letter_of byte =
     if byte == 0x22 || byte == 0x5C then byte
@@ -17,7 +17,7 @@ letter_of byte =
     else if byte == 9 then 0x74
     else 0
 
--- a byte of a string: its short escape, another control character by its number, or itself
+-- a byte of a string: its short escape, the number of another control character, or the byte itself
 abbrev pub byte_spelled : ℕ → List ℕ
 byte_spelled byte =
     if nat_lt 0 (letter_of byte) then 0x5C ∷ letter_of byte ∷ []
@@ -32,7 +32,7 @@ text_spelled text = flat_map byte_spelled text
 abbrev pub unit_escaped : ℕ → List ℕ
 unit_escaped unit = 0x5C ∷ 0x75 ∷ (digits_of Small (unit / 0x100) ++ digits_of Small (unit % 0x100))
 
--- a character: itself from 0x20 to 0x7E, and else the escapes of its units
+-- a character: itself from 0x20 to 0x7E, otherwise the escapes of its units
 abbrev pub character_escaped : ℕ → List ℕ
 character_escaped character =
     if nat_le 0x20 character && nat_le character 0x7E then character ∷ []

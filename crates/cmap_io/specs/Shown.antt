@@ -1,4 +1,4 @@
--- Texts as they are printed.
+-- Texts in their printed form.
 use Rattle.std.specs.Prelude.{◌≡◌, ℕ, Bool, true, false, ◌⊎◌, ◌==◌, if◌then◌else◌, List, [], ◌∷◌, ◌++◌, All, encode_utf8, encode_utf8_all}
 use Rattle.std.specs.Fmt.{digits}
 use Rattle.std.specs.List.{flat_map}
@@ -8,7 +8,7 @@ use Rattle.ucd_category.specs.declared.GeneralCategory.{GeneralCategory}
 use Rattle.ucd_category.specs.declared.GeneralCategory.TheVariants.{LineSeparator, ParagraphSeparator, Control, Format, Surrogate, PrivateUse, Unassigned}
 use Rattle.cmap_io.specs.Escapes.{IsPrintable}
 
--- characters that aren't seen, or that change how others are
+-- characters that aren't visible, or that change the appearance of other characters
 abbrev pub is_hidden : GeneralCategory → Bool
 is_hidden LineSeparator = true
 is_hidden ParagraphSeparator = true
@@ -19,11 +19,11 @@ is_hidden PrivateUse = true
 is_hidden Unassigned = true
 is_hidden _ = false
 
--- a character by its number, as `\u{H..}`
+-- the number of a character, as `\u{H..}`
 abbrev pub number_shown : ℕ → List ℕ
 number_shown character = 0x5C ∷ 0x75 ∷ 0x7B ∷ (digits 16 true character ++ 0x7D ∷ [])
 
--- a character: `\\`, `\"`, a hidden one by its number, and any other as it is
+-- a character: `\\`, `\"`, the number of a hidden character, and any other character as it is
 abbrev pub character_shown : ℕ → List ℕ
 character_shown character =
     if character == 0x5C then 0x5C ∷ 0x5C ∷ []
@@ -43,6 +43,6 @@ quoted_shown text = 0x22 ∷ (text_shown text ++ 0x22 ∷ [])
 abbrev pub IsShown : ℕ → Type 0
 IsShown character = IsPrintable character ⊎ (is_hidden (general_category character) ≡ false)
 
--- what stood before still stands, and only such characters come after it
+-- the new text is the old one and such characters
 abbrev pub AddsShown : List ℕ → List ℕ → Type 0
 AddsShown old new = (added : List ℕ) × (new ≡ old ++ encode_utf8_all added) × All IsShown added

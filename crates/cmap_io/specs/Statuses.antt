@@ -10,6 +10,6 @@ refused = 1
 abbrev pub failed : ℕ
 failed = 2
 
--- as shells have it of a program that SIGPIPE ends
+-- the status that shells give to a program that SIGPIPE ends
 abbrev pub reader_gone : ℕ
 reader_gone = 141

@@ -6,7 +6,7 @@ use Rattle.serde_json.specs.View.{items_of, members_of}
 use Rattle.cmap_io.specs.declared.value.Value.{Value, fold-Value}
 use Rattle.cmap_io.specs.declared.value.Value.TheOpen.{Value-F}
 
--- one level, with each value inside already seen as its data
+-- one level of a value, with the data of each value inside
 abbrev pub view_step : Value-F Data → Data
 view_step Value-F.Null = null
 view_step (Value-F.Bool is_true) = boolean is_true

@@ -1,17 +1,17 @@
-//! The arguments of the program, which needn't be UTF-8.
+//! The arguments of the program, which may not be UTF-8.
 
 use crate::failure::Failure;
 use crate::path_text::path_text;
 use std::alloc::{AllocError, Global};
 use std::env::{Env, FillError};
 
-/// How many bytes an argument has room for at first.
+/// The number of bytes of the first buffer for an argument.
 const ROOM: usize = 256;
 
-/// How often the room is doubled at most.
+/// The number of times that the buffer is doubled at most.
 const MOST_DOUBLINGS: u32 = 32;
 
-/// The arguments, of which the first is the name of the program.
+/// The arguments. The first is the name of the program.
 pub fn arguments(rt: &HostRuntime) -> Result<Vec<String>, Failure> {
     let mut arguments = Vec::new(rt.alloc());
     for index in 0..usize::MAX {

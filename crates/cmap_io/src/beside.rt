@@ -1,4 +1,4 @@
-//! A file that is written beside another one and then takes its place, so that a path always has a whole file.
+//! A file that is written beside another file and then replaces it, so that a path always has a whole file.
 
 use crate::failure::{Failure, fault};
 use crate::inputs::failed_at;
@@ -6,13 +6,13 @@ use crate::path_text::is_plain;
 use std::fs::{self, File, OpenOptions, Permissions};
 use std::io::{self, ErrorKind, Write};
 
-/// How many names are tried for a file beside another one.
+/// The number of names that are tried for a file beside another one.
 const MOST_TRIES: u32 = 100;
 
-/// The path that stands for the standard output.
+/// The path that stands for standard output.
 pub const STANDARD_OUTPUT: &str = "-";
 
-/// Writes these bytes in the place of the file of a path; `-` is the standard output.
+/// Replaces the file of a path by these bytes; `-` is standard output.
 pub fn write_output(rt: &HostRuntime, target: &str, bytes: &[u8]) -> Result<(), Failure> {
     if target == STANDARD_OUTPUT {
         let mut output = rt.stdout();
@@ -22,18 +22,18 @@ pub fn write_output(rt: &HostRuntime, target: &str, bytes: &[u8]) -> Result<(), 
     Beside::write(rt, target, bytes)?.put_in_place(rt)
 }
 
-/// A file beside the one whose place it is to take.
+/// A file beside the file that it is to replace.
 #[derive(Drop)]
 pub struct Beside {
     path: String,
-    /// The path whose place it is to take.
+    /// The path of the file that is to be replaced.
     target: String,
 }
 
 impl Beside {
-    /// Writes a file of these bytes beside that of a path: where a link leads, beside the file there. It has the
-    /// permissions of the file whose place it is to take. What isn't a regular file isn't replaced. Where that
-    /// fails, no file is left.
+    /// Writes a file of these bytes beside the file of a path. If the path is a link, the new file is beside the
+    /// linked file. The new file has the permissions of the file that it is to replace. Only a regular file is
+    /// replaced. If the function fails, no new file is left.
     pub fn write(rt: &HostRuntime, target: &str, bytes: &[u8]) -> Result<Beside, Failure> {
         let place = place_of(rt, target)?;
         let (path, file) = create_beside(rt, place.path.as_str())?;
@@ -47,12 +47,12 @@ impl Beside {
         }
     }
 
-    /// The path of the file.
+    /// The path of the new file.
     pub fn path(&self) -> &str {
         self.path.as_str()
     }
 
-    /// Puts the file in its place. Where that fails, it is removed.
+    /// Puts the new file in place of the other one. If that fails, the new file is removed.
     pub fn put_in_place(self, rt: &HostRuntime) -> Result<(), Failure> {
         match fs::rename(rt, self.path.as_str(), self.target.as_str()) {
             Ok(()) => Ok(()),
@@ -60,27 +60,27 @@ impl Beside {
         }
     }
 
-    /// Removes the file. The other one stays as it was.
+    /// Removes the new file. The other file stays as it was.
     pub fn remove(&self, rt: &HostRuntime) {
         let _ = fs::remove_file(rt, self.path.as_str());
     }
 
-    /// Removes the file, and gives the failure that the other one can't be written.
+    /// Removes the new file, and gives the failure that the other file can't be written.
     fn give_up(&self, rt: &HostRuntime, error: &io::Error) -> Failure {
         self.remove(rt);
         unwritable(rt, self.target.as_str(), error)
     }
 }
 
-/// The place that a file is to take.
+/// The place of a new file.
 #[derive(Drop)]
 struct Place {
     path: String,
-    /// Those of the file that is there.
+    /// The permissions of the file that is there.
     permissions: Option<Permissions>,
 }
 
-/// The place of a path, or that no file can take it.
+/// The place of a path, or a failure if no new file can take it.
 fn place_of(rt: &HostRuntime, target: &str) -> Result<Place, Failure> {
     match found_place(rt, target) {
         Ok(Some(place)) => Ok(place),
@@ -89,7 +89,7 @@ fn place_of(rt: &HostRuntime, target: &str) -> Result<Place, Failure> {
     }
 }
 
-/// The place of a path, unless what is there isn't a regular file. A folder is an error.
+/// The place of a path; `None` if the path has something else than a regular file. A folder is an error.
 fn found_place(rt: &HostRuntime, target: &str) -> io::Result<Option<Place>> {
     let path = linked_path(rt, target)?;
     let permissions = match fs::metadata(rt, path.as_str()) {
@@ -104,7 +104,7 @@ fn found_place(rt: &HostRuntime, target: &str) -> io::Result<Option<Place>> {
     Ok(Some(Place { path, permissions }))
 }
 
-/// The path to which a link leads; a path without a link as it is.
+/// The path to which a link leads; the path itself if it isn't a link.
 fn linked_path(rt: &HostRuntime, path: &str) -> io::Result<String> {
     if !is_plain(path) {
         return Err(io::Error::from(ErrorKind::InvalidInput));
@@ -120,7 +120,7 @@ fn linked_path(rt: &HostRuntime, path: &str) -> io::Result<String> {
     }
 }
 
-/// A new file beside that of a path.
+/// A new file beside the file of a path.
 fn create_beside(rt: &HostRuntime, target: &str) -> Result<(String, File), Failure> {
     for number in 0..MOST_TRIES {
         let path = format!(in rt.alloc(); "{target}.new-{number}")?;
@@ -150,7 +150,7 @@ fn write_whole(mut file: File, bytes: &[u8], permissions: Option<Permissions>) -
     file.sync_all()
 }
 
-/// The failure of a path that can't be written, with the system's reason.
+/// The failure of a path that can't be written, with the reason that the system gives.
 fn unwritable(rt: &HostRuntime, path: &str, error: &io::Error) -> Failure {
     failed_at(rt.alloc(), path, "can't be written", error)
 }

@@ -64,7 +64,7 @@ fn push_members(out: &mut String, members: &BTreeMap<String, Value>) -> Result<(
     out.push('}')
 }
 
-/// Adds a comma, where something stands before.
+/// Adds a comma, if a value or a member stands before.
 fn push_comma(out: &mut String, is_later: bool) -> Result<(), AllocError>
     ensures { OnOk result (string_bytes out.new ≡ string_bytes out.old ++ comma_if is_later) }
 {
@@ -91,7 +91,7 @@ fn push_escaped(out: &mut String, text: &str) -> Result<(), AllocError>
     Ok(())
 }
 
-/// Adds a character of a string, as it is or by its escape.
+/// Adds a character of a string, as it is or as its escape.
 fn push_character(out: &mut String, character: char) -> Result<(), AllocError>
     ensures { OnOk result (string_bytes out.new
         ≡ string_bytes out.old ++ text_spelled (encode_utf8 character)) }
@@ -109,7 +109,7 @@ fn push_character(out: &mut String, character: char) -> Result<(), AllocError>
     }
 }
 
-/// Adds a control character that has no letter, by its number.
+/// Adds the number of a control character that has no letter.
 fn push_control(out: &mut String, number: u8) -> Result<(), AllocError>
     ensures { OnOk result (string_bytes out.new
         ≡ string_bytes out.old ++ 0x5C ∷ 0x75 ∷ 0x30 ∷ 0x30 ∷ digits_of Small number) }

@@ -1,19 +1,19 @@
-//! Counts, as they are printed.
+//! Counts that can be printed.
 
 ghost use Rattle.std.specs.Prelude.{◌≡◌};
 ghost use Rattle.cmap_io.specs.Counts.{counted, number_seen};
 
 use std::fmt::{self, Display, Formatter, Write};
 
-/// How many there are of something. Files, lines and arguments never number 2^64, but no clause says so. So a count
-/// saturates: whoever counts needn't show that there is room for one more.
+/// A count. Files, lines and arguments never number 2^64, but no contract states that. So a count saturates, and a
+/// caller needn't show that one more fits.
 #[derive(Clone, Copy)]
 pub struct Count {
     number: usize,
 }
 
 impl Count {
-    /// A count that begins at this number.
+    /// A count that starts at this number.
     pub fn of(number: usize) -> Count
         ensures { number_seen result ≡ number }
     {

@@ -6,7 +6,7 @@ ghost use Rattle.cmap_io.specs.Escapes.{AddsPrintable, bytes_shown, code_shown, 
 
 use std::alloc::{AllocError, Global};
 
-/// What stands for the digits from 10 on.
+/// The letters for the digits from 10 on.
 #[derive(Clone, Copy)]
 pub(crate) enum Letters {
     Capital,

@@ -1,4 +1,4 @@
-//! Names and texts as they may be printed on a terminal.
+//! Names and texts in a form that is safe on a terminal.
 
 ghost use Rattle.std.specs.Prelude.{◌≡◌, ◌++◌, IfOk, OnOk, map, string_bytes};
 ghost use Rattle.cmap_io.specs.Escapes.{AddsPrintable, byte_shown, name_shown};
@@ -11,12 +11,12 @@ use crate::hidden::is_hidden;
 use crate::value::Value;
 use std::alloc::{AllocError, Global};
 
-/// Adds a name. A byte from 0x20 to 0x7E is added as it is, but `\` as `\\`, and any other as `\xHH`.
+/// Adds a name: bytes from 0x20 to 0x7E as they are, except `\` as `\\`, and any other byte as `\xHH`.
 pub fn push_name(out: &mut String, name: &[u8]) -> Result<(), AllocError>
     ensures shown { OnOk result (string_bytes out.new
         ≡ string_bytes out.old ++ name_shown name.now) }
 
-    // Also where memory runs out.
+    // This holds also where memory runs out.
     ensures printable { AddsPrintable (string_bytes out.old) (string_bytes out.new) }
 {
     for byte in name {
@@ -25,7 +25,7 @@ pub fn push_name(out: &mut String, name: &[u8]) -> Result<(), AllocError>
     Ok(())
 }
 
-/// A name, escaped as `push_name` does.
+/// A name, escaped as in `push_name`.
 pub fn escaped_name(alloc: Global, name: &[u8]) -> Result<String, AllocError>
     ensures { IfOk result (λ escaped. string_bytes escaped ≡ name_shown name.now) }
 {
@@ -34,7 +34,7 @@ pub fn escaped_name(alloc: Global, name: &[u8]) -> Result<String, AllocError>
     Ok(escaped)
 }
 
-/// Names, escaped as `push_name` does, as values of JSON.
+/// Names, escaped as in `push_name`, as values of JSON.
 pub fn escaped_names(alloc: Global, names: &[&[u8]]) -> Result<Vec<Value>, AllocError>
     ensures { IfOk result (λ values. map view values.items
         ≡ map (λ name. string (name_shown name.now)) names.now) }
@@ -61,13 +61,13 @@ fn push_name_byte(out: &mut String, byte: u8) -> Result<(), AllocError>
     }
 }
 
-/// Adds a text. A character is added as it is, but `\` as `\\`, `"` as `\"`, and as `\u{H..}` control and format
-/// characters, separators of lines and paragraphs, and those for private use or unassigned.
+/// Adds a text: characters as they are, except `\` as `\\`, `"` as `\"`, and as `\u{H..}` control and format
+/// characters, separators of lines and paragraphs, and characters for private use or unassigned.
 pub fn push_text(out: &mut String, text: &str) -> Result<(), AllocError>
     ensures shown { OnOk result (string_bytes out.new
         ≡ string_bytes out.old ++ text_shown text.now) }
 
-    // Also where memory runs out.
+    // This holds also where memory runs out.
     ensures harmless { AddsShown (string_bytes out.old) (string_bytes out.new) }
 {
     for character in text.chars() {
@@ -81,7 +81,7 @@ pub fn push_quoted(out: &mut String, text: &str) -> Result<(), AllocError>
     ensures shown { OnOk result (string_bytes out.new
         ≡ string_bytes out.old ++ quoted_shown text.now) }
 
-    // Also where memory runs out.
+    // This holds also where memory runs out.
     ensures harmless { AddsShown (string_bytes out.old) (string_bytes out.new) }
 {
     out.push('"')?;
@@ -103,7 +103,7 @@ fn push_character(out: &mut String, character: char) -> Result<(), AllocError>
     }
 }
 
-/// Adds a character by its number, as `\u{H..}`.
+/// Adds the number of a character, as `\u{H..}`.
 fn push_by_number(out: &mut String, character: char) -> Result<(), AllocError>
     ensures shown { OnOk result (string_bytes out.new
         ≡ string_bytes out.old ++ number_shown character) }

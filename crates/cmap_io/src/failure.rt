@@ -1,5 +1,5 @@
-//! Messages on the standard error, and why a run ends early. Arguments and paths are untrusted, so they
-//! are escaped.
+//! Messages on standard error, and the reasons for which a run ends early. Arguments and paths are
+//! untrusted, so they are escaped.
 
 ghost use Rattle.std.specs.Prelude.{◌≡◌, Err};
 ghost use Rattle.cmap_io.specs.Failures.{IsMessage, status_of};
@@ -9,17 +9,17 @@ use crate::status::{FAILED, READER_GONE, REFUSED};
 use std::alloc::{AllocError, AllocFailed, Global};
 use std::io::{self, ErrorKind};
 
-/// Why a run ends before all is done.
+/// The reason for which a run ends early.
 #[derive(Drop)]
 pub enum Failure {
     /// The reader of the output has gone away.
     ReaderGone,
-    /// The file that the run needs is refused. The reason is reported already.
+    /// The file that the run needs is refused. The reason was already reported.
     Refused,
-    /// Something can't be read or written.
+    /// A read or a write failed.
     Io(io::Error),
     Memory,
-    /// What is wrong with an argument or a file.
+    /// A message about an argument or a file.
     Message(String),
 }
 
@@ -58,7 +58,7 @@ impl<T: Drop> From<AllocFailed<T>> for Failure {
     }
 }
 
-/// The failure of an argument or a path, with what is wrong with it.
+/// The failure of an argument or a path, with a description of what is wrong.
 pub fn fault(rt: &HostRuntime, argument: &str, wrong: &str) -> Failure {
     match line_of(rt.alloc(), argument, wrong) {
         Ok(line) => Failure::Message(line),
@@ -73,7 +73,8 @@ fn line_of(alloc: Global, argument: &str, wrong: &str) -> Result<String, AllocEr
     Ok(line)
 }
 
-/// Reports why a run ends. A reader that has gone away is no fault, and a refusal is reported already.
+/// Reports the reason for which a run ends. A reader that has gone away isn't a fault, and a refusal
+/// was already reported.
 pub fn report(rt: &HostRuntime, failure: &Failure) -> io::Result<()> {
     match failure {
         Failure::ReaderGone | Failure::Refused => Ok(()),
@@ -83,7 +84,7 @@ pub fn report(rt: &HostRuntime, failure: &Failure) -> io::Result<()> {
     }
 }
 
-/// Reports a failure with a message, after which the run goes on. Any other failure ends it.
+/// Reports a failure with a message, after which the run goes on. Any other failure is returned.
 pub fn report_message(rt: &HostRuntime, failure: Failure) -> Result<(), Failure>
     ensures others { ¬ (IsMessage failure) → result ≡ Err failure }
 {

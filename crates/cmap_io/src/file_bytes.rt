@@ -9,9 +9,9 @@ use std::rc::RcSlice;
 /// The bytes of a file.
 #[derive(Drop)]
 pub enum FileBytes<'b> {
-    /// Those of a file in a bundle, which lends them.
+    /// The bytes of a file in a bundle, which lends them.
     Lent(&'b [u8]),
-    /// Those of a file that was read.
+    /// The bytes of a file that was read.
     Read(RcSlice<u8>),
 }
 
@@ -23,7 +23,7 @@ impl<'b> FileBytes<'b> {
         Ok(FileBytes::Read(RcSlice::from_vec(bytes)?))
     }
 
-    /// The same bytes, which aren't copied.
+    /// The same bytes, without a copy.
     pub fn share(&self) -> Result<FileBytes<'b>, AllocError>
         ensures { IfOk result (λ file. bytes_seen file ≡ bytes_seen self.now) }
     {

@@ -6,8 +6,8 @@ ghost use Rattle.cmap_io.specs.FileNames.{IsFileName};
 
 use std::str;
 
-/// The name of a file in a folder that isn't hidden. Names come from untrusted files, so a name that leads to
-/// another folder gives `None`.
+/// The name of a file in a folder, as text. Names come from untrusted files; a name that would be hidden or
+/// lead to another folder, or that isn't UTF-8, gives `None`.
 pub fn file_name(name: &[u8]) -> Option<&str>
     ensures { MatchOption result (¬ (IsFileName name.now × IsUtf8 name.now))
         (λ found. IsFileName name.now × (found.now ≡ name.now)) }

@@ -8,24 +8,25 @@ use std::alloc::{AllocError, Global};
 use std::fs::{self, Files};
 use std::io::{self, ErrorKind, Read};
 
-/// The most folders that are read. The loop over folders ends because each is read once and links aren't followed, but
-/// no clause says how many a file system has: so it has this bound, which no run reaches, and past it fails.
+/// The most folders that are read. The loop over folders ends because each folder is read once and links aren't
+/// followed, but no contract bounds the number of folders of a file system. So the loop has this bound, which no run
+/// reaches, and fails beyond it.
 const MOST_FOLDERS: u32 = u32::MAX;
 
-/// The most reads of the names in a folder, which no run reaches. A folder with more can't be read.
+/// The most reads of the names in a folder, which no run reaches. A folder that needs more can't be read.
 const MOST_READS: u32 = u32::MAX;
 
-/// How many bytes of names a read has room for. A name has up to 255.
+/// The number of bytes of names in one read. A name has up to 255 bytes.
 const NAMES_ROOM: usize = 32768;
 
-/// What lies in a folder and its subfolders.
+/// The files in a folder and its subfolders.
 #[derive(Drop)]
 pub struct Found {
-    /// The paths of the files, in the order of their texts; that of a path that isn't UTF-8 has marks.
+    /// The paths of the files, in the order of their texts; the text of a path that isn't UTF-8 has marks.
     pub files: Vec<String>,
-    /// How many folders can't be read.
+    /// The number of folders that can't be read.
     pub unreadable: Count,
-    /// The folders that aren't read yet.
+    /// The folders that haven't been read yet.
     waiting: Vec<String>,
 }
 
@@ -34,7 +35,7 @@ pub fn is_folder(rt: &HostRuntime, path: &str) -> bool {
     matches!(kind_of(rt, path), Ok(Kind::Folder))
 }
 
-/// Whether a file has this path, also a pipe or a device.
+/// Whether a file, a pipe or a device has this path.
 pub fn is_file(rt: &HostRuntime, path: &str) -> bool {
     matches!(kind_of(rt, path), Ok(Kind::File | Kind::Other))
 }
@@ -44,7 +45,7 @@ pub fn is_regular_file(rt: &HostRuntime, path: &str) -> bool {
     matches!(kind_of(rt, path), Ok(Kind::File))
 }
 
-/// Why no file has this path.
+/// The reason why no file has this path.
 pub fn why_no_file(rt: &HostRuntime, path: &str) -> io::Error {
     match kind_of(rt, path) {
         Ok(_) => io::Error::from(ErrorKind::IsADirectory),
@@ -52,7 +53,7 @@ pub fn why_no_file(rt: &HostRuntime, path: &str) -> io::Error {
     }
 }
 
-/// Why no folder has this path.
+/// The reason why no folder has this path.
 pub fn why_no_folder(rt: &HostRuntime, path: &str) -> io::Error {
     match kind_of(rt, path) {
         Ok(_) => io::Error::from(ErrorKind::NotADirectory),
@@ -60,7 +61,7 @@ pub fn why_no_folder(rt: &HostRuntime, path: &str) -> io::Error {
     }
 }
 
-/// What has a path.
+/// The kind of an entry of the file system.
 #[derive(Clone, Copy)]
 enum Kind {
     /// A regular file.
@@ -70,7 +71,7 @@ enum Kind {
     Other,
 }
 
-/// What has this path. Links are followed.
+/// The kind of the entry at this path. Links are followed.
 fn kind_of(rt: &HostRuntime, path: &str) -> io::Result<Kind> {
     if !is_plain(path) {
         return Err(io::Error::from(ErrorKind::InvalidInput));
@@ -85,16 +86,16 @@ fn kind_of(rt: &HostRuntime, path: &str) -> io::Result<Kind> {
     })
 }
 
-/// The regular files in a folder and its subfolders, but for hidden files and folders. A link to a file counts
-/// as a file, and a link to a folder isn't followed. Folders that can't be read are reported.
+/// The regular files in a folder and its subfolders, except hidden files and folders. A link to a file counts as a
+/// file, and a link to a folder isn't followed. Folders that can't be read are reported.
 pub fn files_in(rt: &HostRuntime, folder: &str) -> Result<Found, Failure> {
     let mut found = Found::new(rt.alloc());
     found.add_all(rt, folder)?;
     Ok(found)
 }
 
-/// Adds a folder, and after it its subfolders in the order of their paths, but for hidden ones and links. A
-/// folder that can't be read has no subfolders, and is reported if it is there.
+/// Adds a folder, and after it its subfolders in the order of their paths, except hidden ones and links. A folder that
+/// can't be read has no subfolders, and is reported if it exists.
 pub fn add_with_subfolders(
     rt: &HostRuntime,
     folder: &str,
@@ -121,7 +122,7 @@ impl Found {
         }
     }
 
-    /// Adds what lies in a folder and its subfolders.
+    /// Adds the files in a folder and its subfolders.
     fn add_all(&mut self, rt: &HostRuntime, folder: &str) -> Result<(), Failure> {
         self.waiting.push(String::from_str(rt.alloc(), folder)?)?;
         for _ in 0..MOST_FOLDERS {
@@ -133,7 +134,7 @@ impl Found {
         Err(Failure::from(too_large()))
     }
 
-    /// Adds what lies in a folder, or reports that it can't be read.
+    /// Adds the entries of a folder, or reports that the folder can't be read.
     fn add_folder(&mut self, rt: &HostRuntime, folder: &str) -> Result<(), Failure> {
         if let Err(error) = readable(self.add_entries(rt, folder))? {
             report_unreadable(rt, folder, &error)?;
@@ -142,7 +143,7 @@ impl Found {
         Ok(())
     }
 
-    /// Adds what lies in a folder, unless it is hidden.
+    /// Adds the entries of a folder, except hidden ones.
     fn add_entries(&mut self, rt: &HostRuntime, folder: &str) -> io::Result<()> {
         let folder = with_slash(rt.alloc(), folder)?;
         let names = names_in(rt, folder.as_str())?;
@@ -154,7 +155,7 @@ impl Found {
         Ok(())
     }
 
-    /// Adds a file, or a folder that isn't read yet.
+    /// Adds a file, or a folder that hasn't been read yet.
     fn add(&mut self, rt: &HostRuntime, path: String) -> io::Result<()> {
         match entry_at(rt, path.as_str())? {
             Kind::Folder => self.waiting.push(path)?,
@@ -165,8 +166,8 @@ impl Found {
     }
 }
 
-/// What an entry of a folder counts as. What can't be opened counts as a file, which then can't be read; a link to a
-/// folder, and what is gone, as neither a file nor a folder.
+/// The kind of an entry of a folder. An entry that can't be opened counts as a file, which then can't be read. A link
+/// to a folder, and an entry that no longer exists, count as neither a file nor a folder.
 fn entry_at(rt: &HostRuntime, path: &str) -> io::Result<Kind> {
     if !is_plain(path) {
         return Ok(Kind::File);
@@ -179,7 +180,7 @@ fn entry_at(rt: &HostRuntime, path: &str) -> io::Result<Kind> {
     }
 }
 
-/// What an entry counts as that is no folder itself.
+/// The kind of an entry that isn't a folder itself.
 fn linked_at(rt: &HostRuntime, path: &str) -> Kind {
     match kind_of(rt, path) {
         Ok(Kind::Folder | Kind::Other) => Kind::Other,
@@ -196,7 +197,7 @@ fn with_slash(alloc: Global, folder: &str) -> Result<String, AllocError> {
     Ok(path)
 }
 
-/// The names of what lies in a folder, each with a zero byte after it.
+/// The names of the entries of a folder, each with a zero byte after it.
 fn names_in(rt: &HostRuntime, folder: &str) -> io::Result<Vec<u8>> {
     let mut names = Vec::new(rt.alloc());
     let mut room = vec![in rt.alloc(); 0; NAMES_ROOM]?;
@@ -211,12 +212,12 @@ fn names_in(rt: &HostRuntime, folder: &str) -> io::Result<Vec<u8>> {
     Err(too_large())
 }
 
-/// Why a folder past these bounds isn't read.
+/// The error for a folder beyond these bounds.
 fn too_large() -> io::Error {
     io::Error::from(ErrorKind::FileTooLarge)
 }
 
-/// The path of what has this name in a folder, whose path ends with a slash.
+/// The path of the entry with this name in a folder. The path of the folder ends with a slash.
 fn path_in(alloc: Global, folder: &str, name: &[u8]) -> Result<String, AllocError> {
     let mut path = String::from_str(alloc, folder)?;
     path.push_str(path_text(alloc, name)?.as_str())?;

@@ -1,4 +1,4 @@
-//! The characters that aren't printed as they are. The Unicode Standard, 4.5.
+//! The characters that are printed as escapes. The Unicode Standard, 4.5.
 
 ghost use Rattle.std.specs.Prelude.{◌≡◌};
 ghost use Rattle.cmap_io.specs.Shown.{is_hidden as is_hidden_in};
@@ -17,7 +17,7 @@ pub(crate) fn is_hidden(character: char) -> bool
     is_in(hidden(), u32::from(character))
 }
 
-/// The code points of these categories, of Unicode 18.0.0.
+/// The code points of these categories in Unicode 18.0.0.
 fn hidden() -> &'static [(u32, u32)]
     ensures rising { IsRising result.now }
     ensures exact { HasExactly result.now (λ code_point. is_hidden_in (general_category code_point)) }
@@ -25,7 +25,7 @@ fn hidden() -> &'static [(u32, u32)]
     &HIDDEN
 }
 
-/// Whether a code point lies in one of these ranges, each from its first to its last code point.
+/// Whether a code point lies in one of these ranges. Each range has its first and its last code point.
 fn is_in(ranges: &[(u32, u32)], code_point: u32) -> bool
     requires { IsRising ranges.now }
     ensures { result ≡ in_ranges ranges.now code_point }

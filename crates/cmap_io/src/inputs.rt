@@ -1,4 +1,4 @@
-//! The bytes of the files that arguments ask for.
+//! The bytes of the files that arguments name.
 
 use crate::failure::{Failure, report_message};
 use crate::path_text::{is_plain, push_path};
@@ -6,10 +6,10 @@ use std::alloc::{AllocError, Global};
 use std::fs;
 use std::io::{self, ErrorKind, Read};
 
-/// The argument that stands for the standard input.
+/// The argument that stands for standard input.
 pub const STANDARD_INPUT: &str = "-";
 
-/// The bytes of a file that a run needs; `-` is the standard input.
+/// The bytes of a file that a run needs; `-` is standard input.
 pub fn needed(rt: &HostRuntime, path: &str) -> Result<Vec<u8>, Failure> {
     match read(rt, path)? {
         Ok(bytes) => Ok(bytes),
@@ -17,7 +17,7 @@ pub fn needed(rt: &HostRuntime, path: &str) -> Result<Vec<u8>, Failure> {
     }
 }
 
-/// The bytes of a file, or why it can't be read; `-` is the standard input.
+/// The bytes of a file, or the reason why it can't be read; `-` is standard input.
 pub fn read(rt: &HostRuntime, path: &str) -> Result<io::Result<Vec<u8>>, Failure> {
     if path == STANDARD_INPUT {
         readable(read_standard_input(rt))
@@ -40,7 +40,7 @@ fn read_standard_input(rt: &HostRuntime) -> io::Result<Vec<u8>> {
     Ok(bytes)
 }
 
-/// What was read, or why it can't be read. Out of memory ends the run.
+/// The result of a read, or the reason why it failed. An error for lack of memory ends the run.
 pub fn readable<T: Drop>(read: io::Result<T>) -> Result<io::Result<T>, Failure> {
     match read {
         Ok(read) => Ok(Ok(read)),
@@ -49,12 +49,12 @@ pub fn readable<T: Drop>(read: io::Result<T>) -> Result<io::Result<T>, Failure> 
     }
 }
 
-/// The failure of a path that can't be read, with the system's reason.
+/// The failure of a path that can't be read, with the reason that the system gives.
 pub fn unreadable(rt: &HostRuntime, path: &str, error: &io::Error) -> Failure {
     failed_at(rt.alloc(), path, "can't be read", error)
 }
 
-/// The failure of a path, with what can't be done and the system's reason.
+/// The failure of a path, with the action that failed and the reason that the system gives.
 pub fn failed_at(alloc: Global, path: &str, what: &str, error: &io::Error) -> Failure {
     match line_of(alloc, path, what, error) {
         Ok(line) => Failure::Message(line),
@@ -81,7 +81,7 @@ fn words_of<'r>(path: &str, reason: &'r str) -> &'r str {
     }
 }
 
-/// Reports that a path can't be read, and why.
+/// Reports that a path can't be read, with the reason.
 pub fn report_unreadable(rt: &HostRuntime, path: &str, error: &io::Error) -> Result<(), Failure> {
     report_message(rt, unreadable(rt, path, error))
 }

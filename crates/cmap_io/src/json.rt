@@ -13,13 +13,13 @@ use crate::digits::{Letters, push_byte};
 use crate::value::Value;
 use std::alloc::{AllocError, Global};
 
-/// Adds the text of a value, without spaces. A character outside 0x20 to 0x7E is added by its
-/// units in UTF-16, as `\uhhhh`.
+/// Adds the text of a value, without spaces. A character outside 0x20 to 0x7E is added as its units
+/// in UTF-16, each as `\uhhhh`.
 pub fn push_value(alloc: Global, out: &mut String, value: &Value) -> Result<(), AllocError>
     ensures text { OnOk result (string_bytes out.new
         ≡ string_bytes out.old ++ escaped (compact_text (view value.now))) }
 
-    // Also where memory runs out.
+    // This holds also where memory runs out.
     ensures printable { AddsPrintable (string_bytes out.old) (string_bytes out.new) }
 {
     let mut text = String::new(alloc);
@@ -33,7 +33,7 @@ pub fn push_line(alloc: Global, out: &mut String, value: &Value) -> Result<(), A
         ≡ string_bytes out.old ++ escaped (compact_text (view value.now)) ++ 0x0A ∷ []) }
     ensures line { OnOk result (AddsLine (string_bytes out.old) (string_bytes out.new)) }
 
-    // Also where memory runs out.
+    // This holds also where memory runs out.
     ensures printable { AddsOfLine (string_bytes out.old) (string_bytes out.new) }
 {
     push_value(alloc, out, value)?;
@@ -51,7 +51,7 @@ fn push_text(out: &mut String, text: &str) -> Result<(), AllocError>
     Ok(())
 }
 
-/// Adds a character, as it is or by its units in UTF-16.
+/// Adds a character, as it is or as its units in UTF-16.
 fn push_character(out: &mut String, character: char) -> Result<(), AllocError>
     ensures escaped { OnOk result (string_bytes out.new
         ≡ string_bytes out.old ++ character_escaped character) }

@@ -1,5 +1,5 @@
-//! The input and the output of the command: arguments, paths, folders and the bytes of files; untrusted names and texts,
-//! values of JSON and counts, as they may be printed on a terminal; and how a run ends.
+//! The input and the output of the command: arguments, paths, folders and the bytes of files; untrusted names and
+//! texts, values of JSON and counts, in a form that is safe on a terminal; and the ends of a run.
 #![tactic(auto)]
 
 pub mod arguments;

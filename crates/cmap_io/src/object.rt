@@ -1,10 +1,10 @@
-//! Objects of JSON, made member by member.
+//! Objects of JSON, built member by member.
 
 use crate::value::Value;
 use std::alloc::{AllocError, Global};
 use std::collections::BTreeMap;
 
-/// An object that is being made. If memory runs out for a member, `finish` fails.
+/// An object under construction. If memory ran out for a member, `finish` fails.
 #[derive(Drop)]
 pub struct Object {
     alloc: Global,
@@ -13,7 +13,7 @@ pub struct Object {
 }
 
 impl Object {
-    /// Without members.
+    /// An object without members.
     pub fn new(alloc: Global) -> Object {
         Object {
             alloc,
@@ -29,7 +29,7 @@ impl Object {
         }
     }
 
-    /// Sets a member to a value, for which memory may have run out.
+    /// Sets a member to a value, or records that memory ran out for it.
     pub fn set_made(&mut self, key: &str, value: Result<Value, AllocError>) {
         match value {
             Ok(value) => self.set(key, value),
@@ -42,7 +42,7 @@ impl Object {
         self.set_made(key, Value::try_from_str(self.alloc, text));
     }
 
-    /// Sets a member to a string, for which memory may have run out.
+    /// Sets a member to a string, or records that memory ran out for it.
     pub fn set_string(&mut self, key: &str, text: Result<String, AllocError>) {
         match text {
             Ok(text) => self.set(key, Value::from(text)),
@@ -50,7 +50,7 @@ impl Object {
         }
     }
 
-    /// Sets a member to a list, for which memory may have run out.
+    /// Sets a member to a list, or records that memory ran out for it.
     pub fn set_list(&mut self, key: &str, list: Result<Vec<Value>, AllocError>) {
         match list {
             Ok(list) => self.set(key, Value::Array(list)),
@@ -64,7 +64,7 @@ impl Object {
         Ok(())
     }
 
-    /// The object.
+    /// The object. An error means that memory ran out for a member.
     pub fn finish(self) -> Result<Value, AllocError> {
         if self.is_whole {
             Ok(Value::Object(self.members))

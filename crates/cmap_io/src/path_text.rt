@@ -1,5 +1,6 @@
-//! Paths as texts. The standard library opens no path that isn't UTF-8, but a message names it. No path has a zero byte:
-//! in the text of one that isn't UTF-8, U+0000 and two hexadecimal digits stand for each byte from 0x80 on.
+//! Paths as texts. The standard library opens no path that isn't UTF-8, but a message names such a path. No path has a
+//! zero byte: in the text of a path that isn't UTF-8, U+0000 and two hexadecimal digits stand for each byte from 0x80
+//! on.
 
 ghost use Rattle.std.specs.Prelude.{◌≡◌, [], ◌∷◌, ◌==◌, ◌<◌, ◌++◌, ℕ, List, length, IfOk, OnOk, IfSome, not, string_bytes};
 ghost use Rattle.std.specs.List.{list_any};
@@ -16,14 +17,14 @@ use std::str;
 /// The character before the digits of a byte.
 const MARK: char = '\0';
 
-/// Whether a path is its text, so that it can be opened.
+/// Whether the text is the path itself, so that the path can be opened.
 pub fn is_plain(path: &str) -> bool
     ensures { result ≡ not (list_any (λ byte. byte == 0) path.now) }
 {
     !path.as_bytes().contains(&0)
 }
 
-/// The text of a path of these bytes.
+/// The text of a path with these bytes.
 pub fn path_text(alloc: Global, path: &[u8]) -> Result<String, AllocError>
     ensures { IfOk result (λ text. IsTextOf path.now (string_bytes text)) }
 {
@@ -53,7 +54,7 @@ fn push_byte(alloc: Global, text: &mut String, byte: u8) -> Result<(), AllocErro
     text.push_str(byte_digits(alloc, &[byte])?.as_str())
 }
 
-/// The bytes of the path of this text.
+/// The bytes of the path with this text.
 pub fn path_bytes(alloc: Global, text: &str) -> Result<Vec<u8>, AllocError>
     ensures { IfOk result (λ path. (bytes : List ℕ) → AreBytes bytes → IsTextOf bytes text.now → path.items ≡ bytes) }
 {
@@ -65,7 +66,7 @@ pub fn path_bytes(alloc: Global, text: &str) -> Result<Vec<u8>, AllocError>
     Ok(path)
 }
 
-/// Takes the next byte of a path from what is left of its text.
+/// Takes the next byte of a path from the rest of its text.
 fn take_byte(rest: &mut &[u8]) -> Option<u8>
     ensures takes { (bytes : List ℕ) → AreBytes bytes → AreSpelled bytes rest.old.now
         → TakesFirst bytes result rest.new.now }
@@ -102,12 +103,12 @@ fn digit_value(digit: u8) -> u8
     }
 }
 
-/// Adds a path, escaped: a byte with a mark as `\xHH`.
+/// Adds a path, escaped. A byte with a mark is added as `\xHH`.
 pub fn push_path(out: &mut String, path: &str) -> Result<(), AllocError>
     ensures shown { OnOk result (string_bytes out.new
         ≡ string_bytes out.old ++ path_shown path.now) }
 
-    // Also where memory runs out.
+    // This holds also where memory runs out.
     ensures harmless { AddsShown (string_bytes out.old) (string_bytes out.new) }
 {
     for character in path.chars() {

@@ -14,15 +14,15 @@ pub struct PathList<'l> {
     pub end: u8,
 }
 
-/// The files that arguments and a list name, and the files in folders that they name.
+/// The files that arguments and a list name, and the files in the folders that they name.
 #[derive(Drop)]
 pub struct Paths {
     pub files: Vec<String>,
-    /// How many paths can't be read. They are reported.
+    /// The number of paths that can't be read. These paths were reported.
     pub unreadable: Count,
 }
 
-/// The files that the arguments name, and then those of the list.
+/// The files that the arguments name, and then the files that the list names.
 pub fn paths_of(
     rt: &HostRuntime,
     arguments: &[&str],
@@ -37,7 +37,7 @@ pub fn paths_of(
 }
 
 impl Paths {
-    /// Adds what the arguments name, and then what the list names.
+    /// Adds the files that the arguments name, and then the files that the list names.
     fn add_all(
         &mut self,
         rt: &HostRuntime,
@@ -53,7 +53,8 @@ impl Paths {
         }
     }
 
-    /// Adds what the paths of a list name. This byte ends each of them, and empty ones are passed over.
+    /// Adds the files that the paths of a list name. The byte `end` ends each path, and empty paths are
+    /// skipped.
     fn add_list(&mut self, rt: &HostRuntime, list: &[u8], end: u8) -> Result<(), Failure> {
         for path in list.split(|byte| *byte == end) {
             if !path.is_empty() {
@@ -63,7 +64,7 @@ impl Paths {
         Ok(())
     }
 
-    /// Adds what a path of a list names. A list can't ask for the standard input.
+    /// Adds the files that a path of a list names. A list can't name standard input.
     fn add_listed(&mut self, rt: &HostRuntime, path: &[u8]) -> Result<(), Failure> {
         let path = path_text(rt.alloc(), path)?;
         if path.as_str() != STANDARD_INPUT {

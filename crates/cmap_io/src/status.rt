@@ -3,15 +3,15 @@
 /// The status if all files are accepted.
 pub const ACCEPTED: u8 = 0;
 
-/// The status if a file is refused, or something that is asked for isn't there: a name, a code, a text, a string, or a
-/// place in a bundle.
+/// The status if a file is refused, or something that was asked for doesn't exist: a name, a code, a text, a string,
+/// or a place in a bundle.
 pub const REFUSED: u8 = 1;
 
 /// The status if two files differ.
 pub const DIFFERENT: u8 = 1;
 
-/// The status if an argument is wrong, or something can't be read or written.
+/// The status if an argument is wrong, or a read or a write fails.
 pub const FAILED: u8 = 2;
 
-/// The status if the reader of the output has gone away, as shells have it of a program that SIGPIPE ends.
+/// The status if the reader of the output has gone away: the status that shells give to a program that SIGPIPE ends.
 pub const READER_GONE: u8 = 141;

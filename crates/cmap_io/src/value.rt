@@ -7,7 +7,7 @@ ghost use Rattle.serde_json.specs.Data.{boolean, null, number, string, unsigned}
 use std::alloc::{AllocError, Global};
 use std::collections::BTreeMap;
 
-/// A value. Its numbers are whole and not negative.
+/// A value of JSON. Its numbers are integers from 0 on.
 #[derive(Drop)]
 pub enum Value {
     Null,

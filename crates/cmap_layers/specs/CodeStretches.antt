@@ -1,4 +1,4 @@
--- What codes in a row stand for, and the codes of a CID.
+-- The CIDs and the texts of codes in a row, and the codes of a CID.
 use Rattle.std.specs.Prelude.{◌≡◌, ◌↔◌, ◌⊎◌, ℕ, ◌+◌, ◌-◌, ◌%◌, ◌<◌, ◌≤◌, ◌^◌, IsTrue, List, ◌∷◌, ◌++◌, All, Option, Some, None, IsSomeAnd, MatchOption, flat_map, length, map, option_and_then, option_map, slice_index_or}
 use Rattle.std.specs.Char.Escape.{encode_utf16}
 use Rattle.std.specs.Str.{all_scalars}
@@ -13,45 +13,45 @@ use Rattle.cmap_layers.specs.declared.stretches.Cids.{Cids}
 use Rattle.cmap_layers.specs.declared.stretches.Cids.TheVariants.{Absent, Same, CountOn}
 use Rattle.cmap_layers.specs.declared.stretches.CidStretch.{CidStretch}
 
--- the CID of the code that comes this many codes after the first
+-- the CID of the code that comes k codes after the first
 abbrev pub cid_after : Cids → ℕ → Option ℕ
 cid_after Absent k = None
 cid_after (Same cid) k = Some cid
 cid_after (CountOn cid) k = Some (cid + k)
 
--- at this offset the last unit of a text is the last of a row of 1,024 units, by which surrogates lie
+-- at this offset the last unit of a text is the last unit of a row of 1,024 units; surrogates lie in such rows
 abbrev pub IsRowEnd : List ℕ → ℕ → Type 0
 IsRowEnd units offset = (slice_index_or units (length units - 1) 0 + offset) % 1024 ≡ 1023
 
--- the text that is declared for the last code is such a one
+-- the text that is declared for the last code ends a row of 1,024 units
 abbrev pub EndsRow : List BfEntry → ℕ → Type 0
 EndsRow entries last = (entry : BfEntry) × (last_bf entries last ≡ Some entry) × IsRowEnd entry.units (last - entry.start)
 
--- in the list of notdefs another declaration decides the code after the last one than decides the first; or, where no notdef does, in that of texts, or a row of texts ends
+-- in the list of notdefs, another declaration decides the code after the last one than decides the first; or, if no notdef decides the first, so it is in the list of texts, or a row of texts ends
 abbrev pub OthersEnd : ℕ → ℕ → ℕ → Layer → Type 0
 OthersEnd len first last layer = IsLongest (map cid_span (of_length layer.lists.notdefs len)) first last
     ⊎ ((last_cid (of_length layer.lists.notdefs len) first ≡ None) × (IsLongest (map bf_span layer.lists.bfs) first last ⊎ EndsRow layer.lists.bfs last))
 
--- in the list of CIDs another declaration decides the code after the last one than decides the first; or, where no CID is declared for the first, one of these ends
+-- in the list of CIDs, another declaration decides the code after the last one than decides the first; or, if no CID is declared for the first, OthersEnd holds
 abbrev pub EndsAfter : ℕ → ℕ → ℕ → Layer → Type 0
 EndsAfter len first last layer = IsLongest (map cid_span (of_length layer.lists.cids len)) first last ⊎ ((last_cid (of_length layer.lists.cids len) first ≡ None) × OthersEnd len first last layer)
 
--- the layer decides no CID for the code, and no text
+-- the layer makes no decision about the CID of the code, or about its text
 abbrev pub HasNoCid : ℕ → ℕ → Layer → Type 0
 HasNoCid len code layer = layer_cid layer code len ≡ None
 
 abbrev pub HasNoText : ℕ → Layer → Type 0
 HasNoText code layer = last_bf layer.lists.bfs code ≡ None
 
--- in its list of texts another declaration decides the code after the last one than decides the first
+-- in the layer's list of texts, another declaration decides the code after the last one than decides the first
 abbrev pub TextsEnd : ℕ → ℕ → Layer → Type 0
 TextsEnd first last layer = IsLongest (map bf_span layer.lists.bfs) first last
 
--- it holds of some layer, and each layer above that one is passed over
+-- Holds is true of some layer, and IsPassed of each layer above it
 abbrev pub HoldsBelow : (Layer → Type 0) → (Layer → Type 0) → List Layer → Type 0
 HoldsBelow IsPassed Holds layers = (above : List Layer) × (layer : Layer) × (below : List Layer) × (layers ≡ above ++ layer ∷ below) × All IsPassed above × Holds layer
 
--- this many codes after the first the CIDs reach the last one of 32 bits
+-- this many codes after the first, the CIDs reach the last CID of 32 bits
 abbrev pub EndsCids : Cids → ℕ → Type 0
 EndsCids (CountOn cid) more = cid + more ≡ 2 ^ 32 - 1
 EndsCids _ more = ⊥
@@ -59,45 +59,45 @@ EndsCids _ more = ⊥
 -- the CIDs of the codes of len bytes from the first to the last one
 pub record IsCidStretch (layers : List Layer) (len first : ℕ) (stretch : CidStretch) : Type 0 where
   pub cids : (code : ℕ) → first ≤ code → code ≤ stretch.last → cid_of layers code len ≡ cid_after stretch.cids (code - first)
-  -- it ends, unless with the last code of 32 bits, where another declaration decides, where a row of texts ends or with the last CID; in a layer above which none decides the first code
+  -- unless the stretch ends with the last code of 32 bits, another declaration decides the next code or a row of texts ends, in a layer above which no layer decides the first code; or the stretch ends with the last CID
   pub longest : stretch.last + 1 < 2 ^ 32 → HoldsBelow (HasNoCid len first) (EndsAfter len first stretch.last) layers ⊎ EndsCids stretch.cids (stretch.last - first)
 
 -- the texts of the codes from the first to the last one
 pub record IsTextStretch (layers : List Layer) (first last : ℕ) (declaration : Option BfEntry) : Type 0 where
-  -- the declaration decides each of them, or none does
+  -- the declaration decides the text of each code, or no declaration does
   pub decides : (code : ℕ) → first ≤ code → code ≤ last → deciding_bf layers code ≡ declaration
-  -- so they are those that it gives
+  -- so each code has the text that the declaration gives
   pub texts : (code : ℕ) → first ≤ code → code ≤ last → bf_of layers code ≡ option_and_then (λ entry. bf_at entry code) declaration
-  -- in the list of some layer, above which none has a text for the first code, another declaration decides the code after the last one, if there is such a code
+  -- if there is a code after the last one, another declaration decides it in the list of some layer, above which no layer declares a text for the first code
   pub longest : last + 1 < 2 ^ 32 → HoldsBelow (HasNoText first) (TextsEnd first last) layers
 
--- the ranges have just those codes that have the CID, as codes of len bytes
+-- the ranges have exactly the codes that have the CID, as codes of len bytes
 abbrev pub AreCodesOfCid : List Layer → ℕ → ℕ → List Range → Type 0
 AreCodesOfCid layers len cid ranges = AreRangesOf (λ code. cid_of layers code len ≡ Some cid) (2 ^ 32) ranges
 
--- the ranges have just those codes that have the text
+-- the ranges have exactly the codes that have the text
 abbrev pub AreCodesOfText : List Layer → List ℕ → List Range → Type 0
 AreCodesOfText layers text ranges = AreRangesOf (λ code. bf_of layers code ≡ Some text) (2 ^ 32) ranges
 
 -- ---- private aid
--- the same of the codes below a limit
+-- the ranges have exactly the codes below a limit that have the CID, as codes of len bytes
 abbrev pub AreCodesBelow : List Layer → ℕ → ℕ → ℕ → List Range → Type 0
 AreCodesBelow layers len cid limit ranges = AreRangesOf (λ code. cid_of layers code len ≡ Some cid) limit ranges
 
--- what a layer decides from the first to the last code goes on with the code after it, unless one of these ends it
+-- a stretch of codes in one layer is as long as possible: it ends where EndsAfter holds, or with the last CID
 abbrev pub IsLayerLongest : Layer → ℕ → ℕ → ℕ → Option Cids → Type 0
 IsLayerLongest layer len first last cids = last + 1 < 2 ^ 32 → EndsAfter len first last layer ⊎ IsSomeAnd cids (λ these. EndsCids these (last - first))
 
--- for each of the codes from the first to the last one it is decided that it has these CIDs, or for none is it
+-- the decision is these CIDs for all codes from the first to the last one, or there is no decision for any of them
 abbrev pub Decides : (ℕ → Option (Option ℕ)) → ℕ → ℕ → Option Cids → Type 0
 Decides decision first last cids = (code : ℕ) → first ≤ code → code ≤ last → decision code ≡ option_map (λ these. cid_after these (code - first)) cids
 
--- of the codes from the first to the last one with these CIDs, those in the range have the CID, and no others
+-- among the codes from the first to the last one with these CIDs, exactly the codes in the range, if any, have the CID
 abbrev pub AreCodesAmong : Cids → ℕ → ℕ → ℕ → Option Range → Type 0
 AreCodesAmong cids cid first last found = MatchOption found
     ((code : ℕ) → first ≤ code → code ≤ last → cid_after cids (code - first) ≡ Some cid → ⊥)
     (λ range. (first ≤ range.start) × (range.start ≤ range.end) × (range.end ≤ last) × ((code : ℕ) → first ≤ code → code ≤ last → ((cid_after cids (code - first) ≡ Some cid) ↔ IsIn code range)))
 
--- units of UTF-16 write a text
+-- the units are the text in UTF-16
 abbrev pub AreUnitsOf : List ℕ → List ℕ → Type 0
 AreUnitsOf text units = IsTrue (all_scalars text) × (units ≡ flat_map encode_utf16 text)

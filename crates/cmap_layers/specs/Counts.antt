@@ -1,10 +1,10 @@
--- How many declarations a layer has of each kind.
+-- The number of declarations of each kind in a layer.
 use Rattle.std.specs.Prelude.{ℕ, length}
 use Rattle.cmap_values.specs.Files as files
 use Rattle.cmap_values.specs.declared.declarations.ByLength.{ByLength}
 use Rattle.cmap_layers.specs.declared.layer.DeclarationCounts.{DeclarationCounts}
 
--- in the list for codes of each length
+-- the number of declarations in the list for codes of each length
 abbrev pub lengths_of : files.ByLength → ByLength ℕ
 lengths_of lists = record { one = length lists.one; two = length lists.two; three = length lists.three; four = length lists.four }
 

@@ -13,7 +13,7 @@ use Rattle.cmap_layers.specs.declared.layer.Layer.{Layer}
 abbrev pub by_length_seen : ByLength (List CidRange) → files.ByLength
 by_length_seen tables = record { one = entries_seen tables.one; two = entries_seen tables.two; three = entries_seen tables.three; four = entries_seen tables.four }
 
--- the lists for codes of each length, as tables see them
+-- the lists for codes of each length, as tables hold them
 abbrev pub lists_held : ByLength (Vec CidRange) → ByLength (List CidRange)
 lists_held lists = record { one = lists.one.items; two = lists.two.items; three = lists.three.items; four = lists.four.items }
 

@@ -1,4 +1,4 @@
--- Private aid: what is asked for codes without a CID.
+-- Private aid: the declarations that are searched for codes without a CID.
 use Rattle.std.specs.Prelude.{◌≡◌, ℕ, ◌<◌, ◌≤◌, ◌^◌, List, None}
 use Rattle.cmap_runs.specs.Ranges.{last_of}
 use Rattle.cmap_values.specs.DeclarationsSeen.{bf_range_span, cid_range_span, slot}
@@ -12,7 +12,7 @@ pub record OtherLists : Type 0 where
   pub notdefs : ByLength (List CidRange)
   pub bfs : List BfRange
 
--- none of their declarations contains the code or a later one
+-- no notdef and no text contains the code `end` or a later code
 pub record AreBefore (notdefs : ByLength (List CidRange)) (bfs : List BfRange) (end : ℕ) : Type 0 where
   pub no_notdef : (len : CodeLength) (code : ℕ) → code < 2 ^ 32 → end ≤ code → last_of cid_range_span (slot notdefs len) code ≡ None
   pub no_bf : (code : ℕ) → code < 2 ^ 32 → end ≤ code → last_of bf_range_span bfs code ≡ None

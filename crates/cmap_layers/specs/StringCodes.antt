@@ -10,7 +10,7 @@ use Rattle.cmap_layers.specs.Layers.{Layer}
 use Rattle.cmap_layers.specs.Lookups.{InCodespace}
 use Rattle.cmap_layers.specs.declared.string_codes.StringCode.{StringCode}
 
--- the number that the first n bytes of a string write, the high one first
+-- the big-endian number in the first n bytes of a string
 abbrev pub front : List ℕ → ℕ → ℕ
 front text n = big_endian (take n text)
 
@@ -18,7 +18,7 @@ front text n = big_endian (take n text)
 abbrev pub BeginsInside : List Layer → List ℕ → ℕ → Type 0
 BeginsInside layers text n = (n ≤ length text) × InCodespace layers (front text n) n
 
--- the first n bytes are, and fewer are not
+-- the first n bytes of a string are a code in a codespace range, and no fewer bytes are
 abbrev pub IsShortestInside : List Layer → List ℕ → ℕ → Type 0
 IsShortestInside layers text n = BeginsInside layers text n × ((m : ℕ) → m < n → BeginsInside layers text m → ⊥)
 
@@ -26,26 +26,26 @@ IsShortestInside layers text n = BeginsInside layers text n × ((m : ℕ) → m 
 abbrev pub ranges_of : List Layer → List Codespace
 ranges_of layers = flat_map (λ layer. layer.lists.spaces) layers
 
--- a range matches the first n bytes of a string: each lies between the bytes of the range at its index
+-- a range matches the first n bytes of a string: each byte lies between the bytes of the range at the same index
 abbrev pub Matches : Codespace → List ℕ → ℕ → Type 0
 Matches space text n = (n ≤ space.len) × (n ≤ length text)
     × ((k : ℕ) → k < n → (byte_at space.low (space.len - suc k) ≤ slice_index text k) × (slice_index text k ≤ byte_at space.high (space.len - suc k)))
 
--- of these ranges, the best match of a string: one with codes of len bytes matches the first n bytes, none matches more, and none that matches as many has shorter codes
+-- the best match of a string among these ranges: a range with codes of len bytes matches the first n bytes, no range matches more bytes, and no range that matches n bytes has shorter codes
 pub record IsBestMatch (spaces : List Codespace) (text : List ℕ) (n len : ℕ) : Type 0 where
   pub one : Any (λ space. Matches space text n × (space.len ≡ len)) spaces
   pub longest : All (λ space. (m : ℕ) → Matches space text m → m ≤ n) spaces
   pub shortest : All (λ space. Matches space text n → len ≤ space.len) spaces
 
--- a code in no range wants len bytes: as many as the codes of the best match have, and one where there are no ranges
+-- a code in no range wants len bytes: as many as the codes of the best match have, or one byte if there are no ranges
 abbrev pub Wants : List Codespace → List ℕ → ℕ → Type 0
 Wants spaces text len = ((n : ℕ) × IsBestMatch spaces text n len) ⊎ ((spaces ≡ []) × (len ≡ 1))
 
--- no front of a string lies in a range, and n bytes are taken: as many as are wanted, or all where there are fewer
+-- no prefix of a string lies in a range, and n bytes are taken: as many as are wanted, or all bytes if there are fewer
 abbrev pub IsTakenOutside : List Layer → List ℕ → ℕ → Type 0
 IsTakenOutside layers text n = HoldsOfNone (BeginsInside layers text) × (wanted : ℕ) × Wants (ranges_of layers) text wanted × (n ≡ min wanted (length text))
 
--- the string ends before its code does: no front of it lies in a range, and more bytes are wanted than it has
+-- the string ends before its code does: no prefix of the string lies in a range, and more bytes are wanted than the string has
 abbrev pub IsCutShort : List Layer → List ℕ → Type 0
 IsCutShort layers text = HoldsOfNone (BeginsInside layers text) × (wanted : ℕ) × Wants (ranges_of layers) text wanted × (length text < wanted)
 

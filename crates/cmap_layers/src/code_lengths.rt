@@ -1,11 +1,11 @@
-//! The lengths that codes have, and the one that codes of a text are printed with.
+//! The lengths that codes can have, and the length with which the codes of a text are printed.
 
 use crate::layer::Layer;
 use crate::layers::Layers;
 use cmap_values::code_length::CodeLength;
 use cmap_values::range::Range;
 
-/// The lengths that codes have.
+/// The lengths that codes can have.
 pub const LENGTHS: &[CodeLength] = &[
     CodeLength::One,
     CodeLength::Two,
@@ -28,7 +28,7 @@ fn declares_codes(layer: &Layer, len: CodeLength) -> bool {
         || layer.codespaces().iter().any(|space| space.len == len)
 }
 
-/// How many bytes a code needs.
+/// The number of bytes that a code needs.
 fn byte_count(code: u32) -> u8 {
     match code {
         0..0x100 => 1,
@@ -38,20 +38,20 @@ fn byte_count(code: u32) -> u8 {
     }
 }
 
-/// How many bytes the codes of a range need.
+/// The number of bytes that the codes of a range need.
 pub fn fewest_bytes(range: Range) -> u8 {
     byte_count(range.start.max(range.end))
 }
 
-/// How many bytes a code of a declaration for codes of `byte_len` bytes is printed with: these, or more if it needs
-/// more. A declaration has the length of its first code, and its last one may be longer.
+/// The number of bytes with which a code of a declaration for codes of `byte_len` bytes is printed: `byte_len`, or
+/// more if the code needs more. A declaration has the length of its first code, and its last code may be longer.
 pub fn printed_len(byte_len: u8, code: u32) -> u8 {
     byte_len.max(byte_count(code))
 }
 
-/// How many bytes the codes of a text are printed with, for which a file's declaration has no length:
-/// the fewest in which they fit, with which the first of them lies in a codespace range, if it does
-/// with any.
+/// The number of bytes with which the codes of a text are printed; a file's declaration of texts has no code
+/// length. It is the least number of bytes in which all codes fit and with which the first code lies in a codespace
+/// range. If the first code lies in no range, it is the least number in which all codes fit.
 pub fn text_code_len(layers: &Layers, range: Range) -> u8 {
     let fewest = fewest_bytes(range);
     for byte_len in fewest..=4 {

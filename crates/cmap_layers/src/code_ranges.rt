@@ -1,4 +1,4 @@
-//! Codes as ranges, each as long as can be.
+//! Codes as ranges, each as long as possible.
 
 ghost use Rattle.std.specs.Prelude.{◌≡◌, ◌-◌, ◌<◌, ℕ, MatchResult, length, slice_get, true};
 ghost use Rattle.cmap_layers.specs.CodeRanges.{goes_on, joined};
@@ -6,8 +6,8 @@ ghost use Rattle.cmap_layers.specs.CodeRanges.{goes_on, joined};
 use cmap_values::range::Range;
 use std::alloc::AllocError;
 
-/// Adds a range at the end. Where it begins just after the last one, the two are one. If memory runs out,
-/// the ranges stay as they were.
+/// Adds a range at the end. If the range begins just after the last one, the two are joined. If memory
+/// runs out, the ranges stay as they were.
 pub fn add_range(ranges: &mut Vec<Range>, range: Range) -> Result<(), AllocError>
     ensures { MatchResult result (λ _. ranges.new.items ≡ joined ranges.old.items range)
         (λ _. ranges.new.items ≡ ranges.old.items) }

@@ -15,8 +15,8 @@ use cmap_codespaces::{Query, lesser, some_count};
 use cmap_values::code_length::CodeLength;
 
 impl Layers {
-    /// Whether a codespace range of some layer contains a code of `byte_len` bytes. None does where
-    /// the code doesn't fit in these, or `byte_len` is outside 1 to 4.
+    /// Whether a codespace range of some layer contains a code of `byte_len` bytes. No range does
+    /// if the code doesn't fit in `byte_len` bytes, or if `byte_len` isn't 1 to 4.
     #[inline(always)]
     pub fn in_codespace(&self, code: u32, byte_len: u8) -> bool
         ensures { IsTrue result ↔ InCodespace self.now code byte_len }
@@ -28,7 +28,8 @@ impl Layers {
     }
 }
 
-/// Whether a codespace range of some layer has codes of `byte_len` bytes that may begin with these.
+/// Whether a codespace range of some layer has codes of `byte_len` bytes that may begin with the
+/// bytes of `front`.
 pub(crate) fn any_has_front(layers: &[Layer], byte_len: u8, front: &[u8]) -> bool
     requires length { IsCodeLength byte_len }
     requires few { length front.now ≤ 4 }
@@ -38,7 +39,7 @@ pub(crate) fn any_has_front(layers: &[Layer], byte_len: u8, front: &[u8]) -> boo
     any(layers, &Query::of_front(byte_len, front))
 }
 
-/// How many bytes the shortest code in a codespace range has that a text begins with.
+/// The number of bytes in the shortest prefix of a text that is a code in a codespace range.
 #[inline(always)]
 pub(crate) fn shortest(layers: &[Layer], text: &[u8]) -> Option<u8>
     ensures { IsLeast (BeginsInside (layers_seen layers.now) text.now) result }
@@ -49,7 +50,7 @@ pub(crate) fn shortest(layers: &[Layer], text: &[u8]) -> Option<u8>
     }
 }
 
-/// The answer of `shortest`, of any number of layers; 0 for `None`, as `some_count` reads it.
+/// The answer of `shortest` for any number of layers, with 0 for `None`, as `some_count` reads it.
 #[inline(never)]
 fn count_of_all(layers: &[Layer], text: &[u8]) -> u8
     ensures { IsLeast (BeginsInside (layers_seen layers.now) text.now) (some_count result) }
@@ -57,7 +58,7 @@ fn count_of_all(layers: &[Layer], text: &[u8]) -> u8
     shortest_of_all(layers, text).unwrap_or(0)
 }
 
-/// The answer of `shortest`, of any number of layers.
+/// The answer of `shortest` for any number of layers.
 fn shortest_of_all(layers: &[Layer], text: &[u8]) -> Option<u8>
     ensures { IsLeast (BeginsInside (layers_seen layers.now) text.now) result }
 {
@@ -68,7 +69,7 @@ fn shortest_of_all(layers: &[Layer], text: &[u8]) -> Option<u8>
     shortest
 }
 
-/// Whether a codespace range of some layer is asked for.
+/// Whether a codespace range of some layer matches the query.
 #[inline(always)]
 fn any(layers: &[Layer], query: &Query) -> bool
     requires { AreRows query.now }
@@ -81,7 +82,7 @@ fn any(layers: &[Layer], query: &Query) -> bool
     }
 }
 
-/// The answer of `any`, of any number of layers.
+/// The answer of `any` for any number of layers.
 #[inline(never)]
 fn any_of_all(layers: &[Layer], query: &Query) -> bool
     requires { AreRows query.now }

@@ -1,4 +1,4 @@
-//! The layers of a map: what each file in a chain says, its declarations in tables.
+//! The layers of a map: the content of each file in a chain, with its declarations in tables.
 
 ghost use Rattle.std.specs.Prelude.{◌≡◌, IfOk, map};
 ghost use Rattle.cmap_values.specs.CodeLengths.{length_of};
@@ -26,7 +26,7 @@ pub struct Layer {
     pub(crate) spaces: Spaces,
 }
 
-// A crate that drops a layer calls this, and proves nothing of the layer's parts.
+// A crate that drops a layer calls this `drop`, and proves nothing about the layer's parts.
 impl Drop for Layer {
     fn drop(self) {
         let Layer {
@@ -50,14 +50,14 @@ impl fmt::Debug for Layer {
     }
 }
 
-/// How many declarations a layer has of each kind.
+/// The number of declarations of each kind in a layer.
 #[derive(Debug, Drop)]
 pub struct DeclarationCounts {
-    /// Those that give codes their CIDs, by the length of the codes.
+    /// The declarations of the CIDs of codes, by the length of the codes.
     pub cids: ByLength<usize>,
-    /// Those that give the CID of a character that isn't defined, by the length of the codes.
+    /// The declarations of the CID of a character that isn't defined, by the length of the codes.
     pub notdefs: ByLength<usize>,
-    /// Those that give codes their texts.
+    /// The declarations of the texts of codes.
     pub bfs: usize,
 }
 
@@ -78,7 +78,7 @@ impl Layer {
         })
     }
 
-    /// What the file states about itself.
+    /// The metadata that the file states about itself.
     pub fn metadata(&self) -> &Metadata
         ensures { metadata_seen result.now ≡ (layer_seen self.now).metadata }
     {
@@ -117,7 +117,7 @@ impl Layer {
         self.others.bfs()
     }
 
-    /// How many declarations there are of each kind. Codespace ranges don't count.
+    /// The number of declarations of each kind. Codespace ranges don't count.
     pub fn counts(&self) -> DeclarationCounts
         ensures { result ≡ counts_of (layer_seen self.now).lists }
     {
@@ -154,7 +154,7 @@ impl Layer {
     }
 }
 
-/// How many declarations each table has.
+/// The number of declarations in each table.
 fn lengths_of(tables: &ByLength<Table<CidRange>>) -> ByLength<usize>
     ensures { result ≡ lengths_of (by_length_seen tables.now) }
 {

@@ -10,23 +10,23 @@ use cmap_values::metadata::Metadata;
 use std::alloc::{AllocError, Global};
 use std::marker::Model;
 
-/// The layers of a map, at least one and at most 16: the file's own first, then those of the file
-/// that it is based on, and so on.
+/// The layers of a map, at least one and at most 16: first the layer of the file itself, then the
+/// layers of the file that it is based on, and so on.
 ///
-/// What codes stand for is decided by the first layer that says something of them.
+/// The first layer that declares something for a code decides what the code stands for.
 #[derive(Debug)]
 pub struct Layers {
     list: Vec<Layer>,
 }
 
-// A crate that drops them calls this, and proves nothing of their parts.
+// A crate that drops the layers calls this `drop`, and proves nothing about their parts.
 impl Drop for Layers {
     fn drop(self) {
         let Layers { list: _ } = self;
     }
 }
 
-// A clause sees the list of them.
+// Contracts see the list of layers.
 impl Model for Layers {
     ghost use Rattle.std.specs.Prelude.{List, ◌<◌, ◌≤◌, length};
     ghost use Rattle.cmap_layers.specs.Layers.{Layer};
@@ -58,7 +58,7 @@ impl Layers {
         self.list.as_slice()
     }
 
-    /// What the file of the top layer states about itself.
+    /// The metadata that the file of the top layer states about itself.
     pub fn metadata(&self) -> &Metadata
         ensures top { top_metadata self.now ≡ Some (metadata_seen result.now) }
         ensures few { length self.now ≤ 16 }

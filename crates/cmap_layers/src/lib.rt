@@ -1,5 +1,5 @@
-//! What the layers of a map are, and what they answer: each is what one CMap file says, and the
-//! layers of the files that it is based on come after it.
+//! The layers of a map, and their answers. A layer has the content of one CMap file; the layers of
+//! the files that this file is based on come after it.
 #![tactic(auto)]
 
 pub mod code_lengths;

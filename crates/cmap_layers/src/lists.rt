@@ -4,7 +4,7 @@ ghost use Rattle.std.specs.Prelude.{◌≡◌, ◌∷◌, ◌++◌, [], IfOk, Ok
 
 use std::alloc::AllocError;
 
-/// An item before those of a list.
+/// Puts an item before the items of a list.
 pub fn put_first<T: Drop>(
     item: Result<T, AllocError>,
     mut list: Vec<T>,
@@ -16,7 +16,7 @@ pub fn put_first<T: Drop>(
     Ok(list)
 }
 
-/// Adds an item after those of a list.
+/// Adds an item after the items of a list.
 pub fn put_last<T: Drop>(item: Result<T, AllocError>, list: &mut Vec<T>) -> Result<(), AllocError>
     ensures added { OnOk result
         ((last : T) × (item ≡ Ok last) × (list.new.items ≡ list.old.items ++ last ∷ [])) }

@@ -1,4 +1,4 @@
-//! What a code stands for: the first layer that decides, from the top one on.
+//! The CID and the text of a code: the first layer that decides gives them, from the top layer on.
 
 ghost use Rattle.std.specs.Prelude.{◌≡◌, ◌*◌, ◌<◌, ◌≤◌, [], ◌∷◌, length, map, option_and_then, option_map, is_some, IfOk, IfSome, IsSomeAnd, OnErr};
 ghost use Rattle.std.specs.Option.{option_copied};
@@ -25,17 +25,18 @@ use cmap_values::units::Units;
 use std::alloc::{AllocError, Global};
 
 impl Layers {
-    /// The CID of a code of `byte_len` bytes, big-endian; what is looked at is counted.
+    /// The CID of a code of `byte_len` bytes, big-endian. The runs and declarations that are looked at
+    /// are counted in `looks`.
     ///
-    /// It is `None` where no layer decides, for a `byte_len` outside 1 to 4, and where the CID that is
-    /// declared passes 32 bits. Codespace ranges aren't looked at. Adobe Technical Note 5014.
+    /// The result is `None` if no layer decides, if `byte_len` isn't 1 to 4, and if the declared CID
+    /// doesn't fit in 32 bits. Codespace ranges aren't looked at. Adobe Technical Note 5014.
     #[inline(always)]
     pub fn cid(&self, code: u32, byte_len: u8, looks: &mut Looks) -> Option<Cid>
         ensures { FindsCid self.now code byte_len looks.old looks.new result }
     {
         let layers = self.as_slice();
-        // Most maps have one layer, which is asked without a loop. The answer of a call is taken apart:
-        // else all answers would be put together and tested once more.
+        // Most maps have one layer, which is asked without a loop. The answer of a call is taken apart;
+        // otherwise all answers would be put together and tested once more.
         let [only] = layers else {
             let cid = cid_in_turn(layers, code, byte_len, looks)?;
             return Some(cid);
@@ -48,14 +49,15 @@ impl Layers {
         cid_in(only, code, CodeLength::Two, looks)
     }
 
-    /// The answer of `cid`, where the code lies in a codespace range of some layer; else `None`.
+    /// The answer of `cid` if the code lies in a codespace range of some layer, or else `None`.
     ///
-    /// A code lies in a range of its own length where each of its bytes lies between those of the
-    /// range's two ends. One that doesn't fit in its length lies in none. ISO 32000-1, 9.7.6.2.
+    /// A code lies in a range of its own length if each byte of the code lies between the bytes of the
+    /// range's two ends at the same place. A code that doesn't fit in its length lies in no range. ISO
+    /// 32000-1, 9.7.6.2.
     pub fn strict_cid(&self, code: u32, byte_len: u8, looks: &mut Looks) -> Option<Cid>
         ensures value { IsStrictCid self.now code byte_len result }
 
-        // As many are looked at as by `cid`.
+        // The runs and declarations that are looked at have the same limits as for `cid`.
         ensures looks { LooksAtMost looks.old looks.new (cid_looks self.now byte_len)
             (3 * length self.now) (is_some result) }
     {
@@ -67,11 +69,12 @@ impl Layers {
         }
     }
 
-    /// The Unicode text of a code: one character, or more of them; what is looked at is counted.
+    /// The Unicode text of a code: one or more characters. The runs and declarations that are looked at
+    /// are counted in `looks`.
     ///
-    /// It is `None` where no declaration contains the code, and where the one that decides gives no
-    /// text: a layer's declaration decides also then. It fails only if memory runs out, and only for a
-    /// text of more than one character. ISO 32000-1, 9.10.3.
+    /// The result is `None` if no declaration contains the code, and if the deciding declaration gives
+    /// no text: a layer's declaration decides even then. It fails only if memory runs out, and only for
+    /// a text of more than one character. ISO 32000-1, 9.10.3.
     pub fn text(
         &self,
         alloc: Global,
@@ -117,7 +120,7 @@ fn cid_in_turn(layers: &[Layer], code: u32, byte_len: u8, looks: &mut Looks) -> 
     None
 }
 
-/// The text of the code at this offset from the start of the declaration. Nearly each text is one
+/// The text of the code at this offset from the start of the declaration. Nearly every text is one
 /// unit.
 #[inline(always)]
 fn text_of(alloc: Global, found: &BfRange, offset: u32) -> Result<Option<BfString>, AllocError>
@@ -149,7 +152,7 @@ fn find_bf<'l>(layers: &'l [Layer], code: u32, looks: &mut Looks) -> Option<&'l 
     }
 }
 
-/// The same, by asking each layer in turn.
+/// The answer of `find_bf`, by asking each layer in turn.
 fn find_bf_in_turn<'l>(layers: &'l [Layer], code: u32, looks: &mut Looks) -> Option<&'l BfRange>
     ensures found { option_map bf_entry_seen (option_copied result)
         ≡ deciding_bf (layers_seen layers.now) code }
@@ -177,7 +180,8 @@ fn last_bf<'t>(table: &'t Table<BfRange>, code: u32, looks: &mut Looks) -> Optio
     table.find(code, looks)
 }
 
-/// What a layer decides for a code, if it does: its CID, or that it has none.
+/// The decision of a layer for a code, if there is one: the CID of the code, or that the code has no
+/// CID.
 #[inline(always)]
 fn decided_by(layer: &Layer, code: u32, len: CodeLength, looks: &mut Looks) -> Option<Option<Cid>>
     ensures value { result ≡ layer_cid (layer_seen layer.now) code (length_of len) }
@@ -196,7 +200,7 @@ fn decided_by(layer: &Layer, code: u32, len: CodeLength, looks: &mut Looks) -> O
     Some(Some(cid))
 }
 
-/// The CID of a code that a declaration contains; `None` where it passes 32 bits.
+/// The CID of a code that a declaration contains; `None` if the CID doesn't fit in 32 bits.
 #[inline(always)]
 fn counted_cid(declaration: &CidRange, code: u32) -> Option<Cid>
     requires { declaration.now.range.start ≤ code }
@@ -206,8 +210,9 @@ fn counted_cid(declaration: &CidRange, code: u32) -> Option<Cid>
     u32::try_from(u64::from(first) + u64::from(offset)).ok()
 }
 
-/// The CID of a code without a declaration of its CID: that of a notdef, or else the character of its
-/// text. It is called rather than inlined, so that the search of the CIDs has all registers.
+/// The CID of a code without a CID declaration: the CID of a notdef, or else the character of the
+/// code's text. This function is called rather than inlined, so that the search of the CIDs has all
+/// registers.
 #[inline(never)]
 fn other_cid(
     notdefs: &Table<CidRange>,
@@ -224,7 +229,7 @@ fn other_cid(
     }
 }
 
-/// The text of a code, where it is one character.
+/// The text of a code, if it is one character.
 #[inline(always)]
 fn character_of(table: &Table<BfRange>, code: u32, looks: &mut Looks) -> Option<Cid>
     ensures value { result ≡ character_at (map bf_entry_seen table.now) code }

@@ -1,4 +1,4 @@
-//! What is asked for codes without a CID.
+//! The declarations that are searched for codes without a CID.
 
 ghost use Rattle.std.specs.Prelude.{◌≡◌, true, None};
 ghost use Rattle.cmap_runs.specs.Ranges.{last_of};
@@ -9,16 +9,17 @@ use cmap_runs::runs::Table;
 use cmap_values::declarations::{BfRange, ByLength, CidRange};
 use std::marker::Model;
 
-/// The notdefs and the texts of a layer, which decide only for codes without a CID.
+/// The notdefs and the texts of a layer, which decide the CIDs only of codes without a CID
+/// declaration.
 #[derive(Drop)]
 pub(crate) struct Others {
     notdefs: ByLength<Table<CidRange>>,
     bfs: Table<BfRange>,
-    /// A code after those of all their declarations, whatever their length.
+    /// A code after the codes of all notdefs and texts, whatever their length.
     end: u64,
 }
 
-// A clause sees the lists.
+// Contracts see the lists.
 impl Model for Others {
     ghost use Rattle.cmap_layers.specs.Others.{AreBefore, OtherLists};
 
@@ -55,7 +56,7 @@ impl Others {
         &self.bfs
     }
 
-    /// Whether all of them are seen to end before `code`, as most do.
+    /// Whether all notdefs and texts are known to end before `code`, as most do.
     #[inline(always)]
     pub(crate) fn end_before(&self, code: u32) -> bool
         ensures notdefs { result ≡ true → (len : CodeLength)

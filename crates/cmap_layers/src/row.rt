@@ -1,4 +1,4 @@
-//! The CIDs of codes in a row: what each table says of them, stretch by stretch.
+//! The CIDs of codes in a row, from each table stretch by stretch.
 
 ghost use Rattle.std.specs.Prelude.{◌≡◌, ℕ, ◌+◌, ◌-◌, ◌<◌, ◌≤◌, ◌^◌, length, map, min, nat_lt, option_and_then, option_map, slice_index, unwrap_or, if◌then◌else◌};
 ghost use Rattle.cmap_tokens.specs.Texts.{only_character};
@@ -16,22 +16,23 @@ use cmap_values::code_length::CodeLength;
 use cmap_values::declarations::{BfRange, CidRange};
 use cmap_values::names::Cid;
 
-/// What the declarations of a table give to codes.
+/// The kind of CIDs that the declarations of a table give to codes.
 #[derive(Clone, Copy)]
 enum Kind {
-    /// CIDs that count on from code to code; `absent` stands for one past 32 bits.
+    /// CIDs that count on from code to code; `absent` replaces a CID past 32 bits.
     Cids { absent: Cid },
     /// The same CID to all codes.
     Notdefs,
 }
 
 impl Layers {
-    /// Fills `cids` with the CIDs of the codes of `byte_len` bytes from `first` on, one after another,
-    /// as `cid` gives them. `absent` stands for a code without a CID, and for each number past 32 bits.
+    /// Fills `cids` with the CIDs of the codes of `byte_len` bytes from `first` on, one after another, as
+    /// `cid` gives them. `absent` replaces the CID of a code that has none, and of each number past 32
+    /// bits.
     ///
-    /// Each list of declarations is searched for the first code, and then read in order. Each table writes
-    /// over what the tables before it wrote: those of the lowest layer come first, and in a layer its
-    /// texts, then its notdefs, then its CIDs.
+    /// Each list of declarations is searched for the first code, and then read in order. Each table
+    /// overwrites the CIDs of the tables before it. The tables of the lowest layer come first; within a
+    /// layer, the texts come first, then the notdefs, then the CIDs.
     pub fn fill_cids(&self, first: u32, byte_len: u8, absent: Cid, cids: &mut [Cid])
         ensures { AreCidsOf self.now byte_len absent first cids.new }
     {
@@ -88,7 +89,8 @@ fn write_characters(table: &Table<BfRange>, first: u32, cids: &mut [Cid], looks:
     }
 }
 
-/// Where the codes up to `last` end in a row of this length from `first` on.
+/// The index after the code `last` in a row of `len` codes from `first` on, or `len` if the row ends
+/// before it.
 fn end_in_row(first: u32, last: u32, len: usize) -> usize
     requires { first ≤ last }
     ensures { result ≡ min (last - first + 1) len }
@@ -96,7 +98,8 @@ fn end_in_row(first: u32, last: u32, len: usize) -> usize
     (u64::from(last - first) + 1).min(len as u64) as usize
 }
 
-/// Writes what a declaration gives to the codes from `code` on, which it contains.
+/// Writes the CIDs that a declaration gives to the codes from `code` on. The declaration contains these
+/// codes.
 fn write_declared(declaration: &CidRange, kind: Kind, code: u32, cids: &mut [Cid])
     requires { declaration.now.range.start ≤ code }
     ensures { (k : ℕ) → k < length cids.new
@@ -111,7 +114,7 @@ fn write_declared(declaration: &CidRange, kind: Kind, code: u32, cids: &mut [Cid
     }
 }
 
-/// Writes numbers that count on from `cid`; `absent` stands for one past 32 bits.
+/// Writes numbers that count on from `cid`, with `absent` for each number past 32 bits.
 fn count_on(cid: u64, absent: Cid, cids: &mut [Cid])
     requires { cid < 2 ^ 33 }
     ensures { (k : ℕ) → k < length cids.new
@@ -122,8 +125,8 @@ fn count_on(cid: u64, absent: Cid, cids: &mut [Cid])
     }
 }
 
-/// Writes the character of each code from `code` on, which the declaration contains, where its text
-/// is just one.
+/// Writes the character of each code from `code` on whose text is just one character. The declaration
+/// contains these codes.
 fn write_text(declaration: &BfRange, code: u32, cids: &mut [Cid])
     requires start { declaration.now.range.start ≤ code }
     requires fits { code + length cids.old ≤ 2 ^ 32 }

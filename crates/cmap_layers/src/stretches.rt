@@ -1,5 +1,5 @@
-//! What codes in a row stand for over all layers, by stretches of codes for which the same declarations
-//! decide; and so the codes of a CID.
+//! The CIDs and the texts of codes in a row over all layers, by stretches of codes for which the same
+//! declarations decide. The codes of a CID are found by these stretches.
 
 ghost use Rattle.std.specs.Prelude.{◌≡◌, ◌⊎◌, ◌+◌, ◌-◌, ◌^◌, ◌<◌, ◌≤◌, ℕ, IfOk, IfSome, IsSomeAnd, Some, map, option_map};
 ghost use Rattle.std.specs.Option.{option_copied};
@@ -29,18 +29,18 @@ use std::alloc::{AllocError, Global};
 /// The CIDs that codes in a row have.
 #[derive(Clone, Copy, Debug, PartialEq, Eq)]
 pub enum Cids {
-    /// No code has one.
+    /// No code has a CID.
     Absent,
-    /// All codes have this one.
+    /// All codes have this CID.
     Same(Cid),
-    /// The first code has this one, and each further code the next.
+    /// The first code has this CID, and each further code has the next CID.
     CountOn(Cid),
 }
 
 /// Codes in a row, with their CIDs.
 #[derive(Clone, Copy, Debug)]
 pub struct CidStretch {
-    /// Their CIDs.
+    /// The CIDs of the codes.
     pub cids: Cids,
     /// The last of the codes.
     pub last: u32,
@@ -55,7 +55,7 @@ pub struct TextStretch<'l> {
     pub last: u32,
 }
 
-/// Codes in a row, and what a layer decides by itself for each of them, if it does.
+/// Codes in a row, and the decision of a layer by itself for each of them, if there is one.
 #[derive(Clone, Copy)]
 struct LayerStretch {
     cids: Option<Cids>,
@@ -63,10 +63,10 @@ struct LayerStretch {
 }
 
 impl Layers {
-    /// The CIDs of codes of this length from `first` on, as `cid` gives them. The stretch ends where
-    /// another declaration decides, in a list that is searched for `first`; with the last CID; or within a
-    /// text that gives CIDs, since the characters of a text count on in rows. A caller who goes on with the
-    /// code after the last one has the CIDs of all codes.
+    /// The CIDs of codes of this length from `first` on, as `cid` gives them. The stretch ends before a
+    /// code for which another declaration decides, in a list that is searched for `first`; with the last
+    /// CID; or within a text that gives CIDs, since the characters of a text count on only within rows. A
+    /// caller who goes on with the code after the last one gets the CIDs of all codes.
     pub fn cid_stretch(&self, first: u32, len: CodeLength) -> CidStretch
         ensures within { first ≤ result.last }
         ensures cids { IsCidStretch self.now (length_of len) first result }
@@ -86,9 +86,9 @@ impl Layers {
         }
     }
 
-    /// The declaration that decides the texts of the codes from `first` on, as `text` gives them, or that
-    /// none does. The stretch ends where another declaration decides, in a layer that is searched for
-    /// `first`.
+    /// The declaration, if there is one, that decides the texts of the codes from `first` on, as `text`
+    /// gives them. The stretch ends before a code for which another declaration decides, in a layer that is
+    /// searched for `first`.
     pub fn text_stretch(&self, first: u32) -> TextStretch<'_>
         ensures within { first ≤ result.last }
         ensures start { IfSome result.declaration
@@ -115,7 +115,8 @@ impl Layers {
     }
 
     /// The codes that have the CID, as `cid` gives it for codes of this length: ranges in order, each as
-    /// long as can be. A file may declare larger codes than this length has; these are among them.
+    /// long as possible. A file may declare codes that are larger than this length allows; such codes are
+    /// included.
     ///
     /// It fails only if memory runs out.
     pub fn codes_of_cid(
@@ -140,7 +141,7 @@ impl Layers {
     }
 }
 
-/// What a layer decides for codes from `first` on.
+/// The decision of a layer for codes from `first` on.
 fn stretch_in(layer: &Layer, first: u32, len: CodeLength) -> LayerStretch
     ensures within { first ≤ result.last }
     ensures cids { Decides (λ code. layer_cid (layer_seen layer.now) code (length_of len))
@@ -166,8 +167,8 @@ fn stretch_in(layer: &Layer, first: u32, len: CodeLength) -> LayerStretch
     }
 }
 
-/// The CIDs that a declaration gives to codes from `first` to `last`, which it contains, up to where
-/// they pass 32 bits.
+/// The CIDs that a declaration gives to codes from `first` to `last`, which it contains. The stretch ends
+/// with the last CID of 32 bits; codes past that CID have none.
 fn declared_cids(declaration: &CidRange, first: u32, last: u32) -> LayerStretch
     requires start { declaration.now.range.start ≤ first }
     requires last { first ≤ last }
@@ -189,7 +190,7 @@ fn declared_cids(declaration: &CidRange, first: u32, last: u32) -> LayerStretch
     }
 }
 
-/// The characters of codes from `first` on whose texts are just one.
+/// The characters of codes from `first` on whose texts are just one character.
 fn characters_in(texts: &Table<BfRange>, first: u32) -> LayerStretch
     ensures within { first ≤ result.last }
     ensures cids { Decides (λ code. option_map Some (character_said (map bf_entry_seen texts.now) code))
@@ -207,8 +208,8 @@ fn characters_in(texts: &Table<BfRange>, first: u32) -> LayerStretch
     }
 }
 
-/// The characters that a declaration gives to codes from `first` to `last`, which it contains, while
-/// they count on, or while no text is just one.
+/// The characters that a declaration gives to codes from `first` to `last`, which it contains. The stretch
+/// goes on while the characters count on, or while no text is just one character.
 fn declared_characters(declaration: &BfRange, first: u32, last: u32) -> LayerStretch
     requires start { declaration.now.range.start ≤ first }
     requires last { first ≤ last }
@@ -231,8 +232,8 @@ fn declared_characters(declaration: &BfRange, first: u32, last: u32) -> LayerStr
     }
 }
 
-/// How many further offsets have characters that count on from that of this one, or, if this one gives
-/// none, none.
+/// The number of further offsets whose characters count on from the character at this offset, or, if this
+/// offset gives no character, the number of further offsets that give none either.
 fn further_characters(units: &[u16], offset: u32) -> u32
     ensures count { (k : ℕ) → k ≤ result → only_character (text_at units.now (offset + k))
         ≡ option_map (λ character. character + k) (only_character (text_at units.now offset)) }
@@ -249,7 +250,8 @@ fn further_characters(units: &[u16], offset: u32) -> u32
     }
 }
 
-/// The codes from `first` to `last` that have the CID, of codes from `first` on with these CIDs.
+/// The codes from `first` to `last` that have the CID `cid`, if the codes from `first` on have the CIDs
+/// `cids`.
 fn codes_among(cids: Cids, cid: Cid, first: u32, last: u32) -> Option<Range>
     requires { first ≤ last }
     ensures { AreCodesAmong cids cid first last result }

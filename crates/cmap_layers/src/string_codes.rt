@@ -15,24 +15,26 @@ use crate::layers::Layers;
 /// The code that a string begins with. ISO 32000-1, 9.7.6.2.
 #[derive(Clone, Copy, Debug, PartialEq, Eq)]
 pub struct StringCode {
-    /// The number that its bytes write, the first one high.
+    /// The big-endian number in the bytes of the code.
     pub code: u32,
-    /// How many bytes it has, 1 to 4.
+    /// The number of bytes in the code, 1 to 4.
     pub byte_len: u8,
-    /// Whether it lies in a codespace range.
+    /// Whether the code lies in a codespace range.
     pub in_codespace: bool,
-    /// Whether the string ends before it does: no front of the string lies in a codespace range, and
-    /// the range that decides how many bytes are taken has longer codes than the string has bytes.
+    /// Whether the string ends before the code does: no prefix of the string lies in a codespace range,
+    /// and the range that decides how many bytes are taken has longer codes than the string has bytes.
     pub cut_short: bool,
 }
 
 impl Layers {
-    /// The code that a string begins with, and how many bytes it has; `None` where the string is empty.
+    /// The code that a string begins with, and the number of its bytes; `None` if the string is empty.
     ///
-    /// It is the shortest prefix of the string that lies in a codespace range of some layer. If there is
-    /// none, the range decides that matches the longest prefix, each byte between its own; of several
-    /// ranges, the one with the shortest codes. As many bytes are taken as its codes have, or all if the
-    /// string has fewer; one if no layer has a range. ISO 32000-1, 9.7.6.2 and 9.7.6.3.
+    /// The code is the shortest prefix of the string that lies in a codespace range of some layer. If
+    /// there is no such prefix, the range decides that matches the longest prefix: each byte of the
+    /// prefix lies between the bytes of the range. Of several such ranges, a range with the shortest
+    /// codes decides. The code takes as many bytes as the codes of this range have, or all bytes if the
+    /// string has fewer. If no layer has a range, the code takes one byte. ISO 32000-1, 9.7.6.2 and
+    /// 9.7.6.3.
     #[inline(always)]
     pub fn next_code(&self, text: &[u8]) -> Option<StringCode>
         ensures code { MatchOption result (text.now ≡ []) (IsOnly (IsNextCode self.now text.now)) }
@@ -59,8 +61,8 @@ impl Layers {
     }
 }
 
-/// The shortest front of a string that is a code in a codespace range: how many bytes it has, and its
-/// number.
+/// The shortest prefix of a string that is a code in a codespace range: the number of its bytes, and the
+/// code.
 #[inline(always)]
 fn shortest_inside(layers: &[Layer], text: &[u8]) -> Option<(u8, u32)>
     ensures { MatchOption result
@@ -73,14 +75,14 @@ fn shortest_inside(layers: &[Layer], text: &[u8]) -> Option<(u8, u32)>
     Some((byte_len, code))
 }
 
-/// The number that the first `byte_len` bytes of a string write, the first one high; `None` unless these
-/// are one to four and the string has as many.
+/// The big-endian number in the first `byte_len` bytes of a string; `None` unless `byte_len` is one to
+/// four and the string has that many bytes.
 #[inline(always)]
 fn code_of_prefix(text: &[u8], byte_len: u8) -> Option<u32>
     ensures { MatchOption result (IsCodeLength byte_len → byte_len ≤ length text.now → ⊥)
         (λ code. IsCodeLength byte_len × (byte_len ≤ length text.now) × (code ≡ front text.now byte_len)) }
 {
-    // Where a caller has found the length, the compiler leaves out these tests.
+    // If a caller has found the length, the compiler leaves out these tests.
     match (byte_len, text) {
         (1, [a, ..]) => Some(u32::from(*a)),
         (2, [a, b, ..]) => Some(u32::from_be_bytes([0, 0, *a, *b])),
@@ -90,7 +92,8 @@ fn code_of_prefix(text: &[u8], byte_len: u8) -> Option<u32>
     }
 }
 
-/// How many bytes a string wants for its code where it begins with none in a codespace range.
+/// The number of bytes that a string needs for its code, if no prefix of the string is a code in a
+/// codespace range.
 #[cold]
 #[inline(never)]
 fn bytes_wanted(layers: &[Layer], text: &[u8]) -> u8
@@ -107,7 +110,7 @@ fn bytes_wanted(layers: &[Layer], text: &[u8]) -> u8
     1
 }
 
-/// How many bytes the codes have at least of the ranges that match all these bytes; `None` where no
+/// The number of bytes in the shortest codes of the ranges that match all these bytes; `None` if no
 /// range does.
 fn shortest_with_front(layers: &[Layer], front: &[u8]) -> Option<u8>
     requires { length front.now ≤ 4 }

@@ -15,14 +15,14 @@ use cmap_values::declarations::BfRange;
 use cmap_values::range::Range;
 use std::alloc::{AllocError, Global};
 
-/// How many codes have 32 bits.
+/// The number of codes of 32 bits.
 pub(crate) const CODE_COUNT: u64 = 1 << 32;
 
 impl Layers {
-    /// The codes that have the text, as `text` gives it: ranges in order, each as long as can be.
+    /// The codes that have the text, as `text` gives it: ranges in order, each as long as possible.
     ///
-    /// They are the numbers of codes: a text doesn't say how many bytes its code has. It fails only if
-    /// memory runs out.
+    /// The codes are numbers without lengths: a text doesn't state how many bytes its code has. It
+    /// fails only if memory runs out.
     pub fn codes_of_text(&self, alloc: Global, text: &str) -> Result<Vec<Range>, AllocError>
         ensures { IfOk result
             (λ ranges. AreCodesOfText self.now (chars text.now) ranges.items) }
@@ -63,7 +63,7 @@ fn characters_of(alloc: Global, text: &str) -> Result<Vec<char>, AllocError>
 }
 
 /// The code from `first` on to which the declaration of a stretch gives the text of these units, if
-/// there is one: it gives no two codes the same text.
+/// there is such a code. A declaration gives no two codes the same text.
 fn code_among(stretch: TextStretch<'_>, first: u32, units: &[u16]) -> Option<u32>
     requires { IfSome stretch.declaration
         (λ declaration. declaration.now.range.start ≤ first) }
@@ -88,7 +88,7 @@ fn code_with(declaration: &BfRange, units: &[u16]) -> Option<u32>
     declaration.range.start.checked_add(u32::from(offset))
 }
 
-/// The offset at which the text of units is that of others.
+/// The offset at which the declared units `begin` give the text of `units`.
 fn offset_of(begin: &[u16], units: &[u16]) -> Option<u16>
     ensures { (text : List ℕ) (offset : ℕ) → AreUnitsOf text units.now
         → ((text_at begin.now offset ≡ Some text) ↔ (result ≡ Some offset)) }

@@ -1,9 +1,9 @@
--- The numbers by which C knows the warnings.
+-- The numbers of the warnings in the C interface.
 use Rattle.std.specs.Prelude.{ℕ}
 use Rattle.cmap_lint.specs.declared.warning.Warning.{Warning}
 use Rattle.cmap_lint.specs.declared.warning.Warning.TheVariants.{NothingDeclared, NoCodespace, OutsideCodespace, Overlap, InvertedRange, CrossesRow, LastByte, NoText, PrivateUse, Noncharacter, ReplacementCharacter, NullCharacter, NoMapping, NameDiffers, ModeDiffers, CountDiffers, LongSection, NoEndcmap, CodeLength, OddDigits, OddText}
 
--- the index in the order in which they are reported
+-- the index in the order of reports
 abbrev pub number : Warning → ℕ
 number NothingDeclared = 0
 number NoCodespace = 1

@@ -1,4 +1,5 @@
-//! Codes each of whose bytes lies between two, as those of a codespace range. ISO 32000-1, 9.7.6.2.
+//! Boxes of codes: each byte of a code lies between two bytes, as in a codespace range. ISO
+//! 32000-1, 9.7.6.2.
 
 use crate::ranges::code_count;
 use cmap_runs::runs::Range;
@@ -6,10 +7,10 @@ use cmap_values::declarations::Codespace;
 use std::alloc::{AllocError, Global};
 use std::ops::RangeInclusive;
 
-/// The most boxes that the codes of codespace ranges are parted into.
+/// The most boxes into which the codes of codespace ranges are divided.
 const MOST_BOXES: usize = 256;
 
-/// Codes of four bytes, each between its own two. Shorter codes have the byte 0 in front.
+/// Codes of four bytes, each byte between its own two bounds. Shorter codes have leading bytes 0.
 #[derive(Clone, Copy)]
 pub(crate) struct CodeBox {
     low: [u8; 4],
@@ -25,7 +26,7 @@ impl CodeBox {
         }
     }
 
-    /// Whether it has a code.
+    /// Whether the box has a code.
     fn has_codes(&self) -> bool {
         for index in 0..4 {
             if self.low[index] > self.high[index] {
@@ -35,7 +36,7 @@ impl CodeBox {
         true
     }
 
-    /// Whether it has a code of another one.
+    /// Whether the two boxes have a code in common.
     fn meets(&self, other: &CodeBox) -> bool {
         for index in 0..4 {
             if self.low[index] > other.high[index] || other.low[index] > self.high[index] {
@@ -45,7 +46,7 @@ impl CodeBox {
         true
     }
 
-    /// How many of its codes are up to and including this one.
+    /// The number of codes of the box up to and including this code.
     fn count_to(&self, code: u32) -> u64 {
         let digits = code.to_be_bytes();
         let mut below: u64 = 0;
@@ -63,7 +64,7 @@ impl CodeBox {
         below.saturating_add(u64::from(is_within))
     }
 
-    /// How many of its codes lie in a range.
+    /// The number of codes of the box in a range.
     fn count_in(&self, range: Range) -> u64 {
         let before = match range.start.checked_sub(1) {
             Some(code) => self.count_to(code),
@@ -72,7 +73,7 @@ impl CodeBox {
         self.count_to(range.end).saturating_sub(before)
     }
 
-    /// Adds its codes that lie in no other box, as boxes.
+    /// Adds the codes of the box that lie outside the other box, as boxes.
     fn push_outside(&self, other: &CodeBox, pieces: &mut Vec<CodeBox>) -> Result<(), AllocError> {
         if !self.meets(other) {
             pieces.push(*self)?;
@@ -96,12 +97,12 @@ impl CodeBox {
         Ok(())
     }
 
-    /// The next to last bytes of its codes.
+    /// The values of the next to last byte of the codes.
     pub(crate) fn rows(&self) -> RangeInclusive<u8> {
         self.low[2]..=self.high[2]
     }
 
-    /// The codes of a row, where the codes have two bytes at most.
+    /// The codes of a row of the box. The codes have at most two bytes.
     pub(crate) fn row(&self, row: u8) -> Range {
         Range {
             start: u32::from_be_bytes([0, 0, row, self.low[3]]),
@@ -110,7 +111,7 @@ impl CodeBox {
     }
 }
 
-/// The codes of codespace ranges as boxes that lie apart; `None` where they are more than 256.
+/// The codes of codespace ranges as disjoint boxes; `None` where more than 256 boxes are needed.
 pub(crate) fn boxes_apart(
     alloc: Global,
     spaces: &[Codespace],
@@ -128,7 +129,8 @@ pub(crate) fn boxes_apart(
     Ok(Some(apart))
 }
 
-/// The codes of a box that lie in none of these, as boxes; `None` where there are too many.
+/// The codes of a box that lie in none of the others, as boxes; `None` where the boxes are too
+/// many.
 fn outside_all(
     alloc: Global,
     whole: CodeBox,
@@ -147,7 +149,7 @@ fn outside_all(
     Ok(Some(pieces))
 }
 
-/// The codes of boxes that don't lie in another one.
+/// The codes of the pieces that lie outside the other box, as boxes.
 fn outside_one(
     alloc: Global,
     pieces: &[CodeBox],
@@ -160,7 +162,7 @@ fn outside_one(
     Ok(outside)
 }
 
-/// How many codes of a range lie in none of the boxes, which lie apart.
+/// The number of codes of a range that lie in none of the boxes. The boxes are disjoint.
 pub(crate) fn count_outside(boxes: &[CodeBox], range: Range) -> u64 {
     let mut inside: u64 = 0;
     for codes in boxes {
@@ -169,7 +171,7 @@ pub(crate) fn count_outside(boxes: &[CodeBox], range: Range) -> u64 {
     code_count(range).saturating_sub(inside)
 }
 
-/// The first code of a range that lies in none of the boxes, if one does.
+/// The first code of a range that lies in none of the boxes, if there is such a code.
 pub(crate) fn first_outside(boxes: &[CodeBox], range: Range) -> u32 {
     let Range { start, end } = range;
     let (mut low, mut high) = (start, end);

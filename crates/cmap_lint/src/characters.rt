@@ -13,10 +13,10 @@ use cmap_tokens::utf16::BfString;
 use std::alloc::{AllocError, Global};
 use std::str::Chars;
 
-/// Code points from a first to a last one.
+/// Code points from a first point to a last one.
 type Points = (u32, u32);
 
-/// The warnings about characters, each with the code points that it is about.
+/// The warnings about characters, each with its code points.
 pub(crate) const CHARACTER_WARNINGS: &[(Warning, &[Points])] = &[
     (Warning::PrivateUse, PRIVATE_USE),
     (Warning::Noncharacter, NONCHARACTERS),
@@ -57,7 +57,7 @@ const REPLACEMENT: &[Points] = &[(0xFFFD, 0xFFFD)];
 
 const NULL: &[Points] = &[(0, 0)];
 
-/// The codes of the top layer whose texts have one of the points that a warning is about.
+/// The codes of the top layer whose texts have one of the code points of a warning.
 pub(crate) fn characters<'m>(
     alloc: Global,
     subject: &Subject<'m>,
@@ -90,7 +90,8 @@ fn add_spans(finding: &mut OpenFinding<'_>, map: &Layers, spans: &[TextSpan], po
     }
 }
 
-/// Adds the codes of a span that have one of the points: all codes if a character before the last is one.
+/// Adds the codes of a span whose texts have one of the points. All codes have one if a character before
+/// the last is one of the points.
 fn add_string(
     finding: &mut OpenFinding<'_>,
     map: &Layers,

@@ -17,7 +17,7 @@ use cmap_values::code_length::CodeLength;
 use cmap_values::declarations::{BfRange, ByLength, CidRange, Codespace};
 use std::alloc::{AllocError, Global};
 
-/// The lengths of codes among which those without a text are looked for.
+/// The lengths of the codes that `no_mapping` looks at.
 const SHORT_LENGTHS: &[CodeLength] = &[CodeLength::One, CodeLength::Two];
 
 /// A warning if no layer has a codespace range.
@@ -39,7 +39,7 @@ pub(crate) fn has_codespace(map: &Layers) -> bool {
     false
 }
 
-/// Which lengths the codespace ranges of all layers have.
+/// The lengths for which some layer has a codespace range.
 pub(crate) fn codespace_lengths(map: &Layers) -> ByLength<bool> {
     ByLength {
         one: has_codespace_of(map, CodeLength::One),
@@ -60,7 +60,7 @@ fn has_space_of(spaces: &[Codespace], len: CodeLength) -> bool {
     spaces.iter().any(|space| space.len == len)
 }
 
-/// The codes that the top layer gives a CID or a notdef, and that lie in no codespace range.
+/// The codes to which the top layer gives a CID or a notdef, and which lie in no codespace range.
 pub(crate) fn outside_codespace<'m>(
     alloc: Global,
     subject: &Subject<'m>,
@@ -73,7 +73,7 @@ pub(crate) fn outside_codespace<'m>(
     finding.finish(alloc)
 }
 
-/// Adds those that have a length.
+/// Adds the codes of one length.
 fn add_outside(
     alloc: Global,
     finding: &mut OpenFinding<'_>,
@@ -118,7 +118,7 @@ fn add_shown_outside(concerned: &mut Concerned<'_>, boxes: &[CodeBox], range: Ra
     }
 }
 
-/// The first place of a finding, once there are codes of a range in none of the boxes.
+/// The first place of a finding that gets codes of a range outside the boxes.
 fn place_outside<'m>(
     finding: &Finding<'m>,
     boxes: &[CodeBox],
@@ -134,7 +134,7 @@ fn place_outside<'m>(
     }
 }
 
-/// The codes of a length that lie in a codespace range of some layer.
+/// The codes of a length that lie in a codespace range of some layer, as disjoint boxes.
 fn boxes_of(
     alloc: Global,
     map: &Layers,
@@ -143,7 +143,7 @@ fn boxes_of(
     boxes_apart(alloc, &spaces_of(alloc, map, len)?)
 }
 
-/// The codespace ranges of a length, those of all layers.
+/// The codespace ranges of a length, of all layers.
 fn spaces_of(alloc: Global, map: &Layers, len: CodeLength) -> Result<Vec<Codespace>, AllocError> {
     let mut spaces = Vec::new(alloc);
     for layer in map.as_slice() {
@@ -165,7 +165,7 @@ fn add_spaces(
     Ok(())
 }
 
-/// The codes of a length that a layer gives a CID or a notdef.
+/// The codes of a length to which a layer gives a CID or a notdef.
 fn declared_codes(alloc: Global, layer: &Layer, len: CodeLength) -> Result<Vec<Range>, AllocError> {
     let mut ranges = Vec::new(alloc);
     for list in CID_LISTS {

@@ -1,4 +1,4 @@
-//! A finding: a warning, how much it concerns, and where first.
+//! A finding: a warning, the number of its instances, and the first place.
 
 use crate::ranges::code_count;
 use crate::shown::Concerned;
@@ -6,22 +6,23 @@ use crate::warning::Warning;
 use cmap_runs::runs::Range;
 use std::alloc::{AllocError, Global};
 
-/// A warning, with what it concerns.
+/// A warning, with the count and the first place of what it concerns.
 #[derive(Clone, Copy)]
 pub struct Finding<'m> {
     /// The warning.
     pub warning: Warning,
-    /// How many codes, declarations, sections or strings it concerns; 1 where it concerns the file.
+    /// The number of codes, declarations, sections or strings that the warning concerns; 1 where the warning
+    /// concerns the file.
     pub count: u64,
-    /// The first of these.
+    /// The place of the first of them.
     pub first: Place<'m>,
-    /// How many of the shown codes it concerns; 0 where it is about no codes.
+    /// The number of shown codes that the warning concerns; 0 where the warning isn't about codes.
     pub shown: usize,
-    /// The lowest of these.
+    /// The lowest shown code that the warning concerns.
     pub first_shown: Option<u32>,
 }
 
-/// Where something is found.
+/// The place of a finding.
 #[derive(Clone, Copy)]
 pub enum Place<'m> {
     /// In the file as a whole.
@@ -37,7 +38,7 @@ pub enum Place<'m> {
 }
 
 impl<'m> Finding<'m> {
-    /// A warning that concerns nothing yet.
+    /// A finding whose warning concerns nothing yet.
     pub(crate) fn new(warning: Warning) -> Finding<'m> {
         Finding {
             warning,
@@ -48,8 +49,8 @@ impl<'m> Finding<'m> {
         }
     }
 
-    /// Adds so much that the warning concerns, the first of it at this place. A sum that doesn't fit stays at the
-    /// largest number.
+    /// Adds `count` to the number that the warning concerns. The first of them is at this place. A sum that
+    /// overflows stays at the largest number.
     pub(crate) fn add(&mut self, count: u64, place: Place<'m>) {
         if count == 0 {
             return;
@@ -61,17 +62,17 @@ impl<'m> Finding<'m> {
     }
 }
 
-/// A finding about codes, to which more is added.
+/// A finding about codes, to which codes are added.
 #[derive(Drop)]
 pub(crate) struct OpenFinding<'m> {
     /// The finding without its shown codes.
     pub(crate) found: Finding<'m>,
-    /// The shown codes that it concerns.
+    /// The shown codes that the finding concerns.
     pub(crate) concerned: Concerned<'m>,
 }
 
 impl<'m> OpenFinding<'m> {
-    /// A warning that concerns nothing yet. These codes are shown, in ascending order.
+    /// A finding whose warning concerns nothing yet. `shown` has the shown codes, in ascending order.
     pub(crate) fn new(alloc: Global, warning: Warning, shown: &'m [u32]) -> OpenFinding<'m> {
         OpenFinding {
             found: Finding::new(warning),
@@ -79,7 +80,7 @@ impl<'m> OpenFinding<'m> {
         }
     }
 
-    /// Adds codes of `byte_len` bytes in a row.
+    /// Adds consecutive codes of `byte_len` bytes.
     pub(crate) fn add_codes(&mut self, byte_len: u8, codes: Range) {
         let code = codes.start;
         self.found
@@ -87,7 +88,7 @@ impl<'m> OpenFinding<'m> {
         self.concerned.add(codes);
     }
 
-    /// The finding. It fails only if memory runs out, or ran out for a shown code.
+    /// The finding. An error means that memory ran out, now or earlier for a shown code.
     pub(crate) fn finish(self, alloc: Global) -> Result<Finding<'m>, AllocError> {
         let OpenFinding { found, concerned } = self;
         let (shown, first_shown) = concerned.finish(alloc)?;

@@ -5,10 +5,10 @@ use crate::warning::Warning;
 use cmap_layers::layers::Layers;
 use cmap_values::writing_mode::WritingMode;
 
-/// What the names of files for vertical writing end in.
+/// The suffix of the names of files for vertical writing.
 const VERTICAL_SUFFIX: &[u8] = b"-V";
 
-/// The name that the file states, if the file has another one on the disk.
+/// The name that the file states, if the name of the file on the disk is different.
 pub(crate) fn name_differs<'m>(map: &'m Layers, file_name: Option<&[u8]>) -> Finding<'m> {
     let mut finding = Finding::new(Warning::NameDiffers);
     let name = map.metadata().name.as_deref();
@@ -20,7 +20,7 @@ pub(crate) fn name_differs<'m>(map: &'m Layers, file_name: Option<&[u8]>) -> Fin
     finding
 }
 
-/// The name that the file states, if it is one for vertical writing and the map isn't.
+/// The name that the file states, if the name is for vertical writing and the map isn't.
 pub(crate) fn mode_differs<'m>(map: &'m Layers) -> Finding<'m> {
     let mut finding = Finding::new(Warning::ModeDiffers);
     if let Some(name) = map.metadata().name.as_deref() {

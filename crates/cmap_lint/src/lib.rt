@@ -1,5 +1,5 @@
-//! What looks wrong in a CMap file that is accepted: warnings, each with a count and the first place. And what a part at
-//! fault is read as.
+//! The warnings about an accepted CMap file, each with a count and the first place; and how a reader that goes past
+//! faults reads a part at fault.
 #![tactic(auto)]
 
 mod boxes;

@@ -15,16 +15,16 @@ use cmap_layers::layer::Layer;
 use cmap_layers::layers::Layers;
 use std::alloc::{AllocError, Global};
 
-/// A file that is accepted.
+/// An accepted file.
 #[derive(Clone, Copy)]
 pub struct Subject<'m> {
-    /// The layers of its map.
+    /// The layers of the map of the file.
     pub map: &'m Layers,
     /// The bytes of the file, if it is a text.
     pub text: Option<&'m [u8]>,
-    /// The last part of its path, if it has one.
+    /// The last part of the path of the file, if the file has a path.
     pub file_name: Option<&'m [u8]>,
-    /// Whether it is meant as a map to Unicode.
+    /// Whether the file is meant as a map to Unicode.
     pub to_unicode: bool,
     /// The codes that are shown, in ascending order, each once.
     pub shown: &'m [u32],
@@ -73,7 +73,7 @@ fn has_codes_of_any_length(map: &Layers) -> bool {
     false
 }
 
-/// The warnings found so far. If memory runs out for one, `finish` fails.
+/// The warnings found so far. If memory ran out for a warning, `finish` fails.
 #[derive(Drop)]
 struct Findings<'m> {
     found: Vec<Finding<'m>>,
@@ -88,14 +88,14 @@ impl<'m> Findings<'m> {
         }
     }
 
-    /// Adds a warning that concerns something.
+    /// Adds a warning, unless it concerns nothing.
     fn add(&mut self, finding: Finding<'m>) {
         if finding.count > 0 && self.found.push(finding).is_err() {
             self.is_whole = false;
         }
     }
 
-    /// Adds a warning, for which memory may have run out.
+    /// Adds a warning, or records that memory ran out for it.
     fn add_found(&mut self, finding: Result<Finding<'m>, AllocError>) {
         match finding {
             Ok(finding) => self.add(finding),
@@ -103,7 +103,7 @@ impl<'m> Findings<'m> {
         }
     }
 
-    /// Adds what looks wrong in the declarations of the top layer.
+    /// Adds the warnings about the declarations of the top layer.
     fn add_of_layer(&mut self, alloc: Global, subject: &Subject<'m>, layer: &Layer) {
         if has_codespace(subject.map) {
             self.add_found(outside_codespace(alloc, subject, layer));
@@ -120,7 +120,7 @@ impl<'m> Findings<'m> {
         self.add_found(no_text(alloc, subject, layer));
     }
 
-    /// Adds what looks wrong in a map to Unicode.
+    /// Adds the warnings about a map to Unicode.
     fn add_to_unicode(&mut self, alloc: Global, subject: &Subject<'m>, layer: &Layer) {
         for (warning, points) in CHARACTER_WARNINGS {
             self.add_found(characters(alloc, subject, layer, *warning, points));
@@ -128,7 +128,7 @@ impl<'m> Findings<'m> {
         self.add_found(no_mapping(alloc, subject));
     }
 
-    /// Adds what looks wrong in how a text is written.
+    /// Adds the warnings about the form of a text.
     fn add_of_text(&mut self, alloc: Global, subject: &Subject<'m>, text: &[u8]) {
         match Sections::of(alloc, subject, text) {
             Ok(sections) => self.add_of_sections(alloc, subject.map, sections),
@@ -136,7 +136,7 @@ impl<'m> Findings<'m> {
         }
     }
 
-    /// Adds what looks wrong in sections.
+    /// Adds the warnings about sections.
     fn add_of_sections(&mut self, alloc: Global, map: &Layers, sections: Sections<'m>) {
         let Sections {
             count_differs,

@@ -13,15 +13,15 @@ use cmap_values::code_length::CodeLength;
 use cmap_values::declarations::{BfRange, CidRange};
 use std::alloc::{AllocError, Global};
 
-/// A declaration by what it gives: two of one group agree on each code that both have.
+/// A declaration with its group: two declarations of one group agree on each code that both have.
 #[derive(Clone, Copy)]
 struct Grouped {
     group: i64,
     range: Range,
 }
 
-/// A declaration of texts by what two that agree have in common: all units but the last, and what the
-/// last one would be at code 0.
+/// A declaration of texts with the facts that agreeing declarations have in common: all units but the last, and
+/// the value that the last unit would have at code 0.
 #[derive(Clone, Copy)]
 struct TextKey<'d> {
     front: &'d [u16],
@@ -57,7 +57,7 @@ fn add_texts(
     Ok(())
 }
 
-/// Adds the codes of a list.
+/// Adds the codes of a list that have declarations that disagree.
 fn add_list(
     alloc: Global,
     finding: &mut OpenFinding<'_>,
@@ -70,7 +70,7 @@ fn add_list(
     Ok(())
 }
 
-/// Adds the codes of a list that have a length.
+/// Adds the codes of one length of a list.
 fn add_of_length(
     alloc: Global,
     finding: &mut OpenFinding<'_>,
@@ -85,8 +85,8 @@ fn add_of_length(
     Ok(())
 }
 
-/// The declarations of a list that have a code. Those of CIDs agree where they give the same CID to
-/// the same code, and those of notdefs where they have the same one.
+/// The declarations of a list that have a code, by groups. CID declarations agree where they give the same CID
+/// to the same code, and notdef declarations agree where they have the same CID.
 fn grouped_cids(
     alloc: Global,
     list: CidList,
@@ -106,7 +106,7 @@ fn grouped_cids(
     Ok(grouped)
 }
 
-/// Adds a declaration, but for one without a code.
+/// Adds a declaration, unless it has no code.
 fn push_grouped(grouped: &mut Vec<Grouped>, declared: Grouped) -> Result<(), AllocError> {
     if declared.range.start <= declared.range.end {
         grouped.push(declared)?;
@@ -122,7 +122,8 @@ fn grouped_texts(alloc: Global, table: &Table<BfRange>) -> Result<Vec<Grouped>, 
     Ok(grouped)
 }
 
-/// Adds the declarations of texts, which are sorted by groups. The number of a group is the index of its first.
+/// Adds the declarations of texts, which are sorted by groups. The number of a group is the index of its first
+/// declaration.
 fn push_groups(grouped: &mut Vec<Grouped>, keys: &[TextKey<'_>]) -> Result<(), AllocError> {
     let mut group: i64 = 0;
     let mut before: Option<TextKey<'_>> = None;
@@ -145,7 +146,7 @@ fn is_of_group(before: Option<TextKey<'_>>, key: &TextKey<'_>) -> bool {
     }
 }
 
-/// The declarations of texts, those that agree one after another.
+/// The declarations of texts, sorted so that agreeing declarations are adjacent.
 fn text_keys(alloc: Global, table: &Table<BfRange>) -> Result<Vec<TextKey<'_>>, AllocError> {
     let mut keys = Vec::with_capacity(alloc, table.decl_count())?;
     let mut looks = Looks::new();
@@ -168,7 +169,7 @@ fn text_key(declared: &BfRange) -> Option<TextKey<'_>> {
     })
 }
 
-/// The codes that lie in ranges of two groups, as ranges that lie apart, in order.
+/// The codes that lie in ranges of two groups, as disjoint ranges, in order.
 fn disputed(alloc: Global, grouped: Vec<Grouped>) -> Result<Vec<Range>, AllocError> {
     let ranges = ranges_of_groups(alloc, grouped)?;
     let mut disputed = Vec::new(alloc);
@@ -176,7 +177,7 @@ fn disputed(alloc: Global, grouped: Vec<Grouped>) -> Result<Vec<Range>, AllocErr
     ranges_apart(alloc, disputed)
 }
 
-/// Adds the codes that lie in two of these ranges, which are in the order of their first codes.
+/// Adds the codes that lie in two of these ranges. The ranges are in the order of their first codes.
 fn push_disputed(disputed: &mut Vec<Range>, ranges: &[Range]) -> Result<(), AllocError> {
     let mut covered: Option<u32> = None;
     for range in ranges {
@@ -190,8 +191,8 @@ fn push_disputed(disputed: &mut Vec<Range>, ranges: &[Range]) -> Result<(), Allo
     Ok(())
 }
 
-/// The codes of each group as ranges of which no two of one group have a code in common. They are in
-/// the order of their first codes.
+/// The codes of each group as ranges, in the order of their first codes. Two ranges of one group have no code
+/// in common.
 fn ranges_of_groups(alloc: Global, mut grouped: Vec<Grouped>) -> Result<Vec<Range>, AllocError> {
     grouped.sort_by_key(|declared| (declared.group, declared.range.start))?;
     let mut ranges = Vec::new(alloc);
@@ -200,7 +201,7 @@ fn ranges_of_groups(alloc: Global, mut grouped: Vec<Grouped>) -> Result<Vec<Rang
     Ok(ranges)
 }
 
-/// Adds the ranges of groups, each of which is in a row.
+/// Adds the ranges of groups. The declarations of a group are adjacent.
 fn push_ranges(ranges: &mut Vec<Range>, grouped: &[Grouped]) -> Result<(), AllocError> {
     let mut before: Option<i64> = None;
     for declared in grouped {

@@ -3,7 +3,7 @@
 use cmap_runs::runs::Range;
 use std::alloc::{AllocError, Global};
 
-/// How many codes a range has.
+/// The number of codes of a range.
 pub(crate) fn code_count(range: Range) -> u64 {
     match range.end.checked_sub(range.start) {
         Some(further) => u64::from(further) + 1,
@@ -19,7 +19,7 @@ pub(crate) fn common(one: Range, other: Range) -> Range {
     }
 }
 
-/// Adds a range, but for one without a code.
+/// Adds a range, unless it has no code.
 pub(crate) fn push_range(ranges: &mut Vec<Range>, range: Range) -> Result<(), AllocError> {
     if range.start <= range.end {
         ranges.push(range)?;
@@ -27,7 +27,7 @@ pub(crate) fn push_range(ranges: &mut Vec<Range>, range: Range) -> Result<(), Al
     Ok(())
 }
 
-/// The codes of ranges, none of which is empty, as ranges that lie apart, in order.
+/// The codes of ranges as disjoint ranges, in order. None of the given ranges is empty.
 pub(crate) fn ranges_apart(
     alloc: Global,
     mut ranges: Vec<Range>,
@@ -40,12 +40,12 @@ pub(crate) fn ranges_apart(
     Ok(apart)
 }
 
-/// Puts ranges in the order of their first codes.
+/// Sorts ranges by their first codes.
 pub(crate) fn sort(ranges: &mut Vec<Range>) -> Result<(), AllocError> {
     ranges.sort_by_key(|range| range.start)
 }
 
-/// Adds a range to those that lie apart and don't start after it.
+/// Adds a range to disjoint ranges, none of which starts after it.
 pub(crate) fn join(apart: &mut Vec<Range>, range: Range) -> Result<(), AllocError> {
     if let Some(last) = apart.last_mut() {
         if range.start <= last.end.saturating_add(1) {

@@ -1,4 +1,4 @@
-//! What a part at fault is read as.
+//! The reading of a part at fault.
 
 ghost use Rattle.std.specs.Prelude.{◌≡◌, ◌<◌, ◌↔◌, false, ◌∷◌, [], ◌++◌, ℕ, List, IsTrue, MatchOption};
 ghost use Rattle.cmap_tokens.specs.Ascii.{byte};
@@ -12,7 +12,7 @@ use std::fmt::{self, Display, Formatter, Write};
 /// The byte FF, which ends comments.
 const FORM_FEED: u8 = 12;
 
-/// What a part at fault is read as, if it shows what was meant.
+/// The reading of a part at fault, if the part shows what was meant.
 #[derive(Clone, Copy, Debug, PartialEq, Eq)]
 pub enum ReadAs {
     /// An empty string in place of a text, as the text without units.
@@ -22,11 +22,11 @@ pub enum ReadAs {
 }
 
 impl ReadAs {
-    /// What the part at a fault of a text was read as, if the bytes before the fault show it. The text is read past
-    /// its faults.
+    /// The reading of the part at a fault of a text, if the bytes before the fault show it. The text is read past its
+    /// faults.
     ///
-    /// A string at a line's beginning may be a code, and the fault that the entry before it lacks a text. So there is
-    /// no answer for it.
+    /// A string at the beginning of a line may be a code, and the entry before it may lack a text. So the function
+    /// gives no answer for such a string.
     pub fn of(text: &[u8], fault: Stop) -> Option<ReadAs>
         ensures { Finds (IsReadAs text.now fault) (λ found. found) result }
     {
@@ -38,7 +38,7 @@ impl ReadAs {
         }
     }
 
-    /// The number by which C knows it.
+    /// The number of the reading in the C interface.
     pub fn number(self) -> u32
         ensures { result ≡ parts_read.number self }
     {
@@ -58,7 +58,7 @@ impl Display for ReadAs {
     }
 }
 
-/// Whether bytes end in an empty string, with another part before it on its line.
+/// Whether bytes end in an empty string that follows another part on its line.
 fn ends_in_empty_string(bytes: &[u8]) -> bool
     ensures { IsTrue result ↔ EndInEmptyString bytes.now }
 {
@@ -68,7 +68,7 @@ fn ends_in_empty_string(bytes: &[u8]) -> bool
     }
 }
 
-/// What stands before an empty string at the end of bytes.
+/// The bytes before an empty string at the end of bytes.
 fn before_empty_string(bytes: &[u8]) -> Option<&[u8]>
     ensures { MatchOption result ((before : List ℕ) → AreBeforeEmpty bytes.now before → ⊥)
         (λ before. AreBeforeEmpty bytes.now before.now) }
@@ -79,7 +79,7 @@ fn before_empty_string(bytes: &[u8]) -> Option<&[u8]>
     }
 }
 
-/// Bytes without the last one, if it is this byte.
+/// Bytes without the last one, if the last one is `wanted`.
 fn without_last(bytes: &[u8], wanted: u8) -> Option<&[u8]>
     ensures { MatchOption result (EndWith bytes.now wanted → ⊥)
         (λ before. bytes.now ≡ before.now ++ wanted ∷ []) }
@@ -90,7 +90,7 @@ fn without_last(bytes: &[u8], wanted: u8) -> Option<&[u8]>
     }
 }
 
-/// Whether there is a last byte, which neither ends a line nor escapes the byte after it.
+/// Whether there is a last byte that neither ends a line nor escapes the next byte.
 fn ends_within_line(bytes: &[u8]) -> bool
     ensures { IsTrue result ↔ ((before : List ℕ) × (b : ℕ) × (bytes.now ≡ before ++ b ∷ [])
         × (ends_or_escapes b ≡ false)) }
@@ -101,7 +101,7 @@ fn ends_within_line(bytes: &[u8]) -> bool
     }
 }
 
-/// Whether bytes end in two hexadecimal strings on one line, of which the second has more bytes.
+/// Whether bytes end in two hexadecimal strings on one line, the second of which has more bytes.
 fn ends_in_longer_code(bytes: &[u8]) -> bool
     ensures { IsTrue result ↔ EndInLongerCode bytes.now }
 {
@@ -117,13 +117,13 @@ fn ends_in_longer_code(bytes: &[u8]) -> bool
 /// A hexadecimal string on one line.
 #[derive(Clone, Copy)]
 struct HexString<'t> {
-    /// What stands before it.
+    /// The bytes before the string.
     before: &'t [u8],
     digits: usize,
 }
 
 impl<'t> HexString<'t> {
-    /// The one at the end of bytes.
+    /// The hexadecimal string at the end of bytes.
     fn last_of(bytes: &'t [u8]) -> Option<HexString<'t>>
         ensures { MatchOption result ((before : List ℕ) (digits : ℕ) → AreBeforeDigits bytes.now before digits → ⊥)
             (λ found. AreBeforeDigits bytes.now found.before.now found.digits) }
@@ -144,7 +144,8 @@ impl<'t> HexString<'t> {
         None
     }
 
-    /// Whether it is a code that has fewer bytes than another one. After a `<` it may be no string.
+    /// Whether the string is a code with fewer bytes than another string. A string after a `<` doesn't count as a
+    /// code.
     fn is_shorter_code(&self, other: &HexString<'_>) -> bool
         ensures { IsTrue result ↔ ((0 < bytes_of self.now.digits) × (bytes_of self.now.digits < bytes_of other.now.digits)
             × (EndWith self.now.before.now (byte "<") → ⊥)) }
@@ -152,7 +153,7 @@ impl<'t> HexString<'t> {
         0 < self.len() && self.len() < other.len() && without_last(self.before, b'<').is_none()
     }
 
-    /// How many bytes it stands for.
+    /// The number of bytes that the string stands for.
     fn len(&self) -> usize
         ensures { result ≡ bytes_of self.now.digits }
     {
@@ -174,7 +175,7 @@ fn without_blanks(bytes: &[u8]) -> &[u8]
     rest
 }
 
-/// Whether it is a white byte that ends neither a line nor a comment.
+/// Whether the byte is white space that ends neither a line nor a comment.
 fn is_blank(byte: u8) -> bool
     ensures { result ≡ is_blank byte }
 {

@@ -1,5 +1,5 @@
-//! How the sections of a text are written: the numbers before them, how long they are, and what stands around them.
-//! Adobe Technical Note 5014.
+//! The form of the sections of a text: the numbers before them, their lengths, and the names around them. Adobe
+//! Technical Note 5014.
 
 ghost use Rattle.std.specs.Prelude.{◌<◌};
 
@@ -14,20 +14,20 @@ use std::alloc::{AllocError, Global};
 /// The most entries that a section may have.
 const MOST_ENTRIES: usize = 100;
 
-/// The names around all sections.
+/// The names that enclose all sections.
 const CMAP_START: &[u8] = b"begincmap";
 
 const CMAP_END: &[u8] = b"endcmap";
 
-/// The names around the texts of a list.
+/// The names that enclose the texts of a list.
 const LIST_START: &[u8] = b"[";
 
 const LIST_END: &[u8] = b"]";
 
-/// What looks wrong in the sections of a text.
+/// The warnings about the sections of a text.
 #[derive(Drop)]
 pub(crate) struct Sections<'m> {
-    /// A section without a number before it counts too.
+    /// The count includes a section without a number before it.
     pub(crate) count_differs: Finding<'m>,
     pub(crate) long: Finding<'m>,
     pub(crate) no_endcmap: Finding<'m>,
@@ -35,7 +35,7 @@ pub(crate) struct Sections<'m> {
 }
 
 impl<'m> Sections<'m> {
-    /// Those of a text that is accepted, and whose map this is.
+    /// The warnings of an accepted text. `subject` has the map of the text.
     pub(crate) fn of(
         alloc: Global,
         subject: &Subject<'m>,
@@ -76,7 +76,7 @@ impl<'m> Sections<'m> {
         Ok(())
     }
 
-    /// Looks at the number before a section, and at how many entries it has.
+    /// Checks the number before a section and the number of its entries.
     fn add_section(&mut self, before: Option<usize>, entries: usize, offset: usize) {
         let place = Place::Offset(offset);
         if before != Some(entries) {
@@ -87,8 +87,8 @@ impl<'m> Sections<'m> {
         }
     }
 
-    /// Reads a section up to its end, looks at the strings of its entries, and counts these. A list of texts is one
-    /// part of an entry.
+    /// Reads a section up to its end, checks the strings of its entries, and counts the entries. A list of texts is
+    /// one part of an entry.
     fn add_entries(
         &mut self,
         scanner: &mut Scanner<'_>,
@@ -118,7 +118,7 @@ impl<'m> Sections<'m> {
         Ok(parts / parts_of(section))
     }
 
-    /// Looks at the part of an entry that was read last, if it is a string.
+    /// Checks the part of an entry that was read last, if it is a string.
     fn add_part(
         &mut self,
         token: &Token<'_>,
@@ -144,13 +144,13 @@ fn is_open_after(is_open: bool, token: &Token<'_>) -> bool {
     }
 }
 
-/// The offset of the token that was read last, of which these are the bytes.
+/// The offset of the token that was read last, which has these bytes.
 fn offset_of(bytes: Option<&[u8]>, scanner: &Scanner<'_>) -> usize {
     let len = bytes.map_or(0, |bytes| bytes.len());
     scanner.offset().saturating_sub(len)
 }
 
-/// The number of a token, if it may be a number of entries.
+/// The number of a token, if the number may be a number of entries.
 fn number_of(token: &Token<'_>) -> Option<usize> {
     match token {
         Token::Number(Number::Integer(number)) => usize::try_from(*number).ok(),
@@ -166,7 +166,7 @@ fn executable<'t>(token: &Token<'t>) -> Option<&'t [u8]> {
     }
 }
 
-/// How many parts an entry of a section has: codes, and a CID or texts.
+/// The number of parts of an entry of a section: codes, and a CID or texts.
 fn parts_of(section: Section) -> usize
     ensures some { 0 < result }
 {
@@ -176,7 +176,7 @@ fn parts_of(section: Section) -> usize
     }
 }
 
-/// What a string is that comes after `parts` parts of a section.
+/// The role of a string that comes after `parts` parts of a section.
 fn part_of(section: Section, parts: usize) -> Part {
     let further = parts % parts_of(section);
     match section {

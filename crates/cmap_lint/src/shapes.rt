@@ -1,4 +1,4 @@
-//! Ranges whose ends look wrong, or whose texts count on too far.
+//! Ranges with suspect ends, or with texts that count on too far.
 
 use crate::declared::{CID_LISTS, CidList};
 use crate::finding::{OpenFinding, Place};
@@ -12,7 +12,7 @@ use cmap_values::code_length::CodeLength;
 use cmap_values::declarations::BfRange;
 use std::alloc::Global;
 
-/// The declarations of a layer that look wrong, by what is wrong with them.
+/// The suspect declarations of a layer, by the kind of their flaw.
 #[derive(Drop)]
 pub(crate) struct Shapes<'m> {
     pub(crate) inverted: OpenFinding<'m>,
@@ -21,7 +21,7 @@ pub(crate) struct Shapes<'m> {
 }
 
 impl<'m> Shapes<'m> {
-    /// Those of the top layer.
+    /// The suspect declarations of the top layer.
     pub(crate) fn of(alloc: Global, subject: &Subject<'m>, layer: &Layer) -> Shapes<'m> {
         let mut shapes = Shapes {
             inverted: OpenFinding::new(alloc, Warning::InvertedRange, subject.shown),
@@ -35,14 +35,14 @@ impl<'m> Shapes<'m> {
         shapes
     }
 
-    /// Looks at a list, the declarations for codes of one byte first.
+    /// Checks the declarations of a list, in ascending order of the length of their codes.
     fn add_list(&mut self, layer: &Layer, list: CidList) {
         for len in LENGTHS {
             self.add_cids(layer, list, *len);
         }
     }
 
-    /// Looks at the declarations of a list for codes of a length.
+    /// Checks the declarations of a list for codes of a length.
     fn add_cids(&mut self, layer: &Layer, list: CidList, len: CodeLength) {
         let table = list.table(layer, len);
         let mut looks = Looks::new();
@@ -51,7 +51,7 @@ impl<'m> Shapes<'m> {
         }
     }
 
-    /// Looks at the declarations of texts.
+    /// Checks the declarations of texts.
     fn add_texts(&mut self, map: &Layers, layer: &Layer) {
         let table = layer.texts();
         let mut looks = Looks::new();
@@ -66,7 +66,7 @@ impl<'m> Shapes<'m> {
         }
     }
 
-    /// Looks at a declaration.
+    /// Checks the range of a declaration.
     fn add(&mut self, byte_len: u8, range: Range) {
         if range.start > range.end {
             add_declaration(&mut self.inverted, byte_len, range);
@@ -76,7 +76,7 @@ impl<'m> Shapes<'m> {
     }
 }
 
-/// Adds a declaration. Of the shown codes it concerns those between its ends.
+/// Adds a declaration. The warning concerns the shown codes between the ends of the declaration.
 fn add_declaration(finding: &mut OpenFinding<'_>, byte_len: u8, range: Range) {
     finding.found.add(1, Place::Range { byte_len, range });
     finding.concerned.add(Range {

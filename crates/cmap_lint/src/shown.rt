@@ -1,4 +1,4 @@
-//! The codes that a font shows, and which of them a warning concerns.
+//! The codes that a font shows, and the shown codes that a warning concerns.
 
 use crate::ranges::ranges_apart;
 use cmap_runs::runs::Range;
@@ -7,16 +7,16 @@ use std::alloc::{AllocError, Global};
 /// The shown codes that a warning concerns.
 #[derive(Drop)]
 pub(crate) struct Concerned<'m> {
-    /// All codes that are shown, in ascending order.
+    /// All shown codes, in ascending order.
     shown: &'m [u32],
-    /// The ranges of codes that the warning concerns, as far as one of their codes is shown.
+    /// The ranges of codes that the warning concerns, each with at least one shown code.
     ranges: Vec<Range>,
     /// Whether memory sufficed for all ranges.
     is_whole: bool,
 }
 
 impl<'m> Concerned<'m> {
-    /// None yet.
+    /// No ranges yet.
     pub(crate) fn new(alloc: Global, shown: &'m [u32]) -> Concerned<'m> {
         Concerned {
             shown,
@@ -44,7 +44,7 @@ impl<'m> Concerned<'m> {
         shown_in(self.shown, codes)
     }
 
-    /// How many shown codes there are, and the lowest of them.
+    /// The number of shown codes in the added ranges, and the lowest of them.
     pub(crate) fn finish(self, alloc: Global) -> Result<(usize, Option<u32>), AllocError> {
         if self.is_whole {
             Ok(counted(self.shown, &ranges_apart(alloc, self.ranges)?))
@@ -61,7 +61,8 @@ fn shown_in(shown: &[u32], codes: Range) -> &[u32] {
     shown.get(before..until).unwrap_or(&[])
 }
 
-/// How many shown codes lie in ranges that lie apart, in order, and the lowest of them.
+/// The number of shown codes in ranges, and the lowest of them. The ranges are disjoint and in
+/// order.
 fn counted(shown: &[u32], ranges: &[Range]) -> (usize, Option<u32>) {
     let mut count: usize = 0;
     let mut first = None;

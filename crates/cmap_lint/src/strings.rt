@@ -1,4 +1,4 @@
-//! How the strings of entries are written.
+//! The form of the strings of entries.
 
 use crate::codespaces::codespace_lengths;
 use crate::finding::{OpenFinding, Place};
@@ -11,7 +11,7 @@ use cmap_values::code_length::read_code;
 use cmap_values::declarations::ByLength;
 use std::alloc::{AllocError, Global};
 
-/// What a string is in an entry.
+/// The role of a string in an entry.
 #[derive(Clone, Copy)]
 pub(crate) enum Part {
     /// The only code.
@@ -22,11 +22,11 @@ pub(crate) enum Part {
     Last,
     /// The destination of all codes.
     Text,
-    /// A destination in a list: that of the first code for which none came yet.
+    /// A destination in a list, for the first code that has no destination yet.
     Listed,
 }
 
-/// What looks wrong in a string.
+/// The flaws of a string.
 #[derive(Clone, Copy)]
 struct Flaws {
     code_length: bool,
@@ -37,24 +37,24 @@ struct Flaws {
 /// No codes.
 const NO_CODES: Range = Range { start: 1, end: 0 };
 
-/// What looks wrong in the strings of a text.
+/// The warnings about the strings of a text.
 #[derive(Drop)]
 pub(crate) struct Strings<'m> {
     pub(crate) code_length: OpenFinding<'m>,
     pub(crate) odd_digits: OpenFinding<'m>,
     pub(crate) odd_text: OpenFinding<'m>,
-    /// Which lengths the codespace ranges of the map have.
+    /// The lengths for which the map has a codespace range.
     lengths: ByLength<bool>,
-    /// The bytes of the string that is looked at.
+    /// The bytes of the current string.
     bytes: Vec<u8>,
-    /// The codes of the entry that is looked at; in a list those for which no text came yet.
+    /// The codes of the current entry; in a list, the codes that have no text yet.
     codes: Range,
-    /// What looks wrong in the string of the first of these.
+    /// The flaws of the string of the first code.
     first: Flaws,
 }
 
 impl<'m> Strings<'m> {
-    /// Nothing yet.
+    /// No warnings yet.
     pub(crate) fn new(alloc: Global, subject: &Subject<'m>) -> Strings<'m> {
         Strings {
             code_length: OpenFinding::new(alloc, Warning::CodeLength, subject.shown),
@@ -67,7 +67,7 @@ impl<'m> Strings<'m> {
         }
     }
 
-    /// Looks at the string at this offset.
+    /// Checks the string at this offset.
     pub(crate) fn add(
         &mut self,
         string: &StringToken<'_>,
@@ -81,7 +81,7 @@ impl<'m> Strings<'m> {
         Ok(())
     }
 
-    /// What looks wrong in the string that is looked at.
+    /// The flaws of the current string.
     fn flaws_of(&self, raw: &[u8], part: Part) -> Flaws {
         let is_text = matches!(part, Part::Text | Part::Listed);
         Flaws {
@@ -91,7 +91,7 @@ impl<'m> Strings<'m> {
         }
     }
 
-    /// Counts what looks wrong in a string.
+    /// Counts the flaws of a string.
     fn count(&mut self, flaws: Flaws, place: Place<'m>) {
         self.code_length
             .found
@@ -102,8 +102,8 @@ impl<'m> Strings<'m> {
         self.odd_text.found.add(u64::from(flaws.odd_text), place);
     }
 
-    /// Adds the codes of a string: of a code those of its entry, once their last is known, and of a text those that
-    /// have it.
+    /// Adds the codes that the flaws of a string concern: for a code the codes of its entry, once the last code is
+    /// known, and for a text the codes that have the text.
     fn add_shown(&mut self, flaws: Flaws, part: Part) {
         match part {
             Part::Code => {
@@ -123,7 +123,7 @@ impl<'m> Strings<'m> {
         }
     }
 
-    /// Adds the code of a text in a list, and goes on to the next one.
+    /// Adds the code of a text in a list, and continues with the next code.
     fn add_listed(&mut self, flaws: Flaws) {
         let Range { start, end } = self.codes;
         let end = start.min(end);
@@ -131,7 +131,7 @@ impl<'m> Strings<'m> {
         self.codes.start = start.saturating_add(1);
     }
 
-    /// Adds the codes of a string in which this looks wrong.
+    /// Adds the codes of a string with these flaws.
     fn add_codes(&mut self, flaws: Flaws, codes: Range) {
         if flaws.code_length {
             self.code_length.concerned.add(codes);
@@ -144,7 +144,7 @@ impl<'m> Strings<'m> {
         }
     }
 
-    /// The code that the string is.
+    /// The code that the current string is, as a range; no codes if the string isn't a code.
     fn code(&self) -> Range {
         match read_code(&self.bytes) {
             Some((_, code)) => Range {
@@ -155,7 +155,7 @@ impl<'m> Strings<'m> {
         }
     }
 
-    /// Whether a codespace range has codes of `byte_len` bytes.
+    /// Whether a codespace range of the map has codes of `byte_len` bytes.
     fn has_codespace(&self, byte_len: usize) -> bool {
         LENGTHS.iter().any(|len| usize::from(len.count()) == byte_len && *self.lengths.get(*len))
     }
@@ -170,7 +170,7 @@ impl Flaws {
         }
     }
 
-    /// What looks wrong in one of two strings.
+    /// The flaws that one of two strings has.
     fn or(self, other: Flaws) -> Flaws {
         Flaws {
             code_length: self.code_length || other.code_length,
@@ -180,12 +180,12 @@ impl Flaws {
     }
 }
 
-/// Whether a string is hexadecimal, and has an odd number of digits.
+/// Whether a string is hexadecimal with an odd number of digits.
 fn has_odd_digits(raw: &[u8]) -> bool {
     matches!(raw, [b'<', ..]) && digits_in(raw) % 2 == 1
 }
 
-/// How many hexadecimal digits there are.
+/// The number of hexadecimal digits.
 fn digits_in(raw: &[u8]) -> usize {
     raw.iter().filter(|byte| is_digit(**byte)).count()
 }

@@ -1,4 +1,4 @@
-//! The codes of a declaration that have a text, in spans of which the last character counts on.
+//! The codes of a declaration that have a text, in spans whose last character counts on.
 
 use crate::finding::{Finding, OpenFinding, Place};
 use crate::lint::Subject;
@@ -11,19 +11,19 @@ use cmap_tokens::utf16::{self, BfString};
 use cmap_values::declarations::BfRange;
 use std::alloc::{AllocError, Global};
 
-/// Codes in a row with texts that differ in their last character alone, which counts on.
+/// Consecutive codes with texts that differ in their last character alone, which counts on.
 #[derive(Drop)]
 pub(crate) struct TextSpan {
     pub(crate) codes: Range,
-    /// The text of the first code; `None` where it has more than 256 units.
+    /// The text of the first code; `None` where the text has more than 256 units.
     pub(crate) text: Option<BfString>,
 }
 
-/// The most units of a text that is looked at. A text is read once for each span, so the work is bounded.
+/// The most units of a text that is checked. A text is read once for each span, so the work is bounded.
 const MOST_UNITS: usize = 256;
 
-/// The units of characters that are one unit: those below the surrogates, and those above. The
-/// Unicode Standard, 3.9.
+/// The units that are a character on their own: the units below the surrogates, and the units above. The Unicode
+/// Standard, 3.9.
 const SINGLE_UNITS: &[Range] = &[
     Range {
         start: 0,
@@ -35,14 +35,14 @@ const SINGLE_UNITS: &[Range] = &[
     },
 ];
 
-/// The units that end a character of two.
+/// The second units of characters of two units.
 const LOW_SURROGATES: &[Range] = &[Range {
     start: 0xDC00,
     end: 0xDFFF,
 }];
 
-/// Those of the codes that have a text of a declaration, in order. A text of more than 256 units counts for
-/// each code.
+/// The codes that have a text of a declaration, in order. A code whose text has more than 256 units counts as a code
+/// with a text.
 pub(crate) fn spans_of(
     alloc: Global,
     declared: &BfRange,
@@ -57,7 +57,7 @@ pub(crate) fn spans_of(
     Ok(spans)
 }
 
-/// Adds those of the codes that have a text of a declaration, in order.
+/// Adds the codes that have a text of a declaration, in order.
 fn add_spans(
     alloc: Global,
     spans: &mut Vec<TextSpan>,
@@ -75,7 +75,7 @@ fn add_spans(
     Ok(())
 }
 
-/// The units that may end a text after these.
+/// The units that may end a text after these units.
 fn areas_after(front: &[u16]) -> &'static [Range] {
     match front.last() {
         Some(0xD800..=0xDBFF) => LOW_SURROGATES,
@@ -83,7 +83,7 @@ fn areas_after(front: &[u16]) -> &'static [Range] {
     }
 }
 
-/// The offsets by which a unit counts on into an area.
+/// The offsets that take a unit into an area.
 fn offsets_into(unit: u16, area: Range) -> Option<Range> {
     Some(Range {
         start: area.start.saturating_sub(u32::from(unit)),
@@ -116,7 +116,8 @@ fn add_span(
     Ok(())
 }
 
-/// The declarations of the top layer that have a code without a text. Of the shown codes it concerns those without one.
+/// The declarations of the top layer that have a code without a text. The warning concerns the shown codes without a
+/// text.
 pub(crate) fn no_text<'m>(
     alloc: Global,
     subject: &Subject<'m>,
@@ -138,7 +139,7 @@ pub(crate) fn no_text<'m>(
     finding.finish(alloc)
 }
 
-/// Those of these codes that have no text of a declaration, as ranges that lie apart, in order.
+/// The codes that have no text of a declaration, as disjoint ranges, in order.
 pub(crate) fn without_text(
     alloc: Global,
     declared: &BfRange,
@@ -154,7 +155,7 @@ pub(crate) fn without_text(
     Ok(ranges)
 }
 
-/// Adds the codes from a first to a last one, where both exist.
+/// Adds the codes from a first code to a last one, where both exist.
 fn push_between(
     ranges: &mut Vec<Range>,
     first: Option<u32>,

@@ -4,7 +4,7 @@ ghost use Rattle.std.specs.Prelude.{◌≡◌, ◌≢◌, MatchOption};
 ghost use Rattle.cmap_lint.specs.Warnings.{number};
 ghost use Rattle.cmap_lint.specs.declared.warning.Warning.{Warning};
 
-/// What can look wrong in a file.
+/// The warnings about a file.
 #[derive(Clone, Copy)]
 pub enum Warning {
     /// The file has no codespace range, no declaration and no use of another file.
@@ -13,15 +13,15 @@ pub enum Warning {
     NoCodespace,
     /// Codes with a CID or a notdef lie in no codespace range.
     OutsideCodespace,
-    /// Codes have two declarations of one list that disagree.
+    /// Codes have two declarations in one list that disagree.
     Overlap,
-    /// Declarations have their first code above their last.
+    /// Declarations have a first code above their last code.
     InvertedRange,
-    /// Ranges have ends that differ in another byte than the last. Adobe Technical Note 5014.
+    /// The ends of ranges differ in another byte than the last. Adobe Technical Note 5014.
     CrossesRow,
     /// Texts of a range have a last byte that counts on past 255. ISO 32000-1, 9.10.3.
     LastByte,
-    /// Declarations of texts give none for one of their codes.
+    /// Declarations of texts give no text for one of their codes.
     NoText,
     /// Texts have characters for private use.
     PrivateUse,
@@ -37,13 +37,13 @@ pub enum Warning {
     NameDiffers,
     /// A name ends in `-V`, and the writing mode isn't vertical.
     ModeDiffers,
-    /// The number before a section isn't that of its entries.
+    /// The number before a section isn't the number of its entries.
     CountDiffers,
     /// Sections have more than 100 entries. Adobe Technical Note 5014.
     LongSection,
-    /// After the last `begincmap` comes no `endcmap`. Adobe Technical Note 5014.
+    /// No `endcmap` comes after the last `begincmap`. Adobe Technical Note 5014.
     NoEndcmap,
-    /// Codes have a length that no codespace range has.
+    /// Codes have a length for which there is no codespace range.
     CodeLength,
     /// Hexadecimal strings of entries have an odd number of digits.
     OddDigits,
@@ -52,7 +52,7 @@ pub enum Warning {
 }
 
 impl Warning {
-    /// The name by which it is reported.
+    /// The name in reports.
     pub fn name(self) -> &'static str {
         match self {
             Warning::NothingDeclared => "nothing-declared",
@@ -79,7 +79,7 @@ impl Warning {
         }
     }
 
-    /// The number by which C knows it: its rank in the order in which warnings are reported.
+    /// The number in the C interface: the rank of the warning in the order of reports.
     pub fn number(self) -> u32
         ensures { result ≡ number self }
     {
@@ -108,7 +108,7 @@ impl Warning {
         }
     }
 
-    /// The warning of a number.
+    /// The warning with a number.
     pub fn numbered(wanted: u32) -> Option<Warning>
         ensures { MatchOption result ((warning : Warning) → number warning ≢ wanted)
             (λ warning. number warning ≡ wanted) }
@@ -139,7 +139,7 @@ impl Warning {
         }
     }
 
-    /// The warning of a name.
+    /// The warning with a name.
     pub fn of(name: &str) -> Option<Warning> {
         for number in 0..u32::MAX {
             let warning = Warning::numbered(number)?;

@@ -10,13 +10,13 @@ pub record IsRange (spans : List Span) (run : Run) : Type 0 where
   pub filled : run.low ≤ run.high
   pub fits : run.high < 2 ^ 32
 
--- the range of each of the first `count` declarations that isn't empty
+-- the ranges of the first `count` declarations, without empty ranges
 pub record AreRanges (spans : List Span) (count : ℕ) (ranges : List Run) : Type 0 where
   pub each : All (IsRange spans) ranges
   pub every : (index : ℕ) (span : Span) → index < count → slice_get spans index ≡ Some span → span.start ≤ span.end → Contains ranges (record { low = span.start; high = span.end; index = index })
   pub few : length ranges ≤ count
 
--- each ends before the next one begins
+-- each range ends before the next range begins
 abbrev pub AreApart : List Run → Type 0
 AreApart ranges = (i : ℕ) (d : Run) → i + 1 < length ranges → (get_or ranges i d).high < (get_or ranges (i + 1) d).low
 
@@ -25,7 +25,7 @@ pub record LieApart (ranges : List Run) : Type 0 where
   pub filled : All (λ range. (range.low ≤ range.high) × (range.high < 2 ^ 32)) ranges
   pub apart : AreApart ranges
 
--- the range of the declaration at the index, which is empty where there is none
+-- the range of the declaration at the index; an empty range if there is no such declaration
 abbrev pub range_at : List Span → ℕ → Run
 range_at spans index = let span = get_or spans index (record { start = 1; end = 0 }) in record { low = span.start; high = span.end; index = index }
 

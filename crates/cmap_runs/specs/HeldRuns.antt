@@ -10,12 +10,12 @@ abbrev pub runs_held : List Span → RunList → List Run
 runs_held spans (Ranges indices) = map (range_at spans) indices.items
 runs_held spans (Swept runs) = runs
 
--- a declaration is at each of the indices
+-- there is a declaration at each of the indices
 abbrev pub indices_within : ℕ → RunList → Type 0
 indices_within count (Ranges indices) = All (λ index. index < count) indices.items
 indices_within count (Swept runs) = Unit {0}
 
--- they are the runs of the declarations, fewer than two for each
+-- the held runs are the runs of the declarations, fewer than two runs for each declaration
 pub record AreHeld (spans : List Span) (held : RunList) : Type 0 where
   pub runs : runs_held spans held ≡ runs_of spans
   pub within : indices_within (length spans) held
@@ -27,7 +27,7 @@ pub record EndsBefore (runs : List Run) (i code : ℕ) : Type 0 where
   pub at : slice_get runs i ≡ Some run
   pub ends : run.high < code
 
--- the run at a place ends no earlier, and this declaration decides it
+-- the run at a place doesn't end before the code, and this declaration decides the run
 pub record Reaches {T : Type 0} (held : DecidedRuns T) (i code : ℕ) (declaration : T) : Type 0 where
   pub run : Run
   pub at : slice_get held.runs i ≡ Some run

@@ -8,7 +8,7 @@ pub record IsInOrder (runs : List Run) : Type 0 where
   pub filled : All (λ run. run.low ≤ run.high) runs
   pub apart : AllPairs (λ run later. run.high < later.low) runs
 
--- this many runs end before the code, and no others do
+-- exactly the first `ended` runs end before the code
 pub record IsFirstLeft (runs : List Run) (code ended : ℕ) : Type 0 where
   pub fits : code ≤ 2 ^ 32
   pub within : ended ≤ length runs

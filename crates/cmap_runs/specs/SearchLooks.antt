@@ -5,7 +5,7 @@ use Rattle.std.specs.Option.{option_copied}
 use Rattle.cmap_runs.specs.Ranges.{Span, contains, digits, last_of, runs_of}
 use Rattle.cmap_runs.specs.declared.runs.looks.Looks.{Looks}
 
--- from `old` to `new` at most as many as are given, and one of each at least where something is found
+-- from `old` to `new` there are at most the given numbers of looks, and at least one look of each kind if something is found
 pub record LooksAtMost (old new : Looks) (runs declarations : ℕ) (found : Bool) : Type 0 where
   pub most_runs : new.runs ≤ old.runs + runs
   pub some_run : old.runs + (if found then 1 else 0) ≤ new.runs

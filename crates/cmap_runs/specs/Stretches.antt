@@ -1,4 +1,4 @@
--- Codes in a row that one declaration decides, or none.
+-- Consecutive codes that one declaration decides, or that no declaration contains.
 use Rattle.std.specs.Prelude.{◌≡◌, ◌≢◌, ℕ, ◌+◌, ◌<◌, ◌≤◌, ◌^◌, List, Option}
 use Rattle.cmap_runs.specs.Ranges.{Span, last_index, last_of}
 
@@ -7,10 +7,10 @@ pub record CodesLeft (T : Type 0) : Type 0 where
   pub declarations : List T
   pub next : ℕ
 
--- from the first to the last code the last declaration that contains each is this one, or none contains any
+-- for each code from first to last, the last declaration that contains the code is this declaration, or no declaration contains the code
 abbrev pub IsStretch : {A : Type 0} → (A → Span) → List A → ℕ → ℕ → Option A → Type 0
 IsStretch span_of xs first last decides = (code : ℕ) → first ≤ code → code ≤ last → last_of span_of xs code ≡ decides
 
--- no longer one could begin with the first code: another declaration decides the code after the last one, or that isn't a code of 32 bits
+-- no longer stretch could begin with the first code: the code after the last code is decided differently, or isn't a code of 32 bits
 abbrev pub IsLongest : List Span → ℕ → ℕ → Type 0
 IsLongest spans first last = last + 1 < 2 ^ 32 → last_index spans (last + 1) ≢ last_index spans first

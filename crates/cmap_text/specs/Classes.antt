@@ -1,4 +1,4 @@
--- What pieces are in a section.
+-- The classes of pieces in a section.
 use Rattle.std.specs.Prelude.{ℕ, ◌++◌, ◌&&◌, Bool, true, false, List, [], ◌∷◌, codes, bytes_eq, map, Option, None, Ok, Err, if◌then◌else◌}
 use Rattle.std.specs.List.{list_any}
 use Rattle.cmap_tokens.specs.Malformed as malformed
@@ -11,11 +11,11 @@ use Rattle.cmap_text.specs.TextReading.{closer, destination_in, opener, sections
 pub data Class : Type 0 where
   -- an executable name that ends a section
   known : Class
-  -- it takes no place of an entry
+  -- a piece that takes no place of an entry
   alone : Class
   open_bracket : Class
   close_bracket : Class
-  -- it may be a part of an entry
+  -- a piece that may be a part of an entry
   part : Class
 
 abbrev pub known_words : List (List ℕ)
@@ -72,7 +72,7 @@ is_name _ = false
 abbrev pub is_name_piece : Piece → Bool
 is_name_piece piece = elim piece.token [ Ok t ↦ is_name t | Err w ↦ false ]
 
--- a name that isn't known
+-- an executable name that isn't known
 abbrev pub is_stray : Piece → Bool
 is_stray piece = is_name_piece piece && is_part (class_of piece)
 

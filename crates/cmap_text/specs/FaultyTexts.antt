@@ -1,4 +1,4 @@
--- What a text says apart from its faults: its pieces are read as items, sections and entries, as far as they can be.
+-- The content of a text apart from its faults: its pieces are read as items, sections and entries, as far as possible.
 use Rattle.std.specs.Prelude.{◌≡◌, ℕ, ◌+◌, ◌-◌, ◌<◌, ◌≤◌, ◌&&◌, ◌||◌, ◌==◌, not, Bool, true, false, List, [], ◌∷◌, ◌++◌, ◌⊎◌, Contains, codes, flat_map, get_or, length, Option, Some, None, Ok, Err, if◌then◌else◌}
 use Rattle.cmap_tokens.specs.Pieces.{Piece, Wrong, pieces_left}
 use Rattle.cmap_tokens.specs.Strings.{IsValue}
@@ -20,11 +20,11 @@ use Rattle.cmap_text.specs.TokenParsers.{malformed_reason}
 abbrev pub own_fault : Wrong → Stop
 own_fault w = record { offset = w.offset; reason = malformed_reason w.kind }
 
--- a token's is at its end
+-- the fault of a piece; the fault of a token is at its end
 abbrev pub fault_of : Reason → Piece → Stop
 fault_of reason piece = elim piece.token [ Ok t ↦ record { offset = piece.end; reason = reason } | Err w ↦ own_fault w ]
 
--- where a piece has its fault
+-- the offset of the fault of a piece
 abbrev pub fault_offset : Piece → ℕ
 fault_offset piece = elim piece.token [ Ok t ↦ piece.end | Err w ↦ w.offset ]
 
@@ -37,7 +37,7 @@ pub record Cell : Type 0 where
   pub piece : Piece
   pub parts : ℕ
 
--- the pieces of a text, where its lines have these parts
+-- the pieces of a text whose lines have these parts
 abbrev pub cells_of : List Row → List Piece → List Cell
 cells_of rows [] = []
 cells_of rows (piece ∷ pieces) = record { piece = piece; parts = parts_on (rows_at rows piece) } ∷ cells_of (rows_at rows piece) pieces
@@ -46,13 +46,13 @@ cells_of rows (piece ∷ pieces) = record { piece = piece; parts = parts_on (row
 abbrev pub starts_row : Bool → Cell → Bool
 starts_row rows cell = rows && cell.piece.begins_line
 
--- where reading goes on, after what stands in a section
+-- where reading goes on after a part of a section
 pub data Next : Type 0 where
   next_entry : List Cell → Next
   -- the section is over
   next_item : List Cell → Next
 
--- ---- a section is a table: what stands in each place of its entries
+-- ---- a section is a table: each place of its entries is a column
 pub data Column : Type 0 where
   code_column : Column
   -- a code of the same length
@@ -67,11 +67,11 @@ columns (cids kind single) = code_column ∷ cid_column ∷ []
 columns bf_range = code_column ∷ code_column ∷ text_column ∷ []
 columns bf_char = code_column ∷ text_column ∷ []
 
--- that of the next part, after these
+-- the column of the next part, after these parts
 abbrev pub next_column : Section → List Token → Column
 next_column section parts = get_or (columns section) (length parts) text_column
 
--- why a part isn't there, and why a token isn't the part
+-- why a part is missing, and why a token isn't the part
 abbrev pub lacks : Column → Reason
 lacks code_column = CodeExpected
 lacks end_column = CodeExpected
@@ -106,19 +106,19 @@ IsText piece units = (t : Token) × IsToken piece t × IsDestination t units
 abbrev pub IsBracket : Piece → Type 0
 IsBracket piece = IsToken piece (Token.Name false (codes "["))
 
--- what takes no place: a piece that is alone or, in rows, a name that isn't known
+-- a piece that takes no place: it is alone or, in rows, it is a name that isn't known
 abbrev pub TakesNoPlace : Bool → Piece → Type 0
 TakesNoPlace rows piece = (class_of piece ≡ alone) ⊎ ((rows ≡ true) × (is_stray piece ≡ true))
 
--- ---- what is passed over
--- a list, up to its ] or a known word
+-- ---- pieces that are passed over
+-- the rest of a list, up to its ] or a known word
 pub data PassesList : List Cell → Next → Type 0 where
   list_ends : PassesList [] (next_entry [])
   list_closes : {cells : List Cell} → (cell : Cell) → class_of cell.piece ≡ close_bracket → PassesList (cell ∷ cells) (next_entry cells)
   list_left : {cells : List Cell} → (cell : Cell) → class_of cell.piece ≡ known → PassesList (cell ∷ cells) (next_item (cell ∷ cells))
   list_goes_on : {cells : List Cell} {next : Next} → (cell : Cell) → (class_of cell.piece ≡ close_bracket → ⊥) → (class_of cell.piece ≡ known → ⊥) → PassesList cells next → PassesList (cell ∷ cells) next
 
--- a line, with the lists that begin on it, up to the next one or a known word
+-- the rest of a line, with the lists that begin on it, up to the next line or a known word
 pub data PassesLine : List Cell → Next → Type 0 where
   line_ends : PassesLine [] (next_entry [])
   line_follows : {cells : List Cell} → (cell : Cell) → cell.piece.begins_line ≡ true → PassesLine (cell ∷ cells) (next_entry (cell ∷ cells))
@@ -127,17 +127,17 @@ pub data PassesLine : List Cell → Next → Type 0 where
   line_list_left : {cells others : List Cell} → (cell : Cell) → cell.piece.begins_line ≡ false → class_of cell.piece ≡ open_bracket → PassesList cells (next_item others) → PassesLine (cell ∷ cells) (next_item others)
   line_goes_on : {cells : List Cell} {next : Next} → (cell : Cell) → cell.piece.begins_line ≡ false → (class_of cell.piece ≡ open_bracket → ⊥) → (class_of cell.piece ≡ known → ⊥) → PassesLine cells next → PassesLine (cell ∷ cells) next
 
--- after an entry at fault, its line too, if it begins one
+-- after an entry at fault, the rest of its line is passed over too, if the entry begins a line
 abbrev pub AfterFaulty : Bool → List Cell → Next → Type 0
 AfterFaulty false cells next = next ≡ next_entry cells
 AfterFaulty true cells next = PassesLine cells next
 
--- and after its list
+-- the same after the list of an entry at fault, unless a known word ends the list
 abbrev pub AfterList : Bool → Next → Next → Type 0
 AfterList line (next_entry cells) next = AfterFaulty line cells next
 AfterList line (next_item cells) next = next ≡ next_item cells
 
--- an entry at fault, which begins a line or not, with so many places left: each part takes one; in rows the next entry may begin here or not
+-- the rest of an entry at fault, with this number of places left, where each part takes one place; line states whether the entry begins a line, and may_begin whether in rows the next entry may begin here
 pub data PassesEntry (rows line : Bool) : ℕ → Bool → List Cell → Next → Type 0 where
   entry_ends : {places : ℕ} {may_begin : Bool} → PassesEntry rows line places may_begin [] (next_entry [])
   row_follows : {places : ℕ} {cells : List Cell} → (cell : Cell) → starts_row rows cell ≡ true → PassesEntry rows line places true (cell ∷ cells) (next_entry (cell ∷ cells))
@@ -149,7 +149,7 @@ pub data PassesEntry (rows line : Bool) : ℕ → Bool → List Cell → Next �
   entry_part : {places : ℕ} {may_begin : Bool} {cells : List Cell} {next : Next} → (cell : Cell) → (may_begin && starts_row rows cell) ≡ false → class_of cell.piece ≡ part → 1 < places → PassesEntry rows line (places - 1) true cells next → PassesEntry rows line places may_begin (cell ∷ cells) next
 
 -- ---- a list of texts, for the codes from first to last
--- the entry of the list begins a line, which its pieces don't
+-- the entry of the list begins a line, and the pieces of the list don't
 abbrev pub stays_on_line : Bool → Cell → Bool
 stays_on_line on_line cell = on_line && not cell.piece.begins_line
 
@@ -164,7 +164,7 @@ IsNominal first last code = code - first < last + 1 - code
 abbrev pub TakesNoText : Piece → Type 0
 TakesNoText piece = (class_of piece ≡ alone) ⊎ (class_of piece ≡ open_bracket)
 
--- from the place of a code on: what the texts declare, the faults, and whether the list is kept
+-- the rest of a list from the place of a code on: the declarations of the texts, the faults, and whether the list is kept
 pub data ListRead (first last : ℕ) (line : Bool) : ℕ → Bool → List Cell → List Declaration → List Stop → Bool → Next → Type 0 where
   texts_end : {code : ℕ} {on_line : Bool} → ListRead first last line code on_line [] [] [] true (next_entry [])
   -- a place is left
@@ -200,7 +200,7 @@ pub data ListRead (first last : ℕ) (line : Bool) : ℕ → Bool → List Cell 
 abbrev pub BeginEntry : Section → List Token → Type 0
 BeginEntry section tokens = (more : List Token) × (declared : List Declaration) × IsEntry section (tokens ++ more) declared []
 
--- a piece in the place after these parts shows what was meant: an empty string is the empty text, and a longer second code has a first one with bytes 0 before it
+-- a piece in the place after these parts shows the intended part: an empty string is the empty text, and bytes 0 stand before the first code if the second code is longer
 abbrev pub IsMended : Section → List Token → Piece → List Declaration → Type 0
 IsMended codespace_range parts piece declared = (a b : Token) × (low high : List ℕ) × (parts ≡ a ∷ []) × IsToken piece b × IsCode a low × IsCode b high × (length low < length high)
     × (declared ≡ Declaration.codespace (record { len = length high; low = big_endian low; high = big_endian high }) ∷ [])
@@ -208,13 +208,13 @@ IsMended (cids kind extent) parts piece declared = ⊥
 IsMended bf_range parts piece declared = (a b : Token) × (start end : List ℕ) × (parts ≡ a ∷ b ∷ []) × IsCode a start × IsCode b end × IsEmptyText piece × (declared ≡ declares_bf (big_endian start) (big_endian end) [] ∷ [])
 IsMended bf_char parts piece declared = (a : Token) × (code : List ℕ) × (parts ≡ a ∷ []) × IsCode a code × IsEmptyText piece × (declared ≡ declares_bf (big_endian code) (big_endian code) [] ∷ [])
 
--- what a piece is in an entry
+-- the role of a piece in an entry
 pub data Role : Type 0 where
   -- the closer of the section, before the first part
   closes : Role
   -- no part
   no_part : Role
-  -- a part, which isn't the last one
+  -- a part before the last part
   next_part : Token → Role
   -- the last part; the entry declares this
   last_part : List Declaration → Role
@@ -227,7 +227,7 @@ pub data Role : Type 0 where
 abbrev pub IsCloser : Section → List Token → Piece → Type 0
 IsCloser section parts piece = (parts ≡ []) × IsToken piece (Token.Name false (codes "end" ++ section_name section))
 
--- that of a piece after these parts
+-- the role of a piece after these parts
 abbrev pub IsRole : Bool → Section → List Token → Piece → Role → Type 0
 IsRole rows section parts piece closes = IsCloser section parts piece
 IsRole rows section parts piece no_part = TakesNoPlace rows piece
@@ -237,7 +237,7 @@ IsRole rows section parts piece (mended_part declared) = IsMended section parts 
 IsRole rows section parts piece (begins_list first last) = (a b : Token) × (start end : List ℕ) × (section ≡ bf_range) × (parts ≡ a ∷ b ∷ []) × IsCode a start × IsCode b end × (first ≡ big_endian start) × (last ≡ big_endian end) × IsBracket piece
 IsRole rows section parts piece wrong_part = (IsCloser section parts piece → ⊥) × (TakesNoPlace rows piece → ⊥) × ((t : Token) → IsToken piece t → BeginEntry section (parts ++ t ∷ []) → ⊥) × ((declared : List Declaration) → IsMended section parts piece declared → ⊥)
 
--- in rows an entry is short where a line begins that isn't a known word and doesn't hold just the parts that are missing
+-- in rows an entry that has begun is short if a line begins, unless the line begins with a known word or has exactly the number of the missing parts
 abbrev pub is_short : Bool → Section → List Token → Cell → Bool
 is_short rows section parts cell = starts_row rows cell && (not (length parts == 0) && (not (is_known (class_of cell.piece)) && not (cell.parts == places_of section - length parts)))
 
@@ -247,11 +247,11 @@ short_fault section parts piece = record { offset = fault_offset piece; reason =
 abbrev pub HasRole : Bool → Section → List Token → Cell → Role → Type 0
 HasRole rows section parts cell role = (is_short rows section parts cell ≡ false) × IsRole rows section parts cell.piece role
 
--- whether an entry begins a line: up to and including its first part, or what is at fault there
+-- whether an entry begins a line, up to and including its first part, or the piece at fault in the place of the first part
 abbrev pub line_begun : Bool → List Token → Cell → Bool
 line_begun line parts cell = line || (length parts == 0 && cell.piece.begins_line)
 
--- an entry after these parts: what it declares, its faults, and where reading goes on
+-- the rest of an entry after these parts: its declarations, its faults, and where reading goes on
 pub data EntryRead (rows : Bool) (section : Section) : Bool → List Token → List Cell → List Declaration → List Stop → Next → Type 0 where
   cut_off : {line : Bool} {parts : List Token} → EntryRead rows section line parts [] [] [] (next_entry [])
   short : {line : Bool} {parts : List Token} {cells : List Cell} → (cell : Cell) → is_short rows section parts cell ≡ true
@@ -280,7 +280,7 @@ pub data EntriesRead (rows : Bool) (len : ℕ) (section : Section) : List Cell �
       → EntriesRead rows len section others more later rest → EntriesRead rows len section (cell ∷ cells) (declared ++ more) (faults ++ later) rest
 
 -- ---- items
--- the value of this key, or none where the key keeps the value that it had
+-- the item of this key and its value, or no item if the key keeps its earlier value
 pub data ValueRead (k : List ℕ) : List Cell → List Item → List Stop → List Cell → Type 0 where
   no_value : ValueRead k [] (key k None ∷ []) [] []
   value_read : {cells : List Cell} → (cell : Cell) (t : Token) → IsToken cell.piece t → ValueRead k (cell ∷ cells) (key k (Some t) ∷ []) [] cells
@@ -297,11 +297,11 @@ pub record Found : Type 0 where
 abbrev pub nothing_found : Found
 nothing_found = record { items = []; uses = []; faults = [] }
 
--- the same after some items, names and faults
+-- what is found, after some earlier items, names and faults
 abbrev pub found_after : List Item → List (List ℕ) → List Stop → Found → Found
 found_after items uses faults later = record { items = items ++ later.items; uses = uses ++ later.uses; faults = faults ++ later.faults }
 
--- after an item that begins with this literal name, or with none: what all that follow say
+-- the content of all items after an item that begins with this literal name, or with none
 pub data ItemsRead (rows : Bool) (len : ℕ) : Option (List ℕ) → List Cell → Found → Type 0 where
   items_end : {before : Option (List ℕ)} → ItemsRead rows len before [] nothing_found
   malformed_read : {before : Option (List ℕ)} {cells : List Cell} {found : Found} → (cell : Cell) (w : Wrong) → cell.piece.token ≡ Err w
@@ -339,11 +339,11 @@ ReadAgain true text first found = ReadInRows text found
 abbrev pub TextRead : List ℕ → Found → Type 0
 TextRead text found = (first : Found) × FirstRead text first × ReadAgain (has_rows text first) text first found
 
--- a text says what the file says, and has these faults
+-- the text has the content of the file, and has these faults
 abbrev pub SalvagesFile : List ℕ → File → List Stop → Type 0
 SalvagesFile text file faults = (found : Found) × TextRead text found
     × IsMetadata found.items file.metadata × (file.lists ≡ lists_of (flat_map declared_by found.items)) × (file.uses ≡ found.uses) × (faults ≡ found.faults)
 
--- and no other file, with no other faults
+-- the text has the content of no other file, and has no other faults
 abbrev pub SalvagesNoOther : List ℕ → File → List Stop → Type 0
 SalvagesNoOther text file faults = (other : File) (stops : List Stop) → SalvagesFile text other stops → (other ≡ file) × (stops ≡ faults)

@@ -1,4 +1,4 @@
--- Texts in rows: whether the lines of their sections hold an entry each.
+-- Texts in rows: whether each line of their sections contains one entry.
 use Rattle.std.specs.Prelude.{ℕ, ◌+◌, ◌==◌, ◌&&◌, ◌||◌, nat_lt, min, not, Bool, true, false, List, [], ◌∷◌, ◌++◌, Option, Some, None, is_some, Ok, Err, if◌then◌else◌}
 use Rattle.std.specs.List.{count_by}
 use Rattle.cmap_tokens.specs.Pieces.{Piece, pieces_left}
@@ -13,10 +13,10 @@ empty_row = record { parts = 0; places = 0 }
 
 -- the lines of a text, as far as its pieces are read
 pub record Lines : Type 0 where
-  -- those before the last one, and that one
+  -- the lines before the last line, and the last line
   pub done : List Row
   pub row : Row
-  -- one without parts for each line end in a list of that one
+  -- a line without parts for each line end in a list on the last line
   pub inner : List Row
   -- the section that the last known word opens
   pub section : Option Section
@@ -25,11 +25,11 @@ pub record Lines : Type 0 where
 abbrev pub no_lines : Lines
 no_lines = record { done = []; row = empty_row; inner = []; section = None; in_brackets = false }
 
--- a part more on a line of this section
+-- one more part on a line of this section
 abbrev pub with_part : Row → Section → Row
 with_part row section = record { parts = min (row.parts + 1) 255; places = places_of section }
 
--- a list is one part, with all that stands in its brackets
+-- one more part on the last line; a list is one part, with all pieces in its brackets
 abbrev pub part_added : Lines → Lines
 part_added old = if old.in_brackets then old else elim old.section [
   | Some section ↦ record { done = old.done; row = with_part old.row section; inner = old.inner; section = old.section; in_brackets = old.in_brackets }
@@ -55,11 +55,11 @@ counted old piece = elim (class_of piece) [
 abbrev pub line_ended : Lines → Lines
 line_ended old = record { done = (old.done ++ old.row ∷ []) ++ old.inner; row = empty_row; inner = []; section = old.section; in_brackets = old.in_brackets }
 
--- with an opener begins a line of its section
+-- the opener of a section begins a line of the section
 abbrev pub begins_row : Piece → Bool
 begins_row piece = piece.begins_line || is_some (section_opened piece)
 
--- a line end in a list is none
+-- a line end in a list begins no line
 abbrev pub row_begun : Lines → Piece → Lines
 row_begun old piece = if old.in_brackets && not (is_some (section_opened piece)) then record { done = old.done; row = old.row; inner = old.inner ++ empty_row ∷ []; section = old.section; in_brackets = old.in_brackets } else line_ended old
 
@@ -70,7 +70,7 @@ unfoldable pub lines_taken : Lines → List Piece → Lines
 lines_taken old [] = old
 lines_taken old (piece ∷ pieces) = lines_taken (line_taken old piece) pieces
 
--- what stands before the first line, which is nothing, and on each line
+-- an empty row for the part of the text before the first line, and the parts on each line
 abbrev pub rows_of : List ℕ → List Row
 rows_of text = (line_ended (lines_taken no_lines (pieces_left (start_of text)))).done
 
@@ -80,16 +80,16 @@ is_whole row = not (row.parts == 0) && row.parts == row.places
 abbrev pub is_other : Row → Bool
 is_other row = not (row.parts == 0) && not (row.parts == row.places)
 
--- more than half of the lines with parts hold as many as an entry
+-- more than half of the lines with parts have as many parts as an entry has places
 abbrev pub are_rows : List Row → Bool
 are_rows rows = nat_lt (count_by is_other rows) (count_by is_whole rows)
 
--- ---- the lines from one on
+-- ---- the rest of the lines
 abbrev pub after_line : List Row → List Row
 after_line [] = []
 after_line (row ∷ rows) = rows
 
--- where a piece comes; the first row is that of the piece before it
+-- the rows from the line of a piece on; the first of `rows` is the row of the piece before it
 abbrev pub rows_at : List Row → Piece → List Row
 rows_at rows piece = if begins_row piece then after_line rows else rows
 

@@ -1,4 +1,4 @@
--- Private aid: the reading of a text past its faults, piece by piece, as the code does it. What such a text says is said by FaultyTexts.
+-- Private aid: the reading of a text past its faults, piece by piece, as the code does it. FaultyTexts defines the content of such a text.
 use Rattle.std.specs.Prelude.{ℕ, ◌+◌, ◌-◌, ◌&&◌, ◌||◌, ◌==◌, not, nat_le, nat_lt, Bool, true, false, List, [], ◌∷◌, ◌++◌, length, take, codes, Option, Some, None, option_and_then, option_map, Result, Ok, Err, if◌then◌else◌}
 use Rattle.cmap_tokens.specs.Pieces.{Piece, pieces_left}
 use Rattle.cmap_tokens.specs.Tokens.{Token}
@@ -15,7 +15,7 @@ use Rattle.cmap_text.specs.TextFiles.{CidKind, Section, bf_char, bf_range, cids,
 use Rattle.cmap_text.specs.TextReading.{Code, Said, adding, cid_in, closer, code_fault, code_in, codespace, destination_in, filed, is_executable, key_in, nothing_said, opened_by, text_of, use_word, value_in, with_other, with_value}
 
 -- ---- what is read so far
--- the parts of an entry, as far as they are read
+-- the parts of an entry that are read so far
 pub data Parts : Type 0 where
   none : Parts
   one : Code → Parts
@@ -24,10 +24,10 @@ pub data Parts : Type 0 where
 pub record Entry : Type 0 where
   pub section : Section
   pub parts : Parts
-  -- whether one of its pieces begins a line, up to and including the one in its first place
+  -- whether a piece of the entry begins a line, up to and including the piece in its first place
   pub begins_line : Bool
 
--- what is left of an entry at fault
+-- the rest of an entry at fault
 pub record Rest : Type 0 where
   pub section : Section
   -- how many places are left
@@ -36,14 +36,14 @@ pub record Rest : Type 0 where
 
 -- a list of texts
 pub record Texts : Type 0 where
-  -- its first code, the code of its next place, and its last one
+  -- the first code of the list, the code of its next place, and its last code
   pub first : ℕ
   pub next : ℕ
   pub last : ℕ
-  -- how many texts there were before it
+  -- how many texts there were before the list
   pub kept : ℕ
   pub begins_line : Bool
-  -- whether its entry begins a line and none of its own pieces does
+  -- whether the entry begins a line and no piece of the list does
   pub one_line : Bool
 
 -- what comes next
@@ -56,7 +56,7 @@ pub data State : Type 0 where
   in_line : Section → State
   in_list : Texts → State
 
--- what is said so far, and the faults
+-- the content so far, and the faults
 pub record Salvaged : Type 0 where
   pub said : Said
   pub faults : List Stop
@@ -126,7 +126,7 @@ begin_item old t end =
 abbrev pub take_item : Salvaged → Piece → State × Salvaged
 take_item old piece = elim piece.token [ Ok t ↦ begin_item old t piece.end | Err w ↦ (item, with_fault old (own_fault w)) ]
 
--- the value of a key, which what is alone doesn't take
+-- the state after a malformed piece in the place of the value of a key; a piece that is alone doesn't take the place
 abbrev pub after_malformed : List ℕ → Class → State
 after_malformed k alone = value k
 after_malformed k _ = item
@@ -151,12 +151,12 @@ pass_in_list old rest piece = elim (class_of piece) [
   | _ ↦ (in_brackets rest, old)
 ]
 
--- ---- a part at fault that shows what was meant
--- the empty text
+-- ---- a part at fault that shows the intended part
+-- the empty text, if there are no bytes
 abbrev pub empty_text_of : List ℕ → Option (List ℕ)
 empty_text_of bytes = if length bytes == 0 then Some [] else None
 
--- that of an empty string
+-- the empty text, if a piece is an empty string
 abbrev pub empty_text_in : Piece → Option (List ℕ)
 empty_text_in piece = elim piece.token [ Ok t ↦ option_and_then empty_text_of (value_in t) | Err w ↦ None ]
 
@@ -167,12 +167,12 @@ code_of_piece piece = elim piece.token [ Ok t ↦ code_in t | Err w ↦ None ]
 abbrev pub widened : Code → Code → Option (List Declaration)
 widened low high = if nat_lt low.len high.len then Some (Declaration.codespace (record { len = high.len; low = low.number; high = high.number }) ∷ []) else None
 
--- it fills its place all the same, and these are the lists then
+-- the state and the lists after a part at fault fills its place all the same
 abbrev pub Mended : Type 0
 Mended = Option (State × Lists)
 
 -- ---- an entry
--- the next place is filled, and these are the lists then; or why it isn't
+-- the state and the lists after the next place is filled, or the reason why the place isn't filled
 abbrev pub Filled : Type 0
 Filled = Result (State × Lists) Reason
 
@@ -232,7 +232,7 @@ fill lists entry t = elim entry.parts [
   | two start end ↦ fill_third lists entry start end t
 ]
 
--- the place of a text, which an empty string fills
+-- an empty string fills the place of a text
 abbrev pub mend_text : Lists → Entry → Code → Code → Piece → Mended
 mend_text lists entry start end piece = option_map (λ units. (in_entry (new_entry entry.section), adding lists (text_of start.number end.number units))) (empty_text_in piece)
 
@@ -256,11 +256,11 @@ mend lists entry piece = elim entry.parts [
   | two start end ↦ third_mended entry.section lists entry start end piece
 ]
 
--- a piece that is alone leaves the place to be filled
+-- a piece that is alone takes no place
 abbrev pub passed_over : Salvaged → Entry → Piece → State × Salvaged
 passed_over old entry piece = elim (class_of piece) [ alone ↦ (in_entry entry, old) | _ ↦ pass_in_entry old (rest_of entry) piece ]
 
--- a piece at fault, which may fill its place all the same
+-- a piece at fault may fill its place all the same
 abbrev pub entry_fault : Salvaged → Entry → Piece → Stop → State × Salvaged
 entry_fault old entry piece fault = elim (mend old.said.lists entry piece) [ Some p ↦ (p.0, having_lists (with_fault old fault) p.1) | None ↦ passed_over (with_fault old fault) entry piece ]
 
@@ -277,7 +277,7 @@ is_closer section piece = elim piece.token [ Ok t ↦ is_executable (closer sect
 abbrev pub take_in_entry : Salvaged → Entry → Piece → State × Salvaged
 take_in_entry old entry piece = if no_parts entry.parts && is_closer entry.section piece then (item, old) else take_part old (with_piece entry piece) piece
 
--- the next line has the next entry
+-- the next entry begins with the next line
 abbrev pub pass_in_line : Salvaged → Section → Piece → State × Salvaged
 pass_in_line old section piece = if piece.begins_line then take_in_entry old (new_entry section) piece else elim (class_of piece) [
   | known ↦ take_item old piece
@@ -304,7 +304,7 @@ is_nominal list = nat_lt (list.next - list.first) (list.last + 1 - list.next)
 abbrev pub short_list : Salvaged → Texts → Salvaged
 short_list old list = if is_nominal list then old else losing old list
 
--- the empty text of a code, where an empty string stands
+-- the empty text of a code is added, if the piece is an empty string
 abbrev pub adding_empty : Salvaged → ℕ → Piece → Salvaged
 adding_empty old code piece = elim (empty_text_in piece) [ Some units ↦ having_lists old (adding old.said.lists (text_of code code units)) | None ↦ old ]
 
@@ -326,7 +326,7 @@ take_text old list piece = elim (text_in piece) [
 abbrev pub lacks_bracket : Texts → Piece → Bool
 lacks_bracket list piece = list.one_line && (piece.begins_line && is_string_piece piece)
 
--- a part after all texts: the next entry begins with it, or the list is too long
+-- a part after all texts: the next entry begins with this part, or the list is too long
 abbrev pub end_list : Salvaged → Texts → Piece → State × Salvaged
 end_list old list piece = if lacks_bracket list piece then take_in_entry old (new_entry bf_range) piece else (in_brackets (rest_of_list list), losing old list)
 
@@ -387,26 +387,26 @@ third_missing _ = TextExpected
 abbrev pub missing : Entry → Reason
 missing entry = elim entry.parts [ none ↦ CodeExpected | one start ↦ second_missing entry.section | two start end ↦ third_missing entry.section ]
 
--- a line with so many parts begins within an entry, which it doesn't end
+-- a line with this number of parts begins within an entry and doesn't complete the entry
 abbrev pub is_short : ℕ → Entry → Piece → Bool
 is_short parts entry piece = not (no_parts entry.parts) && (not (is_known (class_of piece)) && not (parts == (rest_of entry).places))
 
 abbrev pub short_fault : Entry → Piece → Stop
 short_fault entry piece = record { offset = fault_offset piece; reason = missing entry }
 
--- an entry ends where a line begins, unless the line holds just the parts that it lacks
+-- an entry ends where a line begins, unless the line has exactly the parts that the entry lacks
 abbrev pub begin_line : ℕ → State × Salvaged → Piece → State × Salvaged
 begin_line parts (in_entry entry, old) piece = if is_short parts entry piece then (in_entry (new_entry entry.section), with_fault old (short_fault entry piece)) else (in_entry entry, old)
 begin_line parts (at_fault rest, old) piece = (in_entry (new_entry rest.section), old)
 begin_line parts (in_line section, old) piece = (in_entry (new_entry section), old)
 begin_line parts now piece = now
 
--- a name that isn't known leaves the place to be filled
+-- a name that isn't known fills no place
 abbrev pub take_unless_stray : State × Salvaged → Piece → State × Salvaged
 take_unless_stray (in_entry entry, old) piece = if is_stray piece then (in_entry (with_piece entry piece), with_fault old (fault_of (missing entry) piece)) else take_in_entry old entry piece
 take_unless_stray now piece = take_piece now piece
 
--- a piece on a line with so many parts
+-- a piece on a line with this number of parts
 abbrev pub take_in_row : ℕ → State × Salvaged → Piece → State × Salvaged
 take_in_row parts now piece = take_unless_stray (if piece.begins_line then begin_line parts now piece else now) piece
 

@@ -58,19 +58,19 @@ found_seen found = record { said = said_seen found.said; faults = found.faults.i
 abbrev pub lines_seen : Lines → rows.Lines
 lines_seen lines = record { done = lines.rows.items; row = lines.row; inner = lines.inner.items; section = option_map section_seen lines.section; in_brackets = lines.is_in_brackets }
 
--- the lists have these declarations more, and nothing else changes
+-- these declarations are added to the lists, and nothing else changes
 abbrev pub AddsLists : List Declaration → Found → Found → Type 0
 AddsLists declared old new = found_seen new ≡ having_lists (found_seen old) (adding (lists_seen old.said.lists) declared)
 
--- a token that is read so, or else this is wrong
+-- the answer is the value that is found; if nothing is found, the refusal has this reason
 abbrev pub ReadsToken : {A B : Type 0} → Option B → (A → B) → Reason → Result A (Fault Reason) → Type 0
 ReadsToken found seen fault = Outcome (λ x. found ≡ Some (seen x)) (λ reason. (found ≡ None) × (reason ≡ fault))
 
--- a part at fault fills its place so, or nothing changes
+-- a part at fault fills its place with this result, or nothing changes
 abbrev pub MendsPlace : Mended → Found → Found → Option State → Type 0
 MendsPlace mended old new result = MatchOption result ((mended ≡ None) × (found_seen new ≡ found_seen old))
     (λ state. (lists : Lists) × (mended ≡ Some (state_seen state, lists)) × (found_seen new ≡ having_lists (found_seen old) lists))
 
--- a place is filled so, or nothing changes
+-- a place is filled with this result, or nothing changes
 abbrev pub FillsPlace : Filled → Found → Found → Result State (Fault Reason) → Type 0
 FillsPlace filled old new = Outcome (λ state. (lists : Lists) × (filled ≡ Ok (state_seen state, lists)) × (found_seen new ≡ having_lists (found_seen old) lists)) (λ reason. (filled ≡ Err reason) × (found_seen new ≡ found_seen old))

@@ -1,4 +1,4 @@
--- CMap files as text: tokens read as items, nothing executed. Adobe Technical Notes 5014 and 5411, with what PDF writers make of them.
+-- CMap files as text: the tokens are read as items, and nothing is executed. Adobe Technical Notes 5014 and 5411, and the practice of PDF writers.
 use Rattle.std.specs.Prelude.{◌≡◌, ◌≢◌, ℕ, ℤ, pos, ◌+◌, ◌-◌, ◌<◌, ◌≤◌, ◌^◌, true, false, ◌&&◌, List, [], ◌∷◌, ◌++◌, ◌⊎◌, length, map, filter_map, flat_map, bytes_eq, codes, Contains, Option, Some, None, option_map, option_and_then, neg_ℤ, int_le, if◌then◌else◌}
 use Rattle.std.specs.List.{AllZip, last_or, enumerate_from}
 use Rattle.cmap_values.specs.BigEndian.{big_endian}
@@ -13,7 +13,7 @@ use Rattle.cmap_values.specs.Files.{CidEntry, Declaration, Mode, Collection, Fil
 abbrev pub keys : List (List ℕ)
 keys = codes "Registry" ∷ codes "Ordering" ∷ codes "Supplement" ∷ codes "CMapName" ∷ codes "WMode" ∷ []
 
--- which CIDs a section declares: those of its codes, or the fallback CID
+-- the kind of CIDs that a section declares: the CIDs of its codes, or the fallback CID
 pub data CidKind : Type 0 where
   mapped : CidKind
   notdef : CidKind
@@ -33,7 +33,7 @@ pub data Section : Type 0 where
   bf_range : Section
   bf_char : Section
 
--- its name, after begin where it is opened and after end where it is closed
+-- the name of a section; begin and this name open the section, end and this name close it
 abbrev pub section_name : Section → List ℕ
 section_name codespace_range = codes "codespacerange"
 section_name (cids mapped range) = codes "cidrange"
@@ -58,11 +58,11 @@ IsDestination t units = (piece bytes : List ℕ) × (t ≡ Token.String piece) �
 abbrev pub declares_bf : ℕ → ℕ → List ℕ → Declaration
 declares_bf start end units = Declaration.bf (record { start = start; end = end; units = units })
 
--- the entry of a section that tokens begin with, what it declares, and the tokens after it
+-- the entry of a section that tokens begin with, its declarations, and the tokens after the entry
 abbrev pub IsEntry : Section → List Token → List Declaration → List Token → Type 0
 IsEntry codespace_range tokens declared rest = (a b : Token) × (low high : List ℕ) × (tokens ≡ a ∷ b ∷ rest) × IsCode a low × IsCode b high × (length low ≡ length high)
     × (declared ≡ Declaration.codespace (record { len = length low; low = big_endian low; high = big_endian high }) ∷ [])
--- code, code, CID, filed by the length of the first; or code, CID
+-- code, code, CID, filed by the length of the first code; or code, CID
 IsEntry (cids kind range) tokens declared rest = (a b c : Token) × (start end : List ℕ) × (n : ℕ) × (tokens ≡ a ∷ b ∷ c ∷ rest) × IsCode a start × IsCode b end × IsCid c n × (declared ≡ declares_cid kind (length start) (record { start = big_endian start; end = big_endian end; cid = n }) ∷ [])
 IsEntry (cids kind single) tokens declared rest = (a c : Token) × (code : List ℕ) × (n : ℕ) × (tokens ≡ a ∷ c ∷ rest) × IsCode a code × IsCid c n × (declared ≡ declares_cid kind (length code) (record { start = big_endian code; end = big_endian code; cid = n }) ∷ [])
 IsEntry bf_char tokens declared rest = (a d : Token) × (code units : List ℕ) × (tokens ≡ a ∷ d ∷ rest) × IsCode a code × IsDestination d units × (declared ≡ declares_bf (big_endian code) (big_endian code) units ∷ [])
@@ -77,11 +77,11 @@ abbrev pub AreEntries : Section → List Token → List (List Declaration) → L
 AreEntries section tokens [] rest = tokens ≡ Token.Name false (codes "end" ++ section_name section) ∷ rest
 AreEntries section tokens (declared ∷ others) rest = (mid : List Token) × IsEntry section tokens declared mid × AreEntries section mid others rest
 
--- what the tokens of a file are read as
+-- an item of a file, read from one or more tokens
 pub data Item : Type 0 where
   -- a key, and its value unless the file ends
   key : List ℕ → Option Token → Item
-  -- a section, by what it declares
+  -- a section, by its declarations
   entries : List Declaration → Item
   use_of_base : Item
   other : Token → Item
@@ -94,7 +94,7 @@ IsKey t = (k : List ℕ) × Contains keys k × (t ≡ Token.Name true k)
 abbrev pub Opens : Token → Section → Type 0
 Opens t section = t ≡ Token.Name false (codes "begin" ++ section_name section)
 
--- a token that is an item by itself: no key, no use, and none that opens a section
+-- a token that is an item by itself: no key, no use, and no opener of a section
 abbrev pub IsOtherToken : Token → Type 0
 IsOtherToken t = ((k : List ℕ) → Contains keys k → t ≢ Token.Name true k) × ((section : Section) → t ≢ Token.Name false (codes "begin" ++ section_name section)) × (t ≢ Token.Name false (codes "usecmap"))
 
@@ -106,7 +106,7 @@ IsItem tokens (entries declared) rest = (section : Section) × (body : List Toke
 IsItem tokens use_of_base rest = tokens ≡ Token.Name false (codes "usecmap") ∷ rest
 IsItem tokens (other t) rest = IsOtherToken t × (tokens ≡ t ∷ rest)
 
--- the tokens, item by item
+-- the tokens are these items, one after another
 abbrev pub AreItems : List Token → List Item → Type 0
 AreItems tokens [] = tokens ≡ []
 AreItems tokens (item ∷ items) = (rest : List Token) × IsItem tokens item rest × AreItems rest items
@@ -132,7 +132,7 @@ abbrev pub value_under : List ℕ → Item → Option (Option Token)
 value_under name (key k value) = if bytes_eq k name then Some value else None
 value_under name _ = None
 
--- the value of the last item with this key; none where that item has none
+-- the value of the last item with this key; None if that item has no value, or if there is no such item
 abbrev pub last_value : List ℕ → List Item → Option Token
 last_value name items = option_and_then (λ value. value) (last_or None (filter_map (value_under name) items))
 
@@ -142,7 +142,7 @@ GivesText (Some (Token.Name literal bytes)) text = text ≡ Some bytes
 GivesText (Some (Token.String piece)) text = (value : List ℕ) × IsValue piece value × (text ≡ Some value)
 GivesText _ text = text ≡ None
 
--- a supplement has 32 bits with sign
+-- a supplement is a signed 32-bit integer
 abbrev pub supplement_in : Option Token → Option ℤ
 supplement_in (Some (Token.Numeral (Number.Integer n))) = if int_le (neg_ℤ (pos (2 ^ 31))) n && int_le n (pos (2 ^ 31 - 1)) then Some n else None
 supplement_in _ = None
@@ -155,7 +155,7 @@ abbrev pub mode_in : Option Token → Option Mode
 mode_in (Some (Token.Numeral (Number.Integer (pos n)))) = mode_numbered n
 mode_in _ = None
 
--- present only where all its parts are
+-- the character collection of these parts; None unless all parts are present
 abbrev pub collection_of : Option (List ℕ) → Option (List ℕ) → Option ℤ → Option Collection
 collection_of registry ordering supplement = option_and_then (λ r. option_and_then (λ o. option_map (λ s. record { family = family_of r o; supplement = s }) supplement) ordering) registry
 
@@ -163,12 +163,12 @@ collection_of registry ordering supplement = option_and_then (λ r. option_and_t
 abbrev pub IsCollection : Option Token → Option Token → Option Token → Option Collection → Type 0
 IsCollection registry ordering supplement collection = (r o : Option (List ℕ)) × GivesText registry r × GivesText ordering o × (collection ≡ collection_of r o (supplement_in supplement))
 
--- what the items say of the file
+-- the metadata that the items state
 abbrev pub IsMetadata : List Item → FileMetadata → Type 0
 IsMetadata items metadata = IsCollection (last_value (codes "Registry") items) (last_value (codes "Ordering") items) (last_value (codes "Supplement") items) metadata.collection
     × (metadata.name ≡ name_in (last_value (codes "CMapName") items)) × (metadata.mode ≡ mode_in (last_value (codes "WMode") items))
 
--- the bytes are a text that says what the file says
+-- the bytes are a text with the content of the file
 unfoldable pub IsTextFile : List ℕ → File → Type 0
 IsTextFile bytes file = (tokens : List Token) × (items : List Item) × Tokens bytes tokens × AreItems tokens items
     × (names_used None items ≡ Some file.uses) × IsMetadata items file.metadata × (file.lists ≡ lists_of (flat_map declared_by items))

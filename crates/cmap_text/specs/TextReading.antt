@@ -1,4 +1,4 @@
--- How the tokens of a text are read, and what they are read as, or which token is wrong and why. What a file means is said by TextFiles alone.
+-- The reading of the tokens of a text: the values of the tokens, or the wrong token and the reason. TextFiles alone defines the meaning of a file.
 use Rattle.std.specs.Prelude.{◌≡◌, ℕ, zero, suc, ◌+◌, ◌-◌, ◌^◌, ◌==◌, ◌&&◌, nat_lt, nat_le, pos, Bool, true, false, List, [], ◌∷◌, ◌++◌, length, codes, bytes_eq, find, Option, Some, None, option_map, option_and_then, is_some, min, Result, Err, if◌then◌else◌}
 use Rattle.cmap_values.specs.BigEndian.{big_endian}
 use Rattle.cmap_tokens.specs.Numbers.{Number}
@@ -25,7 +25,7 @@ abbrev pub value_in : Token → Option (List ℕ)
 value_in (Token.String piece) = string_value piece
 value_in _ = None
 
--- a code, by the number of its bytes and the number that they write
+-- a code: the number of its bytes, and the number that the bytes write
 pub record Code : Type 0 where
   pub len : ℕ
   pub number : ℕ
@@ -64,11 +64,11 @@ next_destination = head (λ t. TextExpected) destination_in
 abbrev pub adding : Lists → List Declaration → Lists
 adding lists declared = append_lists lists (lists_of declared)
 
--- what the codes from the first of an entry on have, filed by its length
+-- the CIDs of the codes from the first code of an entry on, filed by the length of the first code
 abbrev pub filed : Code → ℕ → ℕ → ℕ × CidEntry
 filed start end cid = (start.len, record { start = start.number; end = end; cid = cid })
 
--- after the first code: a code and a CID, or a CID
+-- the rest of an entry of CIDs after the first code: a code and a CID, or a CID
 abbrev pub cids_after : Extent → Code → Parser (ℕ × CidEntry)
 cids_after range start = chain next_code (λ end. giving (filed start end.number) next_cid)
 cids_after single start = giving (filed start start.number) next_cid
@@ -88,12 +88,12 @@ codespace_fault t = if is_some (code_in t) then UnequalLengths else code_fault t
 abbrev pub text_of : ℕ → ℕ → List ℕ → List Declaration
 text_of start end units = declares_bf start end units ∷ []
 
--- a destination for each of count codes from this one on, and the ] after them
+-- a destination for each of count codes from start on, and the ] after the destinations
 unfoldable pub list_in : ℕ → ℕ → Lists → Parser Lists
 list_in zero start lists = head (λ t. BracketExpected) (λ t. if is_executable (codes "]") t then Some lists else None)
 list_in (suc count) start lists = chain next_destination (λ units. list_in count (start + 1) (adding lists (text_of start start units)))
 
--- one destination, or none at the [ of a list of them
+-- one destination, or None at the [ of a list of destinations
 abbrev pub list_or_destination : Token → Option (Option (List ℕ))
 list_or_destination t = if is_executable (codes "[") t then Some None else option_map Some (destination_in t)
 
@@ -101,7 +101,7 @@ abbrev pub texts_from : ℕ → ℕ → Lists → Option (List ℕ) → Parser L
 texts_from start end lists None = list_in (end + 1 - start) start lists
 texts_from start end lists (Some units) = done (adding lists (text_of start end units))
 
--- what comes after the first code of an entry
+-- the rest of an entry after its first code
 abbrev pub entry_after : Section → Code → Lists → Parser Lists
 entry_after codespace_range start lists = giving (adding lists) (head codespace_fault (codespace_to start))
 entry_after (cids kind extent) start lists = giving (λ p. adding lists (declares_cid kind p.0 p.1 ∷ [])) (cids_after extent start)
@@ -126,7 +126,7 @@ use_word = codes "usecmap"
 abbrev pub opener : Section → List ℕ
 opener section = codes "begin" ++ section_name section
 
--- the section that a token opens
+-- all sections, in the order of the search for the section that a token opens
 abbrev pub sections : List Section
 sections = cids mapped range ∷ cids mapped single ∷ bf_range ∷ bf_char ∷ cids notdef range ∷ cids notdef single ∷ codespace_range ∷ []
 
@@ -142,7 +142,7 @@ abbrev pub key_in : Token → Option (List ℕ)
 key_in (Token.Name true name) = key_named name
 key_in _ = None
 
--- the values of the keys, where they have one
+-- the values of the keys; None for a key without a value
 pub record Values : Type 0 where
   pub registry : Option Token
   pub ordering : Option Token
@@ -159,11 +159,11 @@ last_values items = record {
   mode = last_value (codes "WMode") items;
 }
 
--- what values say of the file
+-- the metadata that values state
 abbrev pub AreSaid : Values → FileMetadata → Type 0
 AreSaid values metadata = IsCollection values.registry values.ordering values.supplement metadata.collection × (metadata.name ≡ name_in values.name) × (metadata.mode ≡ mode_in values.mode)
 
--- what items say, as far as they are read
+-- the content of the items that are read so far
 pub record Said : Type 0 where
   pub values : Values
   pub lists : Lists
@@ -177,7 +177,7 @@ no_values = record { registry = None; ordering = None; supplement = None; name =
 abbrev pub nothing_said : Said
 nothing_said = record { values = no_values; lists = no_lists; uses = []; operand = None }
 
--- the value of this key is that one
+-- the values after this key gets this value
 abbrev pub with_value : Values → List ℕ → Option Token → Values
 with_value values k value = record {
   registry = if bytes_eq k (codes "Registry") then value else values.registry;
@@ -187,7 +187,7 @@ with_value values k value = record {
   mode = if bytes_eq k (codes "WMode") then value else values.mode;
 }
 
--- what is said with one item more: a key, a section, a use of this file, or another token
+-- the content with one more item: a key, a section, a use of this file, or another token
 abbrev pub with_key : Said → List ℕ → Option Token → Said
 with_key old k value = record { values = with_value old.values k value; lists = old.lists; uses = old.uses; operand = Some k }
 
@@ -200,7 +200,7 @@ with_use old name = record { values = old.values; lists = old.lists; uses = old.
 abbrev pub with_other : Said → Token → Said
 with_other old t = record { values = old.values; lists = old.lists; uses = old.uses; operand = literal_head (other t) }
 
--- what is said after the item that begins with this token; a use needs an operand
+-- the content after the item that begins with this token; a use needs an operand
 abbrev pub item_after : Said → Token → ItemParser Said
 item_after old t = elim (opened_by t) [
   | Some section ↦ reads (giving (with_lists old) (body_in section old.lists))
@@ -213,14 +213,14 @@ item_after old t = elim (opened_by t) [
 abbrev pub item_said : Said → Token → Left → Found Said
 item_said old t left = run_item t (item_after old t) left
 
--- what is said after all the items that are left
+-- the content after all the items that are left
 unfoldable pub all_said : Said → Left → Found Said
 all_said old left = repeated next_in item_said old left
 
--- a text of this length is refused where nothing is found, for that reason
+-- nothing is found, and a text of this length is refused there, for that reason
 abbrev pub StopsAt : {A : Type 0} → ℕ → Result A Refused → Stop → Type 0
 StopsAt len found stop = (e : Refused) × (found ≡ Err e) × (stop.offset ≡ min (offset_of e) len) × (stop.reason ≡ e.reason)
 
--- the text is refused here: at its first token that can't stand where it does, or where no token comes, and for that reason
+-- the text is refused at its first token that can't stand at its place, or where no token comes, and for that reason
 abbrev pub StopsText : List ℕ → Stop → Type 0
 StopsText text stop = StopsAt (length text) (all_said nothing_said (tokens_of (start_of text))) stop

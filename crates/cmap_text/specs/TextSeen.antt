@@ -1,4 +1,4 @@
--- What contracts see of what the code reads from a text.
+-- What contracts see of the values that the code reads from a text.
 use Rattle.std.specs.Prelude.{ℕ, List, codes, option_map}
 use Rattle.std.specs.Option.{option_copied}
 use Rattle.cmap_tokens.specs.TokenSeen.{token_seen}

@@ -1,5 +1,5 @@
-//! The entries of sections. Each call here has the first code of an entry, reads what follows it, and
-//! adds what the entry declares.
+//! The entries of sections. The calls here read an entry, or the rest of an entry after its first code,
+//! and add what the entry declares.
 
 ghost use Rattle.std.specs.Prelude.{◌≡◌, ℕ, ◌+◌, ◌-◌, List, Ok, Some, IfErr, IfOk, MatchOption, OnOk};
 ghost use Rattle.cmap_values.specs.CodeLengths.{length_of};
@@ -31,7 +31,8 @@ use cmap_values::names::Cid;
 use cmap_values::range::Range;
 use cmap_values::units::Units;
 
-/// Which CIDs an entry declares: those of its codes, or the fallback CID of codes that have no other.
+/// The kind of CIDs that an entry declares: the CIDs of its codes, or the fallback CID of codes that
+/// have no other.
 #[derive(Clone, Copy)]
 pub enum CidKind {
     Cid,
@@ -45,7 +46,7 @@ pub enum Extent {
     Single,
 }
 
-/// code, code of the same length
+/// Reads the rest of a codespace range, a code of the same length, and adds the range.
 pub(crate) fn add_codespace_range(
     reader: &mut TokenReader<'_>,
     low: Code,
@@ -67,7 +68,7 @@ pub(crate) fn add_codespace_range(
     Ok(())
 }
 
-/// One entry of CIDs or of notdef CIDs.
+/// Reads the rest of an entry of CIDs or of notdef CIDs, and adds its declaration.
 #[inline(always)]
 pub(crate) fn add_cids(
     reader: &mut TokenReader<'_>,
@@ -89,8 +90,8 @@ pub(crate) fn add_cids(
     Ok(())
 }
 
-/// An entry of CIDs whose codes have two bytes, where all of it stands as most do. `false` of any other
-/// tokens, leaving the reader in place.
+/// Reads an entry of CIDs whose codes have two bytes, if the whole entry has the most common form, and
+/// adds its declaration. For any other tokens the answer is `false` and the reader stays in place.
 #[inline(always)]
 pub(crate) fn add_plain_cids(
     reader: &mut TokenReader<'_>,
@@ -108,8 +109,8 @@ pub(crate) fn add_plain_cids(
     Ok(true)
 }
 
-/// The text of a single code, where both have two bytes and stand as most do. `false` of any other
-/// tokens, leaving the reader in place.
+/// Reads a single code and its text, if both have two bytes and the most common form, and adds the text.
+/// For any other tokens the answer is `false` and the reader stays in place.
 #[inline(always)]
 pub(crate) fn add_plain_text(
     reader: &mut TokenReader<'_>,
@@ -125,8 +126,8 @@ pub(crate) fn add_plain_text(
     Ok(true)
 }
 
-/// The text of a single code, where the code has two bytes and stands as most do. `false` of any other
-/// code or token, leaving the reader in place.
+/// Reads a single code and its text, if the code has two bytes and the most common form, and adds the
+/// text. For any other code or token the answer is `false` and the reader stays in place.
 #[inline(never)]
 pub(crate) fn add_longer_text(
     reader: &mut TokenReader<'_>,
@@ -145,7 +146,7 @@ pub(crate) fn add_longer_text(
     Ok(true)
 }
 
-/// code, destination
+/// Reads the destination of a single code, and adds it.
 #[inline(always)]
 pub(crate) fn add_bf_char(
     reader: &mut TokenReader<'_>,
@@ -160,7 +161,8 @@ pub(crate) fn add_bf_char(
     add_text(lists, code.number, code.number, units)
 }
 
-/// code, code, and one destination or a list of them
+/// Reads the rest of a range of texts, its last code and one destination or a list of destinations, and
+/// adds the texts.
 pub(crate) fn add_bf_range(
     reader: &mut TokenReader<'_>,
     start: Code,
@@ -180,8 +182,8 @@ pub(crate) fn add_bf_range(
     }
 }
 
-/// Adds the destination that a token is, or those of the list that it opens, of the codes from `start`
-/// to `end`.
+/// Adds the texts of the codes from `start` to `end`: the destination that the token is, or the
+/// destinations of the list that the token opens.
 fn add_texts(
     reader: &mut TokenReader<'_>,
     token: &Token<'_>,
@@ -201,8 +203,8 @@ fn add_texts(
     add_text(lists, start, end, units)
 }
 
-/// One destination for each code from `start` to `end`, and the closing bracket. A list that is refused
-/// adds nothing.
+/// Reads one destination for each code from `start` to `end`, and the closing bracket, and adds the
+/// destinations. A list that is refused adds nothing.
 fn add_list(
     reader: &mut TokenReader<'_>,
     start: u32,
@@ -224,7 +226,8 @@ fn add_list(
     }
 }
 
-/// Adds the destinations of a list, also those before a token that is wrong.
+/// Adds the destinations of a list. If a token is wrong, the destinations before the token are added all
+/// the same.
 fn add_destinations(
     reader: &mut TokenReader<'_>,
     start: u32,
@@ -254,7 +257,8 @@ fn pass_closing_bracket(reader: &mut TokenReader<'_>) -> Result<(), Fault<WrongT
     }
 }
 
-/// Adds the units of the text of the code `start`, of a range that ends with the code `end`.
+/// Adds a declaration of texts for the codes from `start` to `end`, with the units of the text of the
+/// code `start`.
 #[inline(always)]
 fn add_text(lists: &mut Lists, start: u32, end: u32, units: Units) -> Result<(), Fault<WrongToken>>
     ensures adds { OnOk result (lists_seen lists.new ≡ append_lists (lists_seen lists.old)
@@ -266,14 +270,15 @@ fn add_text(lists: &mut Lists, start: u32, end: u32, units: Units) -> Result<(),
     Ok(())
 }
 
-/// A declaration of CIDs, and the length of the codes that it is filed by.
+/// A declaration of CIDs, and the length of codes by which it is filed.
 #[derive(Drop)]
 struct Filed {
     len: CodeLength,
     range: CidRange,
 }
 
-/// What an entry of CIDs declares whose codes have two bytes, where all of it stands as most do.
+/// The declaration of an entry of CIDs whose codes have two bytes, if the whole entry has the most
+/// common form. For any other tokens the answer is `None` and the reader stays in place.
 #[inline(always)]
 fn plain_cids(reader: &mut TokenReader<'_>, extent: Extent) -> Option<Filed>
     ensures { MatchOption result (reader.new ≡ reader.old) (λ filed. (piece : List ℕ) × (start : reading.Code) × (next : Left)
@@ -293,7 +298,8 @@ fn plain_cids(reader: &mut TokenReader<'_>, extent: Extent) -> Option<Filed>
     }
 }
 
-/// The codes from `start` to `end` have CIDs from this one on, and are filed by the length of the first.
+/// The declaration that the codes from `start` to `end` have CIDs from `cid` on, filed by the length of
+/// `start`.
 #[inline(always)]
 fn filed_range(start: Code, end: Code, cid: Cid) -> Filed
     ensures { (length_of result.len, cid_entry_seen result.range)
@@ -309,8 +315,8 @@ fn filed_range(start: Code, end: Code, cid: Cid) -> Filed
     }
 }
 
-/// What an entry of CIDs declares: code, code, CID for a range and code, CID for a single code,
-/// filed by the length of the first code.
+/// Reads the rest of an entry of CIDs after its first code: the last code and the CID of a range, or the
+/// CID of a single code. The declaration is filed by the length of the first code.
 #[inline(always)]
 fn read_cids(
     reader: &mut TokenReader<'_>,

@@ -21,15 +21,15 @@ use cmap_values::file::File;
 use cmap_values::metadata::Metadata;
 use std::alloc::Global;
 
-/// What a text file says.
+/// Reads the content of a text file.
 pub fn read_text<'d>(alloc: Global, text: &'d [u8]) -> Result<File<'d>, Fault<Stop>>
     ensures file { ReadsFile IsTextFile file_seen text.now result }
 
-    // The offset and the reason are those of the token that is wrong.
+    // The stop has the offset and the reason of the wrong token, or of the place where no token comes.
     ensures place { IfErr result (RefusesWith (StopsText text.now)) }
 
-    // Where it is refused before its end, no text is a file that begins with the same bytes, up to and
-    // including the one at this offset.
+    // If the text is refused before its end, no text is a file that begins with the same bytes, up to
+    // and including the byte at this offset.
     ensures decided { IfErr result (RefusesWith (DecidedBy IsTextFile text.now)) }
 {
     let mut said = Said::new(alloc);
@@ -41,7 +41,7 @@ pub fn read_text<'d>(alloc: Global, text: &'d [u8]) -> Result<File<'d>, Fault<St
     })
 }
 
-/// Reads all that a text says, and gives what its keys say of the file.
+/// Reads the content of a text into `said`. The answer is the metadata that the keys state.
 fn read_said<'d>(
     alloc: Global,
     text: &'d [u8],
@@ -62,7 +62,7 @@ fn read_said<'d>(
     }
 }
 
-/// Where a text of `len` bytes is refused, and why.
+/// The offset at which a text of `len` bytes is refused, and the reason.
 pub(crate) fn stop_of(reader: &TokenReader<'_>, wrong: WrongToken, len: usize) -> Stop
     ensures { (found : Result (reading.Said × Left) Refused)
         → RefusesAt reader.now found wrong → StopsAt len found result }

@@ -20,14 +20,14 @@ use cmap_values::declarations::Lists;
 use cmap_values::fault::{Fault, Reason};
 use std::alloc::Global;
 
-/// What items say, as far as they are read.
+/// The content of the items that are read so far.
 #[derive(Drop)]
 pub(crate) struct Said<'d> {
     pub(crate) values: Values<'d>,
     pub(crate) lists: Lists,
     /// The names of the files that are used.
     pub(crate) uses: Vec<&'d [u8]>,
-    /// The literal name that the last item begins with, which a use takes.
+    /// The literal name that the last item begins with. A use takes it as its operand.
     pub(crate) operand: Option<&'d [u8]>,
 }
 
@@ -76,7 +76,7 @@ pub(crate) fn read_items<'d>(
     }
 }
 
-/// Reads what follows the first token of an item.
+/// Reads the rest of an item after its first token.
 pub(crate) fn read_item<'d>(
     reader: &mut TokenReader<'d>,
     first: &Token<'d>,
@@ -85,7 +85,7 @@ pub(crate) fn read_item<'d>(
     ensures reads { ReadsAs (item_said (said_seen said.old) (token_seen first.now) reader.old)
         (λ done. (said_seen said.new, reader.new)) reader.new result }
 
-    // An item at fault says no more than its first token by itself, but a section keeps its entries.
+    // An item at fault adds no more than its first token by itself, but a section keeps its entries.
     ensures fault { WhereRefused (opened_by (token_seen first.now) ≡ None
         → said_seen said.new ≡ with_other (said_seen said.old) (token_seen first.now)) result }
 {

@@ -14,7 +14,7 @@ use cmap_values::metadata::Metadata;
 use cmap_values::writing_mode::WritingMode;
 use std::alloc::{AllocError, Global};
 
-/// The keys of what a file states about itself.
+/// The keys of the metadata of a file.
 #[derive(Clone, Copy)]
 pub(crate) enum Key {
     Registry,
@@ -69,7 +69,8 @@ pub fn is_key_name(name: &[u8]) -> bool
     Key::named(name).is_some()
 }
 
-/// The last value of each key; it is absent where there is no key, and after a key that ends the file.
+/// The last value of each key. The value is `None` if there is no such key, or if the last such key
+/// ends the file.
 #[derive(Clone, Copy)]
 pub(crate) struct Values<'d> {
     registry: Option<Token<'d>>,
@@ -93,7 +94,7 @@ impl<'d> Values<'d> {
         }
     }
 
-    /// The key has this value from now on.
+    /// Sets the value of the key.
     pub(crate) fn set(&mut self, key: Key, value: Option<Token<'d>>)
         ensures { values_seen self.new
             ≡ with_value (values_seen self.old) (key_name key) (option_map token_seen value.entry) }
@@ -107,7 +108,7 @@ impl<'d> Values<'d> {
         }
     }
 
-    /// What the values say of the file.
+    /// The metadata that the values state.
     pub(crate) fn metadata(&self, alloc: Global) -> Result<Metadata, AllocError>
         ensures { IfOk result
             (λ metadata. IsOnly (AreSaid (values_seen self.now)) (metadata_seen metadata)) }
@@ -119,7 +120,7 @@ impl<'d> Values<'d> {
         })
     }
 
-    /// The character collection; `None` unless all its parts are there.
+    /// The character collection; `None` unless all its parts are present.
     fn character_collection(&self, alloc: Global) -> Result<Option<CharacterCollection>, AllocError>
         ensures { let values = values_seen self.now in IfOk result (λ found.
             IsOnly (IsCollection values.registry values.ordering values.supplement)
@@ -131,7 +132,7 @@ impl<'d> Values<'d> {
     }
 }
 
-/// The character collection of these parts; `None` unless all are there.
+/// The character collection of these parts; `None` unless all parts are present.
 fn collection_of(
     alloc: Global,
     registry: Option<Vec<u8>>,
@@ -151,7 +152,7 @@ fn collection_of(
     }
 }
 
-/// The text of a registry or an ordering: what a string stands for, or the bytes of a name.
+/// The text of a registry or an ordering: the bytes that a string stands for, or the bytes of a name.
 fn text_of(alloc: Global, value: Option<Token<'_>>) -> Result<Option<Vec<u8>>, AllocError>
     ensures { IfOk result (λ text. IsOnly (GivesText (option_map token_seen value.entry))
         (option_map (λ bytes. bytes.items) text)) }
@@ -166,7 +167,7 @@ fn text_of(alloc: Global, value: Option<Token<'_>>) -> Result<Option<Vec<u8>>, A
     }
 }
 
-/// The number of a supplement, an integer of 32 bits with sign.
+/// The number of a supplement, a signed 32-bit integer.
 fn supplement_of(value: Option<Token<'_>>) -> Option<i32>
     ensures { result ≡ supplement_in (option_map token_seen value.entry) }
 {
@@ -176,7 +177,7 @@ fn supplement_of(value: Option<Token<'_>>) -> Option<i32>
     }
 }
 
-/// The name of the file, which is a name.
+/// The name of the file, if the value is a name.
 fn name_of(alloc: Global, value: Option<Token<'_>>) -> Result<Option<Vec<u8>>, AllocError>
     ensures { IfOk result (λ name. option_map (λ bytes. bytes.items) name
         ≡ name_in (option_map token_seen value.entry)) }

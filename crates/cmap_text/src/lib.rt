@@ -1,4 +1,5 @@
-//! CMap files as text: tokens, entries, sections and items, to what the file says.
+//! CMap files as text: the reading of tokens, entries, sections and items, up to the content of the
+//! file.
 #![tactic(auto)]
 
 mod entries;

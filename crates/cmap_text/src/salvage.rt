@@ -1,4 +1,4 @@
-//! What a text says apart from its faults.
+//! The content of a text apart from its faults.
 
 ghost use Rattle.std.specs.Prelude.{◌≡◌, [], length, IfOk, OnOk};
 ghost use Rattle.std.specs.Option.{option_copied};
@@ -39,27 +39,27 @@ use cmap_values::file::{File, Salvaged};
 use cmap_values::metadata::Metadata;
 use std::alloc::{AllocError, Global};
 
-/// What a text says apart from its faults, and the faults.
+/// Reads the content of a text apart from its faults, and the faults.
 ///
 /// It fails only if memory runs out.
 pub fn salvage_text<'d>(alloc: Global, text: &'d [u8]) -> Result<Salvaged<'d>, AllocError>
     ensures says { IfOk result
         (λ found. SalvagesFile text.now (file_seen found.file) found.faults.items) }
 
-    // It says nothing else, and has no other faults.
+    // The text has no other content, and no other faults.
     ensures only { IfOk result
         (λ found. SalvagesNoOther text.now (file_seen found.file) found.faults.items) }
 
-    // Of a file it gives just that, and no fault.
+    // If the text is a file, the answer is exactly this file, without faults.
     ensures file { IfOk result (λ found. (file : files.File) → IsTextFile text.now file
         → (file_seen found.file ≡ file) × (found.faults.items ≡ [])) }
 
-    // The first fault of another text is the one that `read_text` reports, or one before it if the text is
-    // in rows.
+    // If the text isn't a file, its first fault is the fault that `read_text` reports, or perhaps an earlier fault
+    // if the text is in rows.
     ensures first { IfOk result (λ found. HoldsOfNone (IsTextFile text.now)
         → BeginsRefused text.now found.faults.items) }
 
-    // What is said before the first fault comes first in what is given.
+    // The content before the first fault comes first in the answer.
     ensures kept { IfOk result (λ found. KeepsFronts text.now found.faults.items
         (lists_seen found.file.lists) (file_seen found.file).uses) }
 
@@ -81,7 +81,7 @@ pub fn salvage_text<'d>(alloc: Global, text: &'d [u8]) -> Result<Salvaged<'d>, A
     })
 }
 
-/// What is found in a text, as far as its pieces are read.
+/// The content and the faults that are found in the pieces of a text so far.
 #[derive(Drop)]
 struct Found<'d> {
     said: Said<'d>,
@@ -100,7 +100,8 @@ impl<'d> Found<'d> {
         }
     }
 
-    /// What is found in a text, which is read once more if it has a fault and its lines are rows.
+    /// The content and the faults of a text. The text is read once more, in rows, if it has a fault and its lines
+    /// are rows.
     fn of(alloc: Global, text: &'d [u8]) -> Result<Self, AllocError>
         ensures { IfOk result (λ found. found_seen found ≡ salvage.salvaged text.now) }
     {
@@ -186,7 +187,7 @@ impl<'d> Found<'d> {
         }
     }
 
-    /// Ends an entry that is short. The piece after it begins a line with this number of parts.
+    /// Ends an entry if it is short. The piece begins a line with this number of parts.
     fn end_short(&mut self, piece: &Piece<'d>, entry: Entry, parts: u8) -> Result<State, AllocError>
         ensures { IfOk result (λ then. (state_seen then, found_seen self.new)
             ≡ salvage.begin_line parts (salvage.in_entry (entry_seen entry), found_seen self.old) (piece_seen piece.now)) }
@@ -201,7 +202,7 @@ impl<'d> Found<'d> {
         Ok(State::entry(entry.section))
     }
 
-    /// Takes a piece of an entry. A name that isn't known leaves the place to be filled.
+    /// Takes a piece of an entry. An unknown name fills no place.
     fn take_unless_stray(&mut self, piece: &Piece<'d>, entry: Entry) -> Result<State, AllocError>
         ensures { IfOk result (λ then. (state_seen then, found_seen self.new)
             ≡ salvage.take_unless_stray (salvage.in_entry (entry_seen entry), found_seen self.old) (piece_seen piece.now)) }
@@ -229,7 +230,7 @@ impl<'d> Found<'d> {
         }
     }
 
-    /// At the end of a text of `len` bytes.
+    /// Ends the reading, at the end of a text of `len` bytes.
     fn finish(&mut self, len: usize, state: State) -> Result<(), AllocError>
         ensures { OnOk result (found_seen self.new ≡ salvage.finished len (state_seen state, found_seen self.old)) }
     {
@@ -292,7 +293,7 @@ impl<'d> Found<'d> {
         Ok(State::Item)
     }
 
-    /// Takes a piece where the value of a key has to stand.
+    /// Takes a piece in the place of the value of a key.
     fn take_value(&mut self, piece: &Piece<'d>, key: Key) -> Result<State, AllocError>
         ensures { IfOk result (λ state. (state_seen state, found_seen self.new)
             ≡ salvage.take_value (found_seen self.old) (key_name key) (piece_seen piece.now)) }
@@ -312,7 +313,7 @@ impl<'d> Found<'d> {
         }
     }
 
-    /// Takes a piece of an entry at fault, from the one at fault on.
+    /// Takes a piece of an entry at fault, from the piece at fault on.
     fn pass_in_entry(&mut self, piece: &Piece<'d>, rest: AtFault) -> Result<State, AllocError>
         ensures { IfOk result (λ state. (state_seen state, found_seen self.new)
             ≡ salvage.pass_in_entry (found_seen self.old) (rest_seen rest) (piece_seen piece.now)) }

@@ -42,7 +42,8 @@ impl Section {
         }
     }
 
-    /// The section that an executable name opens. The first byte of most names shows that they open none.
+    /// The section that an executable name opens. The first byte of most names shows that the name opens
+    /// no section.
     fn named(name: &[u8]) -> Option<Section>
         ensures { option_map section_seen result ≡ opened_by (Name false name.now) }
     {
@@ -52,7 +53,7 @@ impl Section {
         }
     }
 
-    /// The same, by all bytes of the name.
+    /// The section that an executable name opens, by all bytes of the name.
     fn of_opener(name: &[u8]) -> Option<Section>
         ensures { option_map section_seen result ≡ opened_by (Name false name.now) }
     {
@@ -75,7 +76,7 @@ impl Section {
         }
     }
 
-    /// The name that opens it.
+    /// The name that opens the section.
     pub fn opener(self) -> &'static [u8]
         ensures { result.now ≡ opener (section_seen self) }
     {
@@ -90,7 +91,7 @@ impl Section {
         }
     }
 
-    /// The name that closes it.
+    /// The name that closes the section.
     pub fn closer(self) -> &'static [u8]
         ensures { result.now ≡ closer (section_seen self) }
     {
@@ -113,8 +114,8 @@ pub fn opened_section(opener: &Token<'_>) -> Option<Section>
     Section::opened_by(opener)
 }
 
-/// Reads the entries of a section and its closer. The kinds that most entries are of have loops of
-/// their own.
+/// Reads the entries of a section and its closer. The kinds of sections with the most entries have loops
+/// of their own.
 pub(crate) fn read_section(
     reader: &mut TokenReader<'_>,
     section: Section,
@@ -173,7 +174,7 @@ fn read_entries(
     }
 }
 
-/// Reads the entries of a section that stand as most do, up to one that doesn't.
+/// Reads the entries of a section that have the most common form, up to an entry of another form.
 #[inline(always)]
 fn read_plain_entries(
     reader: &mut TokenReader<'_>,
@@ -194,7 +195,8 @@ fn read_plain_entries(
     }
 }
 
-/// Reads the entries of a section of ranges of CIDs that stand as most do, up to one that doesn't.
+/// Reads the entries of a section of ranges of CIDs that have the most common form, up to an entry of
+/// another form.
 #[inline(never)]
 fn read_plain_cid_ranges(
     reader: &mut TokenReader<'_>,
@@ -206,7 +208,8 @@ fn read_plain_cid_ranges(
     read_plain_cids(reader, Extent::Range, lists)
 }
 
-/// Reads the entries of a section of single CIDs that stand as most do, up to one that doesn't.
+/// Reads the entries of a section of single CIDs that have the most common form, up to an entry of another
+/// form.
 #[inline(never)]
 fn read_plain_single_cids(
     reader: &mut TokenReader<'_>,
@@ -218,7 +221,7 @@ fn read_plain_single_cids(
     read_plain_cids(reader, Extent::Single, lists)
 }
 
-/// Reads the entries of a section of CIDs that stand as most do, up to one that doesn't.
+/// Reads the entries of a section of CIDs that have the most common form, up to an entry of another form.
 #[inline(always)]
 fn read_plain_cids(
     reader: &mut TokenReader<'_>,
@@ -232,7 +235,8 @@ fn read_plain_cids(
     Ok(())
 }
 
-/// Reads the entries of a section of texts of single codes that stand as most do, up to one that doesn't.
+/// Reads the entries of a section of texts of single codes that have the most common form, up to an entry
+/// of another form.
 #[inline(never)]
 fn read_plain_texts(
     reader: &mut TokenReader<'_>,
@@ -249,7 +253,7 @@ fn read_plain_texts(
     }
 }
 
-/// Reads those of texts of one unit, up to another entry.
+/// Reads the entries with texts of one unit, up to another entry.
 #[inline(always)]
 fn read_short_texts(
     reader: &mut TokenReader<'_>,
@@ -276,13 +280,13 @@ pub(crate) fn next_start(
     }
     match reader.required_token() {
         Ok(token) => code_or_closer(reader, &token, section),
-        // By `?` a file takes up to 2 % more instructions.
+        // With `?` the reading of a file takes up to 2 % more instructions.
         Err(fault) => Err(fault),
     }
 }
 
-/// The code that the next entry begins with, where it stands as most do; `None` of any other token. Before
-/// an entry of CIDs most codes of two bytes are read already.
+/// The code that the next entry begins with, if the code has the most common form; `None` for any other
+/// token. Before an entry of CIDs most codes of two bytes are read already.
 #[inline(always)]
 fn plain_start(reader: &mut TokenReader<'_>, section: Section) -> Option<Code>
     ensures { MatchOption result (reader.new ≡ reader.old) (λ code. (piece : List ℕ)
@@ -295,7 +299,7 @@ fn plain_start(reader: &mut TokenReader<'_>, section: Section) -> Option<Code>
     }
 }
 
-/// The code that a token is, of those that an entry of a section begins with; `None` of the closer.
+/// The code that a token is, at the start of an entry of a section; `None` for the closer of the section.
 fn code_or_closer(
     reader: &mut TokenReader<'_>,
     token: &Token<'_>,
@@ -310,7 +314,7 @@ fn code_or_closer(
     reader.code(token).map(Some)
 }
 
-/// Reads what follows the first code of an entry, and adds what the entry declares.
+/// Reads the rest of an entry after its first code, and adds what the entry declares.
 #[inline(always)]
 pub(crate) fn read_entry(
     reader: &mut TokenReader<'_>,

@@ -1,4 +1,4 @@
-//! The tokens of a text in order, and what single tokens stand for.
+//! The tokens of a text in order, and the values of single tokens.
 
 ghost use Rattle.std.specs.Prelude.{◌≡◌, ◌+◌, ◌%◌, ◌++◌, ◌<◌, ◌≤◌, ◌^◌, ℕ, List, [], ◌∷◌, bytes_eq, length, min, pos, Ok, Some, IfOk, MatchOption, option_and_then, option_map};
 ghost use Rattle.std.specs.Int.Digits.{number_from_digits};
@@ -29,7 +29,7 @@ use cmap_values::units::Units;
 use std::alloc::{AllocError, Global};
 use std::marker::Model;
 
-/// A code, and how many bytes it has.
+/// A code: its length in bytes, and its number.
 #[derive(Clone, Copy)]
 pub(crate) struct Code {
     pub(crate) len: CodeLength,
@@ -43,7 +43,7 @@ pub(crate) struct TokenReader<'d> {
     decoder: Decoder,
 }
 
-// A clause sees what is left of it.
+// Contracts see the tokens that are left of the text.
 impl<'d> Model for TokenReader<'d> {
     ghost use Rattle.cmap_tokens.specs.TokensLeft.{Left, tokens_of};
 
@@ -72,7 +72,7 @@ impl<'d> TokenReader<'d> {
         }
     }
 
-    /// The next token, which a section needs.
+    /// The next token, within a section. The end of the text is refused.
     pub(crate) fn required_token(&mut self) -> Result<Token<'d>, Fault<WrongToken>>
         ensures { ReadsAs (token_in self.old) (λ token. (token_seen token, self.new)) self.new result }
     {
@@ -95,13 +95,14 @@ impl<'d> TokenReader<'d> {
         }
     }
 
-    /// Whether a code of two bytes may come next that stands as most do.
+    /// Whether a code of two bytes in the most common form may come next.
     #[inline(always)]
     pub(crate) fn may_have_two_byte_code(&self) -> bool {
         self.scanner.may_have_two_bytes()
     }
 
-    /// The code of two bytes that comes next, where it stands as most do; `None` of any other token.
+    /// The code of two bytes that comes next, if the code has the most common form; `None` for any other
+    /// token.
     #[inline(always)]
     pub(crate) fn two_byte_code(&mut self) -> Option<Code>
         ensures { MatchOption result (self.new ≡ self.old) (λ code. (piece : List ℕ)
@@ -112,8 +113,8 @@ impl<'d> TokenReader<'d> {
         Some(two_byte_code(number))
     }
 
-    /// The code of two bytes and the CID that come next, where both stand as most do; `None` of any other
-    /// tokens.
+    /// The code of two bytes and the CID that come next, if both have the most common form; `None` for any
+    /// other tokens.
     #[inline(always)]
     pub(crate) fn two_byte_code_and_cid(&mut self) -> Option<(Code, Cid)>
         ensures { MatchOption result (self.new ≡ self.old) (λ found. (piece : List ℕ) × (between : Left)
@@ -125,8 +126,8 @@ impl<'d> TokenReader<'d> {
         Some((two_byte_code(number), cid as u32))
     }
 
-    /// The two codes of two bytes and the CID that come next, where all stand as most do; `None` of any
-    /// other tokens.
+    /// The two codes of two bytes and the CID that come next, if all have the most common form; `None` for
+    /// any other tokens.
     #[inline(always)]
     pub(crate) fn two_byte_range_and_cid(&mut self) -> Option<(Code, Code, Cid)>
         ensures { MatchOption result (self.new ≡ self.old) (λ found. (low high : List ℕ) × (first second : Left)
@@ -142,8 +143,8 @@ impl<'d> TokenReader<'d> {
         Some((start, end, cid as u32))
     }
 
-    /// The code of two bytes and the destination of two bytes that come next, where both stand as most do;
-    /// `None` of any other tokens.
+    /// The code of two bytes and the destination of two bytes that come next, if both have the most common
+    /// form; `None` for any other tokens.
     #[inline(always)]
     pub(crate) fn two_byte_code_and_unit(&mut self) -> Option<(Code, u16)>
         ensures { MatchOption result (self.new ≡ self.old) (λ found. (piece text : List ℕ) × (between : Left)
@@ -156,7 +157,7 @@ impl<'d> TokenReader<'d> {
         Some((two_byte_code(number), unit))
     }
 
-    /// The code that comes next, where it stands as most do; `None` of any other token.
+    /// The code that comes next, if the code has the most common form; `None` for any other token.
     #[inline(always)]
     pub(crate) fn plain_code(&mut self) -> Option<Code>
         ensures { MatchOption result (self.new ≡ self.old) (λ code. (piece : List ℕ)
@@ -169,8 +170,8 @@ impl<'d> TokenReader<'d> {
         self.short_code()
     }
 
-    /// The code of any length that comes next, where its digits stand as most do; `None` of any other
-    /// token.
+    /// The code of any length that comes next, if its digits have the most common form; `None` for any
+    /// other token.
     #[inline(never)]
     pub(crate) fn short_code(&mut self) -> Option<Code>
         ensures { MatchOption result (self.new ≡ self.old) (λ code. (piece : List ℕ)
@@ -192,7 +193,7 @@ impl<'d> TokenReader<'d> {
         }
         match self.required_token() {
             Ok(token) => self.code(&token),
-            // By `?` a file takes up to 2 % more instructions.
+            // With `?` the reading of a file takes up to 2 % more instructions.
             Err(fault) => Err(fault),
         }
     }
@@ -209,8 +210,8 @@ impl<'d> TokenReader<'d> {
         }
     }
 
-    /// The units of the destination that comes next, where it stands as most do; `None` of any other
-    /// token.
+    /// The units of the destination that comes next, if the destination has the most common form; `None`
+    /// for any other token.
     #[inline(never)]
     pub(crate) fn plain_destination(&mut self) -> Option<Units>
         ensures { MatchOption result (self.new ≡ self.old) (λ units. (piece : List ℕ)
@@ -223,7 +224,7 @@ impl<'d> TokenReader<'d> {
         self.longer_destination()
     }
 
-    /// The same, of a destination that `next_two_bytes` doesn't read.
+    /// The answer of `plain_destination` for a destination that `next_two_bytes` doesn't read.
     #[inline(always)]
     pub(crate) fn longer_destination(&mut self) -> Option<Units>
         ensures { MatchOption result (self.new ≡ self.old) (λ units. (piece : List ℕ)
@@ -248,12 +249,12 @@ impl<'d> TokenReader<'d> {
         }
         match self.required_token() {
             Ok(token) => self.destination(&token),
-            // By `?` a file takes up to 2 % more instructions.
+            // With `?` the reading of a file takes up to 2 % more instructions.
             Err(fault) => Err(fault),
         }
     }
 
-    /// The CID that comes next: an integer of 32 bits without sign.
+    /// The CID that comes next: an unsigned 32-bit integer.
     #[inline(always)]
     pub(crate) fn next_cid(&mut self) -> Result<Cid, Fault<WrongToken>>
         ensures { ReadsAs (run next_cid self.old) (λ cid. (cid, self.new)) self.new result }
@@ -266,7 +267,7 @@ impl<'d> TokenReader<'d> {
         }
         match self.required_token() {
             Ok(token) => cid_of(&token).ok_or(wrong(Reason::CidExpected)),
-            // By `?` a file takes up to 2 % more instructions.
+            // With `?` the reading of a file takes up to 2 % more instructions.
             Err(fault) => Err(fault),
         }
     }
@@ -278,7 +279,7 @@ impl<'d> TokenReader<'d> {
         self.scanner.offset()
     }
 
-    /// The offset of the byte that shows that no token comes next, where none does.
+    /// The offset of the byte that rules out a next token, if no token comes next.
     pub(crate) fn stop(&self) -> usize
         ensures { self.now.tokens ≡ [] → result ≡ self.now.stop }
     {
@@ -286,11 +287,11 @@ impl<'d> TokenReader<'d> {
     }
 }
 
-/// Reads what strings stand for.
+/// Decodes strings.
 #[derive(Drop)]
 pub(crate) struct Decoder {
     alloc: Global,
-    /// The bytes of the last string that isn't plain.
+    /// The bytes of the last string that was decoded.
     bytes: Vec<u8>,
 }
 
@@ -312,7 +313,7 @@ impl Decoder {
         }
     }
 
-    /// The code that a string is: one of one to four bytes.
+    /// The code that a string is, if the string has one to four bytes.
     fn string_code(&mut self, string: &StringToken<'_>) -> Result<Option<Code>, AllocError>
         ensures { IfOk result (λ found. option_map code_seen found ≡ code_in (String (string_raw string.now))) }
     {
@@ -336,7 +337,7 @@ impl Decoder {
         }
     }
 
-    /// The units of the destination that a string is: one that isn't empty.
+    /// The units of the destination that a string is, if the string isn't empty.
     fn string_units(&mut self, string: &StringToken<'_>) -> Result<Option<Units>, AllocError>
         ensures { IfOk result (λ found. option_map units_seen found ≡ destination_in (String (string_raw string.now))) }
     {
@@ -379,7 +380,7 @@ pub(crate) fn code_fault(token: &Token<'_>) -> Reason
     }
 }
 
-/// The reason for which a text is refused where no token comes.
+/// The reason of the refusal of a text where no token comes.
 pub(crate) fn malformed_reason(malformed: Malformed) -> Reason
     ensures { result ≡ malformed_reason (malformed_seen malformed) }
 {
@@ -417,7 +418,8 @@ fn units_of_bytes(alloc: Global, bytes: &[u8]) -> Result<Units, AllocError>
     Units::from_slice(alloc, &units)
 }
 
-/// The units of a destination of `len` bytes, one to four, where `number` is what these write.
+/// The units of a destination of `len` bytes, one to four. `number` is the big-endian number of these
+/// bytes.
 fn units_of_number(len: u8, number: u32) -> Units
     ensures { (bytes : List ℕ) → AllByRecursion (λ b. b < 2 ^ 8) bytes → 1 ≤ len → len ≤ 4 → len ≡ length bytes
         → number ≡ number_from_digits 256 bytes → units_seen result ≡ units_of bytes }
@@ -430,8 +432,8 @@ fn units_of_number(len: u8, number: u32) -> Units
     }
 }
 
-/// The units of a destination of `len` bytes, six or eight, where `high` is what the first four write
-/// and `low` what the others do.
+/// The units of a destination of `len` bytes, six or eight. `high` is the big-endian number of the first
+/// four bytes, and `low` is the big-endian number of the other bytes.
 fn units_of_parts(len: u8, high: u32, low: u32) -> Units
     ensures { (front rest : List ℕ) → AllByRecursion (λ b. b < 2 ^ 8) front → AllByRecursion (λ b. b < 2 ^ 8) rest
         → length front ≡ 4 → len ≡ 4 + length rest → 6 ≤ len → len ≤ 8 → len % 2 ≡ 0
@@ -446,7 +448,7 @@ fn units_of_parts(len: u8, high: u32, low: u32) -> Units
     }
 }
 
-/// The CID that a number without sign is, which is below 10^18.
+/// The CID that an unsigned number below 10^18 is; a number above 32 bits is refused.
 fn cid_of_number(number: u64) -> Result<Cid, Fault<WrongToken>>
     requires { number < 10 ^ 18 }
     ensures { (next : Left) → ReadsAs (or_wrong CidExpected (cid_in (Numeral (Integer (pos number))))

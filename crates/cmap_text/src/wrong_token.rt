@@ -1,14 +1,15 @@
-//! That a token is wrong or none comes, and why.
+//! The refusal of a wrong token, or of a text where no token comes.
 
 ghost use Rattle.std.specs.Prelude.{◌≡◌, false, true};
 ghost use Rattle.cmap_values.specs.declared.fault.Fault.TheVariants.{Refused};
 
 use cmap_values::fault::{Fault, Reason};
 
-/// Why a reader of tokens goes no further. Which token is wrong isn't kept: it is the one read last.
+/// Why a reader of tokens goes no further. The wrong token isn't stored; it is the token that was
+/// read last.
 #[derive(Clone, Copy)]
 pub(crate) struct WrongToken {
-    /// Whether a token can't stand where it does; otherwise no token comes.
+    /// Whether a token can't stand at its place; otherwise no token comes.
     pub(crate) is_token: bool,
     pub(crate) reason: Reason,
 }

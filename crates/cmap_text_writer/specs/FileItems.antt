@@ -1,4 +1,4 @@
--- The items of a text that says what a file says.
+-- The items of a text with the content of a file.
 use Rattle.std.specs.Prelude.{ℕ, pos, ◌==◌, ◌&&◌, nat_le, not, Bool, false, true, List, [], ◌∷◌, ◌++◌, Option, Some, None, bytes_eq, codes, find, flat_map, is_some, if◌then◌else◌}
 use Rattle.std.specs.Fmt.{signed_decimal}
 use Rattle.std.specs.List.{list_all}
@@ -25,26 +25,26 @@ number n = Token.Numeral (Integer (pos n))
 abbrev pub is_plain : ℕ → Bool
 is_plain b = nat_le 32 b && nat_le b 126 && not (b == byte "(") && not (b == byte ")") && not (b == byte "\\")
 
--- ( bytes ) where all are plain, and else < digits >
+-- ( bytes ) where all bytes are plain, otherwise < digits >
 abbrev pub string_spelled : List ℕ → List ℕ
 string_spelled bytes = if list_all is_plain bytes then byte "(" ∷ bytes ++ byte ")" ∷ [] else hex_string bytes
 
 -- ---- items
--- what the codes of a file stand for: 2 is Unicode, and 1 are CIDs
+-- the items of the header; the type is 2 where the codes of the file stand for Unicode, and 1 where they stand for CIDs
 abbrev pub header_items : ℕ → List Item
 header_items type = name (codes "CIDInit") ∷ name (codes "ProcSet") ∷ word (codes "findresource") ∷ word (codes "begin") ∷ other (number 12) ∷ word (codes "dict") ∷ word (codes "begin") ∷ word (codes "begincmap") ∷ name (codes "CMapType") ∷ other (number type) ∷ word (codes "def") ∷ []
 
 abbrev pub footer_items : List Item
 footer_items = word (codes "endcmap") ∷ word (codes "CMapName") ∷ word (codes "currentdict") ∷ name (codes "CMap") ∷ word (codes "defineresource") ∷ word (codes "pop") ∷ word (codes "end") ∷ word (codes "end") ∷ []
 
--- the name is that of a key
+-- the name is the name of a key
 abbrev pub is_key : List ℕ → Bool
 is_key bytes = is_some (find (bytes_eq bytes) keys)
 
 abbrev pub no_value : Token
 no_value = Token.String (codes "()")
 
--- the use of a name; that of a key takes a value first, which says nothing
+-- the use of a name; a name that is a key takes an empty value first
 abbrev pub use_items : List ℕ → List Item
 use_items bytes = (if is_key bytes then key bytes (Some no_value) else name bytes) ∷ use_of_base ∷ []
 
@@ -56,7 +56,7 @@ collection_items c =
     ∷ key (codes "Supplement") (Some (Token.Numeral (Integer c.supplement))) ∷ word (codes "def")
     ∷ word (codes "end") ∷ word (codes "def") ∷ []
 
--- a name of regular bytes is literal, and any other a bracket
+-- a name of regular bytes is literal, and any other name is a bracket
 abbrev pub name_items : List ℕ → List Item
 name_items bytes = key (codes "CMapName") (Some (Token.Name (list_all is_regular bytes) bytes)) ∷ word (codes "def") ∷ []
 
@@ -67,7 +67,7 @@ mode_number vertical = 1
 abbrev pub mode_items : Mode → List Item
 mode_items mode = key (codes "WMode") (Some (number (mode_number mode))) ∷ word (codes "def") ∷ []
 
--- what is said of a value that may be there
+-- the list for an optional value
 abbrev pub from_option : {A B : Type 0} → (A → List B) → Option A → List B
 from_option say None = []
 from_option say (Some x) = say x
@@ -75,11 +75,11 @@ from_option say (Some x) = say x
 abbrev pub metadata_items : FileMetadata → List Item
 metadata_items m = from_option collection_items m.collection ++ (from_option name_items m.name ++ from_option mode_items m.mode)
 
--- with these sections
+-- the items of a file with these sections
 abbrev pub file_items : ℕ → FileMetadata → List (List ℕ) → List Item → List Item
 file_items type metadata uses sections = header_items type ++ (flat_map use_items uses ++ (metadata_items metadata ++ (sections ++ footer_items)))
 
--- ---- how they are spelled
+-- ---- spelling
 -- the comments before the file
 abbrev pub resource_text : List ℕ → List ℕ
 resource_text bytes = codes "%%BeginResource: CMap (" ++ (bytes ++ codes ")\n")
@@ -95,7 +95,7 @@ type_text false = codes "/CMapType 1 def\n"
 abbrev pub header_text : Bool → List ℕ
 header_text is_to_unicode = codes "/CIDInit /ProcSet findresource begin\n12 dict begin\nbegincmap\n" ++ type_text is_to_unicode
 
--- the comments after it: the resource is ended where it has a name
+-- the comments after the file; a resource that has a name ends with a comment of its own
 abbrev pub end_text : Bool → List ℕ
 end_text true = codes "%%EndResource\n%%EOF\n"
 end_text false = codes "%%EOF\n"

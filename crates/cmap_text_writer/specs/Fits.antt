@@ -1,4 +1,4 @@
--- What a text can say.
+-- The content that a text can represent.
 use Rattle.std.specs.Prelude.{◌≡◌, ◌⊎◌, ℕ, ℤ, ◌<◌, ◌≤◌, ◌+◌, ◌^◌, List, [], ◌∷◌, All, IfSome, IsTrue, Some, length}
 use Rattle.std.specs.List.{AllByRecursion, list_all}
 use Rattle.cmap_values.specs.Files.{BfEntry, ByLength, CidEntry, Codespace, Collection, File, Lists}
@@ -9,21 +9,21 @@ use Rattle.cmap_tokens.specs.Tokens.{IsBracket, Token}
 use Rattle.cmap_text.specs.TextFiles.{Extent, range, single, supplement_in}
 
 -- ---- codes
--- a number that one to four bytes write
+-- a code that fits in len bytes, from one to four
 pub record Fits (len code : ℕ) : Type 0 where
   pub some : 1 ≤ len
   pub few : len ≤ 4
   pub small : code < 256 ^ len
 
--- both ends of a codespace range have so many bytes
+-- both ends of a codespace range fit in its number of bytes
 abbrev pub IsSpaceFitting : Codespace → Type 0
 IsSpaceFitting s = Fits s.len s.low × Fits s.len s.high
 
--- the first code of a declaration has so many bytes
+-- the first code of a declaration fits in len bytes
 abbrev pub BeginsFitting : ℕ → CidEntry → Type 0
 BeginsFitting len e = Fits len e.start
 
--- a text has a unit or more
+-- the text of a declaration has a unit or more
 abbrev pub HasUnits : BfEntry → Type 0
 HasUnits e = 0 < length e.units
 
@@ -31,16 +31,16 @@ HasUnits e = 0 < length e.units
 abbrev pub IsName : List ℕ → Type 0
 IsName bytes = IsTrue (list_all is_regular bytes)
 
--- a literal name, or a bracket, which is executable
+-- a literal name, or a bracket, which is an executable name
 abbrev pub IsSayableName : List ℕ → Type 0
 IsSayableName bytes = IsName bytes ⊎ IsBracket bytes
 
--- the family is the one of its registry and ordering
+-- the family is the family of its registry and ordering
 abbrev pub HasOwnFamily : Collection → Type 0
 HasOwnFamily c = family_of (registry_of c.family) (ordering_of c.family) ≡ c.family
 
 -- ---- all of a file
--- a text can say this list for codes of each length
+-- a text can represent this list for codes of each length
 pub record ListsFit (lists : ByLength) : Type 0 where
   pub one : All (BeginsFitting 1) lists.one
   pub two : All (BeginsFitting 2) lists.two
@@ -59,7 +59,7 @@ pub record IsSayable (file : File) : Type 0 where
   pub family : IfSome file.metadata.collection HasOwnFamily
   pub lists : AllFit file.lists
 
--- ---- private aid: what types say besides
+-- ---- private aid: bounds that follow from the types
 abbrev pub AllBytes : List ℕ → Type 0
 AllBytes bytes = AllByRecursion (λ b. b < 2 ^ 8) bytes
 
@@ -87,7 +87,7 @@ pub record IsSmallText (e : BfEntry) : Type 0 where
   pub end : e.end < 2 ^ 32
   pub units : AreSmallUnits e.units
 
--- a supplement that a reader takes
+-- a supplement that a reader accepts
 abbrev pub IsSupplement : ℤ → Type 0
 IsSupplement n = supplement_in (Some (Token.Numeral (Integer n))) ≡ Some n
 
@@ -97,17 +97,17 @@ pub record CollectionFits (c : Collection) : Type 0 where
   pub ordering : AllBytes (ordering_of c.family)
   pub supplement : IsSupplement c.supplement
 
--- the ends are one code, in a section for single codes
+-- a declaration in a section for single codes has one code as both ends
 abbrev pub IsOfExtent : Extent → ℕ → ℕ → Type 0
 IsOfExtent single start end = start ≡ end
 IsOfExtent range start end = Unit {0}
 
--- ---- texts in a row
--- single codes from this one on, each after the one before
+-- ---- texts of consecutive codes
+-- declarations for single codes, from this code on, each for the code after the one before
 abbrev pub IsRow : ℕ → List BfEntry → Type 0
 IsRow code [] = Unit {0}
 IsRow code (e ∷ es) = (e.start ≡ code) × (e.end ≡ code) × IsRow (code + 1) es
 
--- what one line of a section for ranges declares: one text, or an array of texts
+-- the declarations of one line of a section for ranges: one text, or an array of texts
 abbrev pub IsLine : List BfEntry → Type 0
 IsLine es = (length es ≡ 1) ⊎ ((code : ℕ) × IsRow code es)

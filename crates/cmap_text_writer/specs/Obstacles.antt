@@ -1,4 +1,4 @@
--- What no text says of a file.
+-- The content of a file that no text can represent.
 use Rattle.std.specs.Prelude.{◌≡◌, ◌⊎◌, ℕ, ◌≤◌, ◌^◌, List, Any, IsSomeAnd, length}
 use Rattle.cmap_values.specs.declared.range.Range.{Range}
 use Rattle.cmap_values.specs.Files.{BfEntry, ByLength, CidEntry, Codespace, File, Lists, of_length}
@@ -7,19 +7,19 @@ use Rattle.cmap_text_writer.specs.Fits.{AllBytes, HasOwnFamily, IsName, IsSayabl
 use Rattle.cmap_text_writer.specs.declared.obstacle.Obstacle.{Obstacle}
 use Rattle.cmap_text_writer.specs.declared.obstacle.Obstacle.TheVariants.{CustomFamily, EmptyText, LargeCode, Name, Use}
 
--- no text of bytes says what the file says
+-- no text of bytes represents the file
 abbrev pub NoTextSays : File → Type 0
 NoTextSays file = (text : List ℕ) → AllBytes text → IsTextFile text file → ⊥
 
--- the code is one of two ends, and this many bytes can't write it
+-- the code is one of two ends, and doesn't fit in this many bytes
 abbrev pub IsLargeEnd : ℕ → ℕ → ℕ → ℕ → Type 0
 IsLargeEnd code len low high = ((code ≡ low) ⊎ (code ≡ high)) × (256 ^ len ≤ code)
 
--- a declaration begins with the code, and this many bytes can't write it
+-- a declaration begins with the code, which doesn't fit in this many bytes
 abbrev pub BeginsLarge : ℕ → ℕ → CidEntry → Type 0
 BeginsLarge code len e = (e.start ≡ code) × (256 ^ len ≤ code)
 
--- in the list for codes of some length
+-- in the list for codes of some length a declaration begins with the code, which is too large
 abbrev pub HasLargeStart : ℕ → ByLength → Type 0
 HasLargeStart code lists = (len : ℕ) × Any (BeginsLarge code len) (of_length lists len)
 
@@ -34,7 +34,7 @@ IsObstacle file CustomFamily = IsSomeAnd file.metadata.collection (λ c. HasOwnF
 IsObstacle file (LargeCode code) = Any (λ s. IsLargeEnd code s.len s.low s.high) file.lists.spaces ⊎ (HasLargeStart code file.lists.notdefs ⊎ HasLargeStart code file.lists.cids)
 IsObstacle file (EmptyText range) = Any (IsEmptyText range) file.lists.bfs
 
--- ---- private aid: of parts of a file
+-- ---- private aid: obstacles in parts of a file
 abbrev pub IsSpacesObstacle : List Codespace → Obstacle → Type 0
 IsSpacesObstacle spaces (LargeCode code) = Any (λ s. IsLargeEnd code s.len s.low s.high) spaces
 IsSpacesObstacle spaces other = ⊥

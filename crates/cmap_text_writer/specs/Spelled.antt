@@ -1,4 +1,4 @@
--- How a text spells codes, numbers, strings, entries and sections.
+-- The spelling of codes, numbers, strings, entries and sections in a text.
 use Rattle.std.specs.Prelude.{ℕ, ◌+◌, ◌/◌, ◌%◌, ◌^◌, nat_lt, List, [], ◌∷◌, ◌++◌, decimal, flat_map, if◌then◌else◌}
 use Rattle.std.specs.Int.{bytes_high_first}
 use Rattle.cmap_values.specs.Files.{BfEntry, CidEntry, Codespace}
@@ -18,15 +18,16 @@ hex_pair byte = hex_digit (byte / 16) ∷ hex_digit (byte % 16) ∷ []
 abbrev pub hex_string : List ℕ → List ℕ
 hex_string bytes = byte "<" ∷ flat_map hex_pair bytes ++ byte ">" ∷ []
 
--- a code of so many bytes, and the byte after it
+-- a code of len bytes as a string, and the byte after it
 abbrev pub code_spelled : ℕ → ℕ → ℕ → List ℕ
 code_spelled len code end = hex_string (bytes_high_first len code) ++ end ∷ []
 
--- units, two bytes each
+-- units as a string, two bytes each
 abbrev pub units_spelled : List ℕ → List ℕ
 units_spelled units = hex_string (flat_map (bytes_high_first 2) units)
 
--- how many bytes the last code of a range has: as many as the first, or four where these are too few
+-- the number of bytes of the last code of a range: as many as the first code has, or four where the
+-- last code doesn't fit in them
 abbrev pub end_length : ℕ → ℕ → ℕ
 end_length len code = if nat_lt code (256 ^ len) then len else 4
 
@@ -43,7 +44,7 @@ abbrev pub cid_spelled : ℕ → Extent → CidEntry → List ℕ
 cid_spelled len extent e = codes_spelled len e.start e.end extent ++ (decimal e.cid ++ byte "\n" ∷ [])
 
 -- ---- a section
--- its count and its first word
+-- the count of entries and the first word
 abbrev pub opener_spelled : ℕ → Section → List ℕ
 opener_spelled count section = decimal count ++ (byte " " ∷ opener section ++ byte "\n" ∷ [])
 

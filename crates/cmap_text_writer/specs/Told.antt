@@ -1,4 +1,4 @@
--- Bytes that are written, and what a reader finds in them.
+-- Written bytes, and what a reader finds in them.
 use Rattle.std.specs.Prelude.{◌≡◌, ℕ, ◌≤◌, List, [], ◌∷◌, ◌++◌, All, false, codes, flat_map, length}
 use Rattle.std.specs.List.{AllByRecursion, AllZip}
 use Rattle.cmap_values.specs.Files.{BfEntry, Declaration}
@@ -7,26 +7,26 @@ use Rattle.cmap_text_writer.specs.Fits.{IsLine, IsSmallText}
 use Rattle.cmap_text_writer.specs.Layout.{Block, IsSection, block_spelled, declared_in, line_spelled}
 use Rattle.cmap_text.specs.TextFiles.{AreEntries, AreItems, Extent, IsDestination, IsEntry, Item, Section, bf_char, bf_range, declared_by, entries, other, range, single}
 
--- bytes of which this holds come after the old ones
+-- the new bytes are the old ones and bytes for which P holds
 abbrev pub Appends : List ℕ → List ℕ → (List ℕ → Type 0) → Type 0
 Appends old new P = (bytes : List ℕ) × (new ≡ old ++ bytes) × P bytes
 
--- whatever text follows these bytes, a reader finds these tokens, and then those of the text
+-- whatever text follows these bytes, a reader finds these tokens and then the tokens of that text
 pub record TellsTokens (tokens : List Token) (bytes : List ℕ) : Type 0 where
   pub read : (rest : List ℕ) (more : List Token) → Tokens rest more → Tokens (bytes ++ rest) (tokens ++ more)
 
--- sections of texts
+-- the sections of texts
 abbrev pub text_section : Extent → Section
 text_section range = bf_range
 text_section single = bf_char
 
--- an entry of a section, which declares these
+-- an entry of a section, which makes these declarations
 pub record TellsEntry (section : Section) (declared : List Declaration) (bytes : List ℕ) : Type 0 where
   pub tokens : List Token
   pub told : TellsTokens tokens bytes
   pub is : (rest : List Token) → IsEntry section (tokens ++ rest) declared rest
 
--- entries of a section, in order
+-- entries of a section, which make these declarations in order
 pub record TellsEntries (section : Section) (declared : List Declaration) (bytes : List ℕ) : Type 0 where
   pub tokens : List Token
   pub each : List (List Declaration)
@@ -46,19 +46,19 @@ pub record TellsArray (texts : List (List ℕ)) (bytes : List ℕ) : Type 0 wher
   pub told : TellsTokens (Token.Name false (codes "[") ∷ tokens ++ Token.Name false (codes "]") ∷ []) bytes
   pub are : AllZip IsDestination tokens texts
 
--- items, and then those of the text that follows
+-- items, followed by the items of any text after the bytes
 pub record TellsItems (items : List Item) (bytes : List ℕ) : Type 0 where
   pub tokens : List Token
   pub told : TellsTokens tokens bytes
   pub are : (rest : List Token) (more : List Item) → AreItems rest more → AreItems (tokens ++ rest) (items ++ more)
 
--- an item of sections: the count before one, or one of at most 100 entries
+-- an item of sections: the count before a section, or a section of at most 100 entries
 abbrev pub IsOfSections : Item → Type 0
 IsOfSections (entries declared) = length declared ≤ 100
 IsOfSections (other (Token.Numeral n)) = Unit {0}
 IsOfSections _ = ⊥
 
--- these lines come after the old bytes, and declare these texts
+-- the new bytes are the old ones and `count` lines, which declare these texts
 pub record HasLines (lengths : ℕ → ℕ) (es : List BfEntry) (count : ℕ) (old new : List ℕ) : Type 0 where
   pub each : List (BfEntry × List BfEntry)
   pub counted : length each ≡ count
@@ -67,7 +67,7 @@ pub record HasLines (lengths : ℕ → ℕ) (es : List BfEntry) (count : ℕ) (o
   pub small : All IsSmallText es
   pub spelled : new ≡ old ++ flat_map (λ l. line_spelled lengths (l.0 ∷ l.1)) each
 
--- sections that declare these, in order, where codes of texts have so many bytes
+-- sections that make these declarations, in order, where `lengths` gives the number of bytes of the codes of texts
 pub record TellsSections (lengths : ℕ → ℕ) (declared : List Declaration) (bytes : List ℕ) : Type 0 where
   pub items : List Item
   pub told : TellsItems items bytes
@@ -78,6 +78,6 @@ pub record TellsSections (lengths : ℕ → ℕ) (declared : List Declaration) (
   pub says : flat_map declared_in blocks ≡ declared
   pub spelled : bytes ≡ flat_map (block_spelled lengths) blocks
 
--- the same, however many bytes codes of texts have
+-- sections that make these declarations, for any number of bytes of the codes of texts
 pub record TellsAnyway (declared : List Declaration) (bytes : List ℕ) : Type 0 where
   pub at : (lengths : ℕ → ℕ) → TellsSections lengths declared bytes

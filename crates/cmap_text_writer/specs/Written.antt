@@ -1,4 +1,4 @@
--- What is written of a file.
+-- The text that is written for a file.
 use Rattle.std.specs.Prelude.{ℕ, IsTrue, List, length, nat_le}
 use Rattle.std.specs.List.{list_all}
 use Rattle.cmap_values.specs.Files.{File}
@@ -6,7 +6,7 @@ use Rattle.cmap_tokens.specs.Tokens.{Token, Tokens}
 use Rattle.cmap_text_writer.specs.Layout.{IsLaidOut}
 use Rattle.cmap_text.specs.TextFiles.{AreItems, IsTextFile, Item, declared_by}
 
--- no section of the text declares more than 100 things
+-- no section of the text has more than 100 declarations
 abbrev pub HasShortSections : List ℕ → Type 0
 HasShortSections text = (tokens : List Token) × (items : List Item) × Tokens text tokens × AreItems tokens items × IsTrue (list_all (λ item. nat_le (length (declared_by item)) 100) items)
 

@@ -1,4 +1,4 @@
-//! Whether a text can say what a file says.
+//! Checks that a text can represent a file.
 
 ghost use Rattle.std.specs.Prelude.{◌≡◌, ◌≢◌, ◌≤◌, ◌^◌, All, Any, IfErr, IfOk, IfSome, IsSomeAnd, map, option_map};
 ghost use Rattle.cmap_values.specs.DeclarationsSeen.{bf_entry_seen, by_length_seen, codespace_seen, entries_seen, lists_seen};
@@ -22,7 +22,7 @@ use cmap_values::fault::Fault;
 use cmap_values::file::File;
 use std::alloc::Global;
 
-/// Checks that a text can say what a file says.
+/// Checks that a text can represent a file.
 pub(crate) fn check_file(alloc: Global, file: &File<'_>) -> Result<(), Fault<Obstacle>>
     ensures fit { IfOk result (λ _. IsSayable (file_seen file.now)) }
     ensures err { IfErr result (RefusesWith (IsObstacle (file_seen file.now))) }
@@ -33,7 +33,7 @@ pub(crate) fn check_file(alloc: Global, file: &File<'_>) -> Result<(), Fault<Obs
     check_lists(&file.lists)
 }
 
-/// Checks that the names of the files that are used are names.
+/// Checks that the names of the used files are names.
 fn check_uses(names: &[&[u8]]) -> Result<(), Fault<Obstacle>>
     ensures fit { IfOk result (λ _. All IsName (names_seen names.now)) }
     ensures err { IfErr result (RefusesWith (λ o. (o ≡ Use) × Any (λ n. IsName n → ⊥) (names_seen names.now))) }
@@ -46,7 +46,7 @@ fn check_uses(names: &[&[u8]]) -> Result<(), Fault<Obstacle>>
     Ok(())
 }
 
-/// Checks that the name of a file is one.
+/// Checks that the name of a file is a name.
 fn check_name(name: &Option<Vec<u8>>) -> Result<(), Fault<Obstacle>>
     ensures fit { IfOk result (λ _. IfSome (option_map (λ name. name.items) name.now) IsSayableName) }
     ensures err { IfErr result (RefusesWith (λ o. (o ≡ Name)
@@ -69,7 +69,7 @@ fn check_name_bytes(name: &[u8]) -> Result<(), Fault<Obstacle>>
     Err(Fault::Refused(Obstacle::Name))
 }
 
-/// Checks that the family of a collection is the one of its registry and ordering.
+/// Checks that the family of a collection is the family of its registry and ordering.
 fn check_collection(
     alloc: Global,
     collection: &Option<CharacterCollection>,
@@ -84,7 +84,7 @@ fn check_collection(
     }
 }
 
-/// Checks that a family is the one of its registry and ordering.
+/// Checks that a family is the family of its registry and ordering.
 fn check_family(alloc: Global, family: &CidFamily) -> Result<(), Fault<Obstacle>>
     ensures fit { IfOk result (λ _. family_of (registry_of (family_seen family.now)) (ordering_of (family_seen family.now)) ≡ family_seen family.now) }
     ensures err { IfErr result (RefusesWith (λ o. (o ≡ CustomFamily)
@@ -110,7 +110,7 @@ fn check_lists(lists: &Lists) -> Result<(), Fault<Obstacle>>
     check_texts(&lists.bfs)
 }
 
-/// Checks that codespace ranges have codes of their lengths.
+/// Checks that the codes of codespace ranges fit in their lengths.
 fn check_spaces(spaces: &[Codespace]) -> Result<(), Fault<Obstacle>>
     ensures fit { IfOk result (λ _. All IsSpaceFitting (map codespace_seen spaces.now)) }
     ensures err { IfErr result (RefusesWith (IsSpacesObstacle (map codespace_seen spaces.now))) }
@@ -133,7 +133,7 @@ fn check_by_length(lists: &ByLength<Vec<CidRange>>) -> Result<(), Fault<Obstacle
     check_cids(CodeLength::Four, &lists.four)
 }
 
-/// Checks that declarations of CIDs begin with codes of this length.
+/// Checks that the first codes of declarations of CIDs fit in this length.
 fn check_cids(len: CodeLength, entries: &[CidRange]) -> Result<(), Fault<Obstacle>>
     ensures fit { IfOk result (λ _. All (BeginsFitting (length_of len)) (entries_seen entries.now)) }
     ensures err { IfErr result (RefusesWith (IsCidsObstacle (length_of len) (entries_seen entries.now))) }
@@ -144,7 +144,7 @@ fn check_cids(len: CodeLength, entries: &[CidRange]) -> Result<(), Fault<Obstacl
     Ok(())
 }
 
-/// Checks that a code has no more bytes than this length.
+/// Checks that a code fits in this length.
 fn check_code(len: CodeLength, code: u32) -> Result<(), Fault<Obstacle>>
     ensures fit { IfOk result (λ _. Fits (length_of len) code) }
     ensures err { IfErr result (RefusesWith (λ o. (o ≡ LargeCode code) × (256 ^ length_of len ≤ code))) }
@@ -155,7 +155,7 @@ fn check_code(len: CodeLength, code: u32) -> Result<(), Fault<Obstacle>>
     Ok(())
 }
 
-/// Checks that texts have a unit or more.
+/// Checks that each text has a unit or more.
 fn check_texts(entries: &[BfRange]) -> Result<(), Fault<Obstacle>>
     ensures fit { IfOk result (λ _. All HasUnits (map bf_entry_seen entries.now)) }
     ensures err { IfErr result (RefusesWith (IsTextsObstacle (map bf_entry_seen entries.now))) }

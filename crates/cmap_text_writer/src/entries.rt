@@ -29,7 +29,7 @@ pub(crate) fn push_spaces(out: &mut Vec<u8>, spaces: &[Codespace]) -> Result<(),
     Ok(())
 }
 
-/// Writes a codespace range: low, high.
+/// Writes a codespace range: the low code, the high code.
 fn push_space(out: &mut Vec<u8>, space: Codespace) -> Result<(), AllocError>
     ensures { OnOk result (out.new.items ≡ out.old.items ++ space_spelled (codespace_seen space)) }
 {
@@ -53,7 +53,7 @@ pub(crate) fn push_cid_entries(
     Ok(())
 }
 
-/// Writes a declaration of CIDs: its code or both ends, CID.
+/// Writes a declaration of CIDs: its code or both ends, and the CID.
 fn push_cid(
     out: &mut Vec<u8>,
     len: CodeLength,
@@ -68,7 +68,7 @@ fn push_cid(
     push_number(out, entry.cid, b'\n')
 }
 
-/// Writes the code or both ends of a declaration, each with a space after it.
+/// Writes the code or both ends of a declaration, with a space after each.
 fn push_codes(
     out: &mut Vec<u8>,
     len: CodeLength,
@@ -101,7 +101,7 @@ pub(crate) fn push_chars(
     Ok(())
 }
 
-/// Writes a declaration of a text: its code or both ends, units.
+/// Writes a declaration of a text: its code or both ends, and the units.
 fn push_text(
     out: &mut Vec<u8>,
     lengths: TextLengths,
@@ -116,7 +116,7 @@ fn push_text(
     out.extend_from_slice(b"\n")
 }
 
-/// Writes texts of ranges, and arrays of texts. It gives how many lines these are.
+/// Writes texts of ranges, and arrays of texts. The result is the number of lines.
 pub(crate) fn push_lines(
     out: &mut Vec<u8>,
     lengths: TextLengths,
@@ -172,7 +172,7 @@ fn push_array(out: &mut Vec<u8>, entries: &[BfRange]) -> Result<(), AllocError>
     Ok(())
 }
 
-/// Writes texts, each with a space before it.
+/// Writes texts, with a space before each.
 fn push_next_texts(out: &mut Vec<u8>, entries: &[BfRange]) -> Result<(), AllocError>
     ensures written { OnOk result (out.new.items ≡ out.old.items ++ flat_map next_text_spelled (map (λ e. e.units) (map bf_entry_seen entries.now))) }
     ensures small { OnOk result (All AreSmallUnits (map (λ e. e.units) (map bf_entry_seen entries.now))) }

@@ -23,10 +23,11 @@ use cmap_values::fault::Fault;
 use cmap_values::file::File;
 use std::alloc::{AllocError, Global};
 
-/// A text that says what a file says, as Adobe Technical Notes 5014 and 5411 lay it out. The codes of
-/// texts, whose length a file doesn't keep, have that of the codespace ranges around them.
+/// A text with the content of a file, in the layout of Adobe Technical Notes 5014 and 5411. A file
+/// doesn't keep the length of the codes of texts; they have the length of the codespace ranges around
+/// them.
 ///
-/// It is refused with what no text can say.
+/// A file that no text can represent is refused with its obstacle.
 pub fn write_text(alloc: Global, file: &File<'_>) -> Result<Vec<u8>, Fault<Obstacle>>
     ensures written { IfOk result (λ text. IsTextFile text.items (file_seen file.now)) }
     ensures laid { IfOk result (λ text. IsLaidOut (length_by (file_seen file.now).lists.spaces) (file_seen file.now) text.items) }
@@ -37,7 +38,7 @@ pub fn write_text(alloc: Global, file: &File<'_>) -> Result<Vec<u8>, Fault<Obsta
     write_text_by(alloc, file, TextLengths::by(&file.lists.spaces))
 }
 
-/// The text of `write_text`, with these lengths of the codes of texts.
+/// The text of `write_text`, with the given lengths of the codes of texts.
 pub fn write_text_by(
     alloc: Global,
     file: &File<'_>,
@@ -73,7 +74,7 @@ fn push_file(
     push_footer(out, file.metadata.name.is_some())
 }
 
-/// Whether codes stand for Unicode texts alone, and not for CIDs.
+/// Whether codes stand for Unicode texts only, and not for CIDs.
 fn is_to_unicode(lists: &Lists) -> bool
     ensures { result ≡ is_to_unicode (lists_seen lists.now) }
 {
@@ -117,7 +118,7 @@ fn push_header(out: &mut Vec<u8>, is_to_unicode: bool) -> Result<(), AllocError>
     push_type(out, is_to_unicode)
 }
 
-/// Writes the type of the CMap: 2 where codes stand for Unicode texts alone. Adobe Technical Note 5411.
+/// Writes the type of the CMap: 2 where codes stand for Unicode texts only. Adobe Technical Note 5411.
 fn push_type(out: &mut Vec<u8>, is_to_unicode: bool) -> Result<(), AllocError>
     ensures { OnOk result (out.new.items ≡ out.old.items ++ type_text is_to_unicode) }
 {
@@ -136,7 +137,7 @@ fn push_footer(out: &mut Vec<u8>, has_name: bool) -> Result<(), AllocError>
     push_end(out, has_name)
 }
 
-/// Writes the comments after a file. The resource is ended where it has a name.
+/// Writes the comments after a file. A resource that has a name ends with a comment of its own.
 fn push_end(out: &mut Vec<u8>, has_name: bool) -> Result<(), AllocError>
     ensures { OnOk result (out.new.items ≡ out.old.items ++ end_text has_name) }
 {

@@ -1,4 +1,4 @@
-//! The names that a file uses, and what it says of itself.
+//! The names that a file uses, and its metadata.
 
 ghost use Rattle.std.specs.Prelude.{◌≡◌, ◌++◌, IfSome, OnOk, flat_map, option_map};
 ghost use Rattle.std.specs.Fmt.{signed_decimal};
@@ -30,7 +30,7 @@ pub(crate) fn push_uses(out: &mut Vec<u8>, names: &[&[u8]]) -> Result<(), AllocE
     Ok(())
 }
 
-/// Writes the use of a name. That of a key has a value of its own, which says nothing.
+/// Writes the use of a name. A name that is a key takes an empty value first.
 fn push_use(out: &mut Vec<u8>, name: &[u8]) -> Result<(), AllocError>
     ensures { OnOk result (out.new.items ≡ out.old.items ++ use_text name.now) }
 {
@@ -43,7 +43,7 @@ fn push_use(out: &mut Vec<u8>, name: &[u8]) -> Result<(), AllocError>
     }
 }
 
-/// Writes each part of the metadata that is there.
+/// Writes each part of the metadata that is present.
 pub(crate) fn push_metadata(out: &mut Vec<u8>, metadata: &Metadata) -> Result<(), AllocError>
     requires { IfSome (metadata_seen metadata.now).collection HasOwnFamily }
     ensures written { OnOk result (out.new.items ≡ out.old.items ++ metadata_text (metadata_seen metadata.now)) }
@@ -114,7 +114,7 @@ fn is_printed(text: &[u8]) -> bool
     text.iter().all(|byte| is_plain(*byte))
 }
 
-/// Whether a byte stands for itself in a string, and is one that terminals print.
+/// Whether a byte stands for itself in a string, and terminals print it.
 fn is_plain(byte: u8) -> bool
     ensures { result ≡ is_plain byte }
 {
@@ -140,7 +140,7 @@ fn push_name(out: &mut Vec<u8>, name: &Option<Vec<u8>>) -> Result<(), AllocError
     }
 }
 
-/// Writes a name under its key, as a literal name where it can be one.
+/// Writes a name under its key, as a literal name if its bytes allow it.
 fn push_name_key(out: &mut Vec<u8>, name: &[u8]) -> Result<(), AllocError>
     ensures { OnOk result (out.new.items ≡ out.old.items ++ name_text name.now) }
 {

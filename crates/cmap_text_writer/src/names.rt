@@ -1,4 +1,4 @@
-//! Which bytes names may have.
+//! The bytes that names may have.
 
 ghost use Rattle.std.specs.Prelude.{◌≡◌, ◌↔◌, IsTrue};
 ghost use Rattle.std.specs.List.{list_all};
@@ -7,14 +7,14 @@ ghost use Rattle.cmap_tokens.specs.Tokens.{IsBracket};
 
 use cmap_tokens::token::is_regular;
 
-/// Whether a literal name has these bytes: all are regular.
+/// Whether these bytes are a literal name: all are regular.
 pub(crate) fn is_name(bytes: &[u8]) -> bool
     ensures { result ≡ list_all is_regular bytes.now }
 {
     bytes.iter().all(|byte| is_regular(*byte))
 }
 
-/// Whether a name that is executable has these bytes: a bracket.
+/// Whether these bytes are an executable name: a bracket.
 pub(crate) fn is_bracket(bytes: &[u8]) -> bool
     ensures { IsTrue result ↔ IsBracket bytes.now }
 {

@@ -1,4 +1,4 @@
-//! Which declarations of a list stand in one section.
+//! The division of a list of declarations into sections.
 
 ghost use Rattle.std.specs.Prelude.{◌≡◌, ◌↔◌, ◌+◌, ◌<◌, ◌≤◌, All, IsTrue, length, map, take};
 ghost use Rattle.cmap_text_writer.specs.Fits.{IsLine, IsOfExtent, IsRow};
@@ -15,10 +15,10 @@ use cmap_values::range::{HasRange, Range};
 /// The most declarations of a section.
 pub(crate) const MOST: usize = 100;
 
-/// The least texts of codes in a row that are shorter as an array.
+/// The fewest texts of consecutive codes that are shorter as an array.
 const LEAST: usize = 3;
 
-/// How many declarations of a list are the next section.
+/// The number of declarations in the next section.
 pub(crate) fn next_cid_section(len: CodeLength, entries: &[CidRange]) -> usize
     requires { 0 < length entries.now }
     ensures some { 0 < result }
@@ -42,7 +42,7 @@ pub(crate) fn next_cid_section(len: CodeLength, entries: &[CidRange]) -> usize
     count
 }
 
-/// Which texts of a list are the next section: for what each entry is, and how many they are.
+/// The next section of texts: what its entries are for, and the number of its texts.
 pub(crate) fn next_text_section(lengths: TextLengths, entries: &[BfRange]) -> (Extent, usize)
     requires { 0 < length entries.now }
     ensures some { 0 < result.1 }
@@ -66,7 +66,8 @@ pub(crate) fn next_text_section(lengths: TextLengths, entries: &[BfRange]) -> (E
     section_of(here, extent, count)
 }
 
-/// A section of `count` declarations, or of the single codes that they begin with: of one or more.
+/// A section of at most `count` declarations and at least one: for single codes, the single codes at the
+/// beginning of the list, if there are any.
 fn section_of<T: HasRange>(entries: &[T], extent: Extent, count: usize) -> (Extent, usize)
     requires { 0 < length entries.now }
     ensures some { 0 < result.1 }
@@ -85,7 +86,8 @@ fn section_of<T: HasRange>(entries: &[T], extent: Extent, count: usize) -> (Exte
     }
 }
 
-/// How many declarations a list begins with that are for single codes, or for ranges, as the first one is.
+/// The number of declarations at the beginning of a list that are for single codes, or for ranges, like
+/// the first one.
 fn count_alike(entries: &[CidRange]) -> usize
     requires { 0 < length entries.now }
     ensures some { 0 < result }
@@ -113,7 +115,7 @@ pub(crate) fn are_single<T: HasRange>(entries: &[T]) -> bool
     true
 }
 
-/// How many declarations of single codes a list begins with.
+/// The number of declarations of single codes at the beginning of a list.
 fn count_singles<T: HasRange>(entries: &[T]) -> usize
     ensures within { result ≤ length entries.now }
     ensures all { All (λ e. (T.span e).start ≡ (T.span e).end) (take result entries.now) }
@@ -127,7 +129,7 @@ fn count_singles<T: HasRange>(entries: &[T]) -> usize
 }
 
 #[tactic(auto, using(crate::proofs::ArraysTold::line_of_one, crate::proofs::ArraysTold::line_of_row))]
-/// How many texts the next line has: those of an array, or one.
+/// The number of texts in the next line: the texts of an array, or one.
 pub(crate) fn count_line(entries: &[BfRange]) -> usize
     requires { 0 < length entries.now }
     ensures some { 0 < result }
@@ -138,8 +140,8 @@ pub(crate) fn count_line(entries: &[BfRange]) -> usize
     if count >= LEAST { count } else { 1 }
 }
 
-/// How many texts of single codes a list begins with, from this code on, each for the code after the one
-/// before, all of a row of 256 codes.
+/// The number of texts at the beginning of a list for consecutive single codes from `start` on. All codes
+/// are in one row of 256 codes.
 fn count_row(start: u32, entries: &[BfRange]) -> usize
     ensures within { result ≤ length entries.now }
     ensures row { IsRow start (map bf_entry_seen (take result entries.now)) }

@@ -1,4 +1,4 @@
-//! Sections: a count, an opener, entries, a closer.
+//! Sections: a count, an opener, entries and a closer.
 
 ghost use Rattle.std.specs.Prelude.{◌≡◌, ◌++◌, ◌<◌, ◌≤◌, All, IsTrue, OnOk, length, map};
 ghost use Rattle.cmap_values.specs.DeclarationsSeen.{bf_entry_seen, codespace_seen, entries_seen};
@@ -21,7 +21,7 @@ use cmap_values::code_length::CodeLength;
 use cmap_values::declarations::{BfRange, CidRange, Codespace};
 use std::alloc::{AllocError, Global};
 
-/// How many bytes most lines have room in.
+/// The number of bytes that suffices for most lines.
 const ROOM: usize = 16;
 
 /// Writes the count of a section and the name that opens it.
@@ -74,7 +74,7 @@ pub(crate) fn push_cid_section(
     push_closer(out, section)
 }
 
-/// What each entry of a section of these is for: a single code, if that holds of all.
+/// The extent of a section of these entries: for single codes, if all entries are for single codes.
 fn extent_of(entries: &[CidRange]) -> Extent
     requires { 0 < length entries.now }
     ensures { Serves (extent_seen result) (λ e. e.start ≡ e.end) (entries_seen entries.now) }
@@ -125,7 +125,7 @@ fn push_char_section(
     push_closer(out, Section::BfChar)
 }
 
-/// Whether as many lines as there are texts are for single codes.
+/// Whether there are as many lines as texts, and all texts are for single codes.
 fn are_chars(count: u32, entries: &[BfRange]) -> bool
     ensures yes { IsTrue result → All (λ e. e.start ≡ e.end) (map bf_entry_seen entries.now) }
     ensures no { count ≡ length entries.now → All (λ e. e.start ≡ e.end) (map bf_entry_seen entries.now) → IsTrue result }
@@ -133,8 +133,8 @@ fn are_chars(count: u32, entries: &[BfRange]) -> bool
     count as usize == entries.len() && are_single(entries)
 }
 
-/// Writes a section of texts of ranges and arrays of texts. How many these are stands before them. Where
-/// there is neither a range nor an array, it is a section of single codes.
+/// Writes a section of texts of ranges and arrays of texts, after their count. A section without a range
+/// and without an array becomes a section of single codes.
 fn push_line_section(
     alloc: Global,
     out: &mut Vec<u8>,

@@ -1,4 +1,4 @@
-//! How many bytes the codes of texts are written with, which a file doesn't keep.
+//! The number of bytes of the codes of texts, which a file doesn't keep.
 
 ghost use Rattle.std.specs.Prelude.{◌≡◌, ℕ, List, [], ◌∷◌, ◌++◌, map, max, min};
 ghost use Rattle.cmap_values.specs.CodeLengths.{length_of};
@@ -19,10 +19,10 @@ const NONE: Range = Range {
     end: 0,
 };
 
-/// How many bytes the codes of texts are written with. A code that has no room in them has four.
+/// The number of bytes of the codes of texts. A code that doesn't fit in its number of bytes has four.
 #[derive(Clone, Copy)]
 pub struct TextLengths {
-    /// From the lowest to the highest code of the codespace ranges of each length.
+    /// The ranges from the lowest to the highest code of the codespace ranges, for each length.
     one: Range,
     two: Range,
     three: Range,
@@ -32,14 +32,14 @@ pub struct TextLengths {
 }
 
 impl TextLengths {
-    /// This length.
+    /// This length, for all codes that fit in it.
     pub fn same(len: CodeLength) -> TextLengths
         ensures { (code : ℕ) → text_length result code ≡ end_length (length_of len) code }
     {
         TextLengths::outside(len)
     }
 
-    /// The least length of which codespace ranges have codes around the code, and two bytes where none has.
+    /// The least length whose codespace ranges have codes around a code, and two bytes where there is none.
     pub fn by(spaces: &[Codespace]) -> TextLengths
         ensures { (code : ℕ) → text_length result code ≡ length_by (map codespace_seen spaces.now) code }
     {
@@ -63,7 +63,7 @@ impl TextLengths {
         }
     }
 
-    /// The lengths with one more codespace range.
+    /// The lengths with a further codespace range.
     fn widened(self, space: Codespace) -> TextLengths
         ensures { (other : CodeLength) → (ss : List files.Codespace) → AreBounds self other ss → AreBounds result other (ss ++ codespace_seen space ∷ []) }
     {
@@ -84,7 +84,7 @@ impl TextLengths {
         fitting(self.around(code), code)
     }
 
-    /// The length of which codespace ranges have codes around a code.
+    /// The least length whose codespace ranges have codes around a code, or `other`.
     fn around(self, code: u32) -> CodeLength
         ensures { length_of result ≡ length_around self code }
     {
@@ -102,7 +102,7 @@ impl TextLengths {
     }
 }
 
-/// The range with the codes of a codespace range.
+/// The range, extended to the codes of a codespace range.
 fn widened(range: Range, space: Codespace) -> Range
     ensures start { result.start ≡ min range.start space.low }
     ensures end { result.end ≡ max range.end space.high }

@@ -1,40 +1,42 @@
-//! Where a section of declarations ends, and of which kind it is, so that few bytes are written.
+//! The end and the kind of a section of declarations, chosen so that few bytes are written.
 
 use cmap_text::Extent;
 use cmap_values::code_length::CodeLength;
 
-/// How many bytes the count and the two names of a section take.
+/// The number of bytes of the count and the two names of a section.
 const HEAD: i32 = 28;
 
-/// What keeps codes of a range out of a section for single codes.
+/// The excess that keeps the codes of a range out of a section for single codes.
 const NEVER: i32 = 1 << 20;
 
-/// A place where a section can end.
+/// A point in a list where a section can end.
 #[derive(Clone, Copy)]
 struct Place {
-    /// How many declarations stand before it.
+    /// The number of declarations before this point.
     passed: usize,
-    /// By how many bytes these are longer in a section for ranges than in one for single codes.
+    /// The number of bytes by which these declarations are longer in a section for ranges than in
+    /// one for single codes.
     excess: i32,
 }
 
-/// Declarations from the first one on that may stand in one section.
+/// The declarations, from the first one on, that may stand in one section.
 #[derive(Drop)]
 pub(crate) struct Walk {
-    /// By how many bytes a single code is longer as a range.
+    /// The number of bytes by which a single code is longer as a range.
     width: i32,
-    /// After the declarations so far.
+    /// The point after the declarations so far.
     here: Place,
-    /// Where a section for single codes saves most.
+    /// The point where a section for single codes saves most.
     greatest: Place,
-    /// Where a section for ranges saves most.
+    /// The point where a section for ranges saves most.
     least: Place,
-    /// The kind of the section, once it saves as much as the count and the names of one take.
+    /// The kind of the section, once it saves as many bytes as the count and the names of a section
+    /// take.
     extent: Option<Extent>,
 }
 
 impl Walk {
-    /// Before the first declaration, whose codes have this length.
+    /// A walk before the first declaration, whose codes have this length.
     pub(crate) fn new(len: CodeLength) -> Walk {
         let start = Place {
             passed: 0,
@@ -59,13 +61,13 @@ impl Walk {
         self.pass(count, -NEVER);
     }
 
-    /// Passes an array of texts, whose codes are written for all but two.
+    /// Passes an array of texts. An array has two codes, in place of a code for each text.
     pub(crate) fn pass_array(&mut self, count: usize) {
         let saved = 2_i32.saturating_sub(number_of(count));
         self.pass(count, saved.saturating_mul(self.width));
     }
 
-    /// Passes declarations that are so much longer in a section for ranges.
+    /// Passes declarations that are longer by `excess` bytes in a section for ranges.
     fn pass(&mut self, count: usize, excess: i32) {
         let here = Place {
             passed: self.here.passed.saturating_add(count),
@@ -83,7 +85,8 @@ impl Walk {
         self.here = here;
     }
 
-    /// Whether the last declarations are worth a section of the other kind, and one more after it.
+    /// Whether the last declarations are worth a section of the other kind, and a further section
+    /// after it.
     pub(crate) fn is_over(&self) -> bool {
         match self.extent {
             Some(extent) => self.lost(extent) >= 2 * HEAD,
@@ -91,7 +94,7 @@ impl Walk {
         }
     }
 
-    /// By how many bytes the last declarations are longer in a section of this kind.
+    /// The number of bytes by which the last declarations are longer in a section of this kind.
     fn lost(&self, extent: Extent) -> i32 {
         match extent {
             Extent::Single => self.greatest.excess.saturating_sub(self.here.excess),
@@ -99,7 +102,7 @@ impl Walk {
         }
     }
 
-    /// The kind of the section, and how many of these declarations it has.
+    /// The kind of the section, and the number of its declarations.
     pub(crate) fn end(&self, all: usize) -> (Extent, usize) {
         let extent = self.extent.unwrap_or(if self.here.excess > 0 {
             Extent::Single
@@ -117,7 +120,7 @@ impl Walk {
     }
 }
 
-/// The kind of section that saves as much as its count and names take, if one does.
+/// The kind of section that saves as many bytes as its count and names take, if there is one.
 fn worth_a_section(excess: i32) -> Option<Extent> {
     if excess >= HEAD {
         Some(Extent::Single)
@@ -128,7 +131,7 @@ fn worth_a_section(excess: i32) -> Option<Extent> {
     }
 }
 
-/// How many declarations there are, as a number with a sign.
+/// The number of declarations as a signed number.
 fn number_of(count: usize) -> i32 {
     i32::try_from(count).unwrap_or(NEVER)
 }

@@ -1,14 +1,14 @@
--- Private aid: the ( that are open, while the bytes of a text are passed.
+-- Private aid: the open parentheses, while the bytes of a text are passed.
 use Rattle.std.specs.Prelude.{◌≡◌, ◌<◌, ℕ, suc, Bool, List, [], ◌∷◌, length, get_or, drop, Some, None, if◌then◌else◌}
 use Rattle.cmap_tokens.specs.TokenReading.{text_len, opened}
 use Rattle.cmap_tokens.specs.declared.token.unclosed.Open.{Open}
 
--- how many of them no backslash stands before
+-- how many open parentheses have no backslash before them
 abbrev pub plain_count : List Open → ℕ
 plain_count [] = 0
 plain_count (one ∷ rest) = if one.escaped then plain_count rest else suc (plain_count rest)
 
--- each of these is a (, and isn't closed if the bytes from an index on, after those before it, don't close it
+-- each entry is a ( of the text; if the bytes from the index i on don't close the (, it is unclosed in the whole text
 abbrev pub Tracks : List ℕ → ℕ → Bool → List Open → Type 0
 Tracks text i escaped [] = Unit {0}
 Tracks text i escaped (one ∷ rest) =

@@ -1,4 +1,4 @@
--- What contracts see of a text: its characters, and not where they lie in memory.
+-- What contracts see of a text: its characters, without their place in memory.
 use Rattle.std.specs.String.{string_bytes}
 use Rattle.std.specs.Str.{chars}
 use Rattle.cmap_tokens.specs.declared.utf16.BfString.{BfString}

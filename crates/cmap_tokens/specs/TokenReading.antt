@@ -1,4 +1,4 @@
--- Private aid: what the code reads, as functions on lists. TokensLeft is made of it, and so are the clauses on the tokens that are left.
+-- Private aid: the reading that the code does, as functions on lists. TokensLeft and the contracts on the tokens that are left use these functions.
 use Rattle.std.specs.Prelude.{zero, suc, ◌^◌, nat_lt, ◌%◌, ◌++◌, length, min, get_or, drop, ℕ, ◌+◌, ◌==◌, ◌||◌, Bool, true, false, not, List, [], ◌∷◌, take, map, option_map, filter, Option, Some, None, codes, if◌then◌else◌}
 use Rattle.std.specs.List.{prefix_len}
 use Rattle.std.specs.Option.{option_map_or, option_to_list}
@@ -10,7 +10,7 @@ use Rattle.cmap_tokens.specs.Tokens.{Token, Name, String, Inside, after_byte, is
 use Rattle.cmap_tokens.specs.Numbers.{digits_len, digits_number}
 use Rattle.cmap_tokens.specs.Strings.{digit_pairs, escape_value, hex_value, inside}
 
--- one more, where there is a count
+-- the count and one more, if there is a count
 abbrev pub one_more : Option ℕ → Option ℕ
 one_more count = option_map (λ n. 1 + n) count
 
@@ -18,31 +18,31 @@ one_more count = option_map (λ n. 1 + n) count
 abbrev pub begins_with : ℕ → List ℕ → Bool
 begins_with c text = begins (λ b. b == c) text
 
--- how many bytes of white space and comments a text begins with, where a comment is open or not
+-- how many bytes of white space and comments a text begins with, where in_comment states whether a comment is open before the text
 abbrev pub gap_len : Bool → List ℕ → ℕ
 gap_len in_comment [] = 0
 gap_len true (b ∷ text) = 1 + gap_len (not (ends_comment b)) text
 gap_len false (b ∷ text) = if b == byte "%" then 1 + gap_len true text else if is_white b then 1 + gap_len false text else 0
 
--- a byte that lies above those that end a comment
+-- a byte above all bytes that end a comment
 abbrev pub is_plain : ℕ → Bool
 is_plain b = nat_lt (byte "\r") b
 
--- how many bytes up to and including >, where only digits and white bytes stand before it
+-- how many bytes a text has up to and including >, if only digits and white bytes stand before the >
 abbrev pub hex_len : List ℕ → Option ℕ
 hex_len text = if get_or text (prefix_len is_hex_body text) 0 == byte ">" then Some (1 + prefix_len is_hex_body text) else None
 
--- after the (
+-- the state after the (
 abbrev pub opened : Option Inside
 opened = Some (record { escaped = false; depth = 1 })
 
--- how many bytes up to and including the ) that closes the first parenthesis
+-- how many bytes a text has up to and including the ) that closes the first parenthesis
 abbrev pub text_len : Option Inside → List ℕ → Option ℕ
 text_len None text = Some 0
 text_len (Some state) [] = None
 text_len (Some state) (b ∷ text) = one_more (text_len (after_byte state b) text)
 
--- how many bytes the string takes that a text begins with
+-- the length of the string that begins a text, in bytes
 abbrev pub string_len : List ℕ → Option ℕ
 string_len [] = None
 string_len (b ∷ text) =
@@ -50,7 +50,7 @@ string_len (b ∷ text) =
     else if b == byte "(" then one_more (text_len opened text)
     else None
 
--- the string of the first len bytes, where there is one, and how many these are
+-- the string of the first len bytes of a text, and its length, if a len is given
 abbrev pub string_of : List ℕ → Option ℕ → Option (Token × ℕ)
 string_of text len = option_map (λ n. (String (take n text), n)) len
 
@@ -66,7 +66,7 @@ first_piece (b ∷ text) =
     else if b == byte "(" then string_of (b ∷ text) (string_len (b ∷ text))
     else None
 
--- how many bytes stand before the first one that shows that no token comes, where a text begins with none: all of them, where none shows it. Stops says which byte that is
+-- how many bytes stand before the first byte that rules out a token, for a text that begins with no token: all bytes, if no byte rules it out. Stops defines that byte
 abbrev pub malformed_len : List ℕ → ℕ
 malformed_len [] = 0
 malformed_len (b ∷ text) =
@@ -75,7 +75,7 @@ malformed_len (b ∷ text) =
     else if b == byte "(" then 1 + length text
     else 0
 
--- the digits of a hexadecimal string, and their bytes after a digit that waits for its second
+-- the digits of a hexadecimal string; and the bytes of digits, after a first digit that still lacks its second
 abbrev pub hex_digits : List ℕ → List ℕ
 hex_digits body = map digit_value (filter (λ b. is_digit b 16) body)
 
@@ -83,19 +83,19 @@ abbrev pub pairs_after : Option ℕ → List ℕ → List ℕ
 pairs_after None digits = digit_pairs digits
 pairs_after (Some high) digits = digit_pairs (high ∷ digits)
 
--- the digits of an octal escape: three at the most
+-- how many digits an octal escape has: at most three
 abbrev pub octal_len : List ℕ → ℕ
 octal_len text = min 3 (digits_len 8 text)
 
--- their value modulo 256, and how many there are
+-- the value of an octal escape modulo 256, and the number of its digits
 abbrev pub octal : List ℕ → ℕ × ℕ
 octal text = (digits_number 8 (take (octal_len text) text) % 256, octal_len text)
 
--- how many bytes a line end takes that begins with a carriage return: CR LF, or CR alone
+-- the length of a line end that begins with a carriage return, CR LF or CR alone, where the text is the part after the CR
 abbrev pub return_len : List ℕ → ℕ
 return_len text = if begins_with (byte "\n") text then 2 else 1
 
--- what stands after a backslash: the byte that is meant, if any, and how many bytes tell it. The end of a line is taken away
+-- an escape, from the bytes after its backslash: the byte that it means, if any, and the number of bytes that it takes. An escaped line end means no byte
 unfoldable pub escape : List ℕ → Option ℕ × ℕ
 escape [] = (None, 0)
 escape (c ∷ text) =
@@ -104,7 +104,7 @@ escape (c ∷ text) =
     else if is_digit c 8 then (Some (octal (c ∷ text)).0, (octal (c ∷ text)).1)
     else (Some (escape_value c), 1)
 
--- the first part of the body of ( .. ): the byte that it stands for, if any, and how many bytes it takes. Any end of a line is LF
+-- the first part of the body of ( .. ): the byte that the part stands for, if any, and its length. A line end that isn't escaped stands for LF
 unfoldable pub first_part : List ℕ → Option ℕ × ℕ
 first_part [] = (None, 0)
 first_part (b ∷ text) =
@@ -121,7 +121,7 @@ parts_value (suc n) body = option_to_list (first_part body).0 ++ parts_value n (
 abbrev pub text_value : List ℕ → List ℕ
 text_value body = parts_value (length body) body
 
--- each backslash has a byte after it, in a text that a backslash stands before or not
+-- each escaping backslash has a byte after it, where escaped states whether a backslash escapes the first byte of the text
 abbrev pub is_paired : Bool → List ℕ → Bool
 is_paired escaped [] = not escaped
 is_paired true (b ∷ text) = is_paired false text
@@ -131,7 +131,7 @@ is_paired false (b ∷ text) = is_paired (b == byte "\\") text
 unfoldable pub is_string : List ℕ → Bool
 is_string text = option_map_or (λ n. n == length text) (string_len text) false
 
--- the bytes of a string, by its first bracket
+-- the bytes that a string stands for; its first bracket shows its kind
 abbrev pub value_by_bracket : List ℕ → List ℕ
 value_by_bracket piece = if get_or piece 0 0 == byte "<" then hex_value (inside piece) else text_value (inside piece)
 
@@ -144,10 +144,10 @@ string_value piece = if is_string piece then Some (value_by_bracket piece) else 
 abbrev pub begins_number : ℕ → Bool
 begins_number b = is_digit b 10 || b == byte "+" || b == byte "-" || b == byte "."
 
--- the value of a digit of a base, and for any other byte more than eight digits write
+-- the value of a digit of a base; for any other byte 2^32, more than any number of eight digits
 abbrev pub weight : ℕ → ℕ → ℕ
 weight base b = if is_digit b base then digit_value b else 2 ^ 32
 
--- the decimal digits that a text begins with, where a byte follows them: the number that they write, and how many they are
+-- the decimal digits at the start of a text, if a byte follows them: the number that the digits write, and the number of the digits
 abbrev pub leading_digits : List ℕ → Option (ℕ × ℕ)
 leading_digits text = if nat_lt (digits_len 10 text) (length text) then Some (digits_number 10 (take (digits_len 10 text) text), digits_len 10 text) else None

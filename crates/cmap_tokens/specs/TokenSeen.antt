@@ -1,4 +1,4 @@
--- What contracts see of a token: which it is and its bytes, and not where they lie in memory.
+-- What contracts see of a token: its kind and its bytes, without their place in memory.
 use Rattle.std.specs.Prelude.{ℕ, Bool, List, Result, Ok, Err}
 use Rattle.cmap_tokens.specs.declared.token.Name.{Name}
 use Rattle.cmap_tokens.specs.declared.token.StringToken.{StringToken}
@@ -17,11 +17,11 @@ use Rattle.cmap_tokens.specs.Tokens as tokens
 abbrev pub name_is_literal : Name → Bool
 name_is_literal name = name.literal
 
--- without the slash
+-- the bytes of a name, without the slash
 abbrev pub bytes_of_name : Name → List ℕ
 bytes_of_name name = name.bytes.now
 
--- with its brackets
+-- the bytes of a string, with its brackets
 abbrev pub string_raw : StringToken → List ℕ
 string_raw string = string.raw.now
 

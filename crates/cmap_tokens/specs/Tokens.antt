@@ -18,7 +18,7 @@ pub data Token : Type 0 where
 abbrev pub IsRegularRun : List ℕ → Type 0
 IsRegularRun text = (0 < length text) × IsTrue (list_all is_regular text)
 
--- a run that is spelled as a number is that number, and else a name
+-- a run that spells a number is this number; any other run is an executable name
 abbrev pub name_or_number : List ℕ → Token
 name_or_number run = option_map_or Numeral (numeral run) (Name false run)
 
@@ -26,7 +26,7 @@ name_or_number run = option_map_or Numeral (numeral run) (Name false run)
 abbrev pub is_bracket : ℕ → Bool
 is_bracket b = list_any (λ c. b == c) (codes "[]{}")
 
--- these, << and >>
+-- a bracket: [ ] { } << >>
 abbrev pub IsBracket : List ℕ → Type 0
 IsBracket piece = ((b : ℕ) × (piece ≡ b ∷ []) × IsTrue (is_bracket b)) ⊎ ((piece ≡ codes "<<") ⊎ (piece ≡ codes ">>"))
 
@@ -34,7 +34,7 @@ IsBracket piece = ((b : ℕ) × (piece ≡ b ∷ []) × IsTrue (is_bracket b)) �
 abbrev pub is_hex_body : ℕ → Bool
 is_hex_body b = is_white b || is_digit b 16
 
--- < digits >, white bytes among them
+-- < digits >, perhaps with white bytes among the digits
 abbrev pub IsHexString : List ℕ → Type 0
 IsHexString piece = (body : List ℕ) × (piece ≡ byte "<" ∷ body ++ byte ">" ∷ []) × IsTrue (list_all is_hex_body body)
 
@@ -52,13 +52,13 @@ after_byte state b =
     else if b == byte ")" then (if state.depth == 1 then None else Some (record { escaped = false; depth = state.depth - 1 }))
     else Some (record { escaped = false; depth = state.depth })
 
--- from this state the first parenthesis is closed by the last byte, and not before
+-- from this state the last byte closes the first parenthesis, and no earlier byte does
 abbrev pub closes_at_end : Option Inside → List ℕ → Bool
 closes_at_end None bytes = length bytes == 0
 closes_at_end (Some state) [] = false
 closes_at_end (Some state) (b ∷ bytes) = closes_at_end (after_byte state b) bytes
 
--- ( .. ), balanced at its last byte
+-- ( .. ), where the last byte closes the first parenthesis
 abbrev pub IsTextString : List ℕ → Type 0
 IsTextString piece = (bytes : List ℕ) × (piece ≡ byte "(" ∷ bytes) × IsTrue (closes_at_end (Some (record { escaped = false; depth = 1 })) bytes)
 
@@ -74,11 +74,11 @@ IsToken piece token =
     ⊎ ((IsBracket piece × (token ≡ Name false piece))
     ⊎ (IsString piece × (token ≡ String piece))))
 
--- what a name or a number begins with: a regular byte or /
+-- a name or a number begins with a regular byte or /
 abbrev pub begins_name : List ℕ → Bool
 begins_name text = begins (λ b. is_regular b || b == byte "/") text
 
--- the text is a gap, then a piece that is this token and as long as can be, then the rest
+-- the text is a gap, then a piece that is this token and as long as possible, then the rest
 pub record Front (text gap piece : List ℕ) (token : Token) (rest : List ℕ) : Type 0 where
   pub whole : text ≡ gap ++ piece ++ rest
   pub gap_is : IsGap gap
@@ -89,11 +89,11 @@ pub record Front (text gap piece : List ℕ) (token : Token) (rest : List ℕ) :
 abbrev pub HasFront : List ℕ → Type 0
 HasFront text = (gap piece rest : List ℕ) × (token : Token) × Front text gap piece token rest
 
--- none comes next
+-- no token comes next in the text
 abbrev pub HasNoFront : List ℕ → Type 0
 HasNoFront text = (gap piece rest : List ℕ) (token : Token) → Front text gap piece token rest → ⊥
 
--- the text has no front, and is no gap either
+-- no token comes next in the text, and the text isn't blank
 abbrev pub IsMalformed : List ℕ → Type 0
 IsMalformed text = (IsBlank text → ⊥) × HasNoFront text
 

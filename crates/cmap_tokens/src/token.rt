@@ -27,8 +27,8 @@ use std::alloc::AllocError;
 use std::fmt;
 use std::marker::Model;
 
-/// A token, as the PostScript Language Reference, third edition, 3.2.2, spells it, without base-85
-/// strings. Its slices are those of the text that it stands in.
+/// A token of PostScript (PostScript Language Reference, third edition, 3.2.2). Base-85 strings aren't among
+/// the tokens. The slices of a token are slices of the text that contains it.
 #[derive(Clone, Copy)]
 pub enum Token<'a> {
     /// `/WMode`, `def`, `[`, `<<`
@@ -39,7 +39,7 @@ pub enum Token<'a> {
     Number(Number),
 }
 
-/// The name, the string or the number.
+/// Shows the name, the string or the number itself.
 impl<'a> fmt::Debug for Token<'a> {
     fn fmt<W: fmt::Write>(&self, f: &mut fmt::Formatter<W>) -> fmt::Result {
         match self {
@@ -69,7 +69,8 @@ impl<'a> Name<'a> {
         self.literal
     }
 
-    /// The bytes of the name in the text, without the slash. `#` begins no escape among them.
+    /// The bytes of the name in the text, without the slash. A `#` in a name is an ordinary byte and begins
+    /// no escape.
     pub fn as_bytes(&self) -> &'a [u8]
         ensures { result.now ≡ bytes_of_name self.now }
     {
@@ -99,9 +100,9 @@ impl<'a> StringToken<'a> {
         self.raw
     }
 
-    /// How many bytes the string stands for, and the number that they write, the high one first: of
-    /// a hexadecimal string of one to four bytes, whose digits stand in pairs with no white space.
-    /// `None` of any other string. It takes no memory.
+    /// The number of bytes that the string stands for, and the big-endian number of these bytes, for a
+    /// hexadecimal string of one to four pairs of digits without white space. `None` for any other string.
+    /// The call allocates no memory.
     pub fn plain_number(&self) -> Option<(u8, u32)>
         ensures value { IfSome result (λ first. (value : List ℕ)
             × IsOnlyValue (string_raw self.now) value × AllByRecursion (λ b. b < 2 ^ 8) value
@@ -117,11 +118,11 @@ impl<'a> StringToken<'a> {
         }
     }
 
-    /// Replaces the content of `out` by the bytes that the string stands for, as the PostScript
-    /// Language Reference, third edition, 3.2.2, gives them. The value is no longer than `raw`,
-    /// and all growth of `out` comes first.
+    /// Replaces the content of `out` by the bytes that the string stands for (PostScript Language Reference,
+    /// third edition, 3.2.2). The string stands for at most as many bytes as `raw` has. `out` grows only
+    /// before its content changes.
     ///
-    /// It fails only where `out` can't grow, and then `out` holds what it held.
+    /// The call fails only if `out` can't grow; then the content of `out` is unchanged.
     pub fn decode_into(&self, out: &mut Vec<u8>) -> Result<(), AllocError>
         ensures value { OnOk result (IsValue (string_raw self.now) out.new.items) }
         // The string stands for no other bytes.
@@ -141,14 +142,14 @@ impl<'a> StringToken<'a> {
         Ok(())
     }
 
-    /// Whether it stands between `<` and `>`, and not in parentheses.
+    /// Whether the string stands between `<` and `>`, and not in parentheses.
     fn is_hexadecimal(&self) -> bool
         ensures { result ≡ (get_or (string_raw self.now) 0 0 == byte "<") }
     {
         matches!(self.raw, [b'<', ..])
     }
 
-    /// What stands between the brackets.
+    /// The bytes between the brackets.
     #[tactic(auto, using(crate::proofs::StringValues::has_brackets))]
     fn body(&self) -> &'a [u8]
         ensures { result.now ≡ inside (string_raw self.now) }
@@ -160,13 +161,13 @@ impl<'a> StringToken<'a> {
 /// The value of a number.
 #[derive(Clone, Copy, PartialEq, Eq)]
 pub enum Number {
-    /// `-17`, `08`, `16#1F`: an integer, in the base that it names or in base 10.
+    /// `-17`, `08`, `16#1F`: an integer, in base 10 or in the base before its `#`.
     Integer(i64),
-    /// `4.5`, `1E9`: a real, whose value isn't given, or an integer that `i64` doesn't hold.
+    /// `4.5`, `1E9`: a real, without its value, or an integer outside of the range of `i64`.
     Real,
 }
 
-/// The integer, or that it is a real.
+/// Shows the integer, or the word `Real`.
 impl fmt::Debug for Number {
     fn fmt<W: fmt::Write>(&self, f: &mut fmt::Formatter<W>) -> fmt::Result {
         match self {
@@ -176,14 +177,14 @@ impl fmt::Debug for Number {
     }
 }
 
-/// Why what comes next in a text isn't a token.
+/// The reason why no token comes next in a text.
 #[derive(Clone, Copy, Debug, PartialEq, Eq)]
 pub enum Malformed {
     /// A `(` that no `)` balances up to the end of the text.
     UnclosedText,
-    /// A `<` with digits and white space up to the end of the text.
+    /// A `<` that only digits and white space follow, up to the end of the text.
     UnclosedHexadecimal,
-    /// Another byte than a digit in a hexadecimal string.
+    /// A byte in a hexadecimal string that is neither a digit nor white space.
     WrongDigit,
     /// A `)` or a `>` alone.
     Stray,
@@ -197,7 +198,7 @@ pub struct Scanner<'a> {
     offset: usize,
 }
 
-// A clause sees the text, and how many of its bytes have been passed.
+// Contracts see the text, and how many of its bytes the scanner has passed.
 impl<'a> Model for Scanner<'a> {
     ghost use Rattle.std.specs.Prelude.{◌≤◌, length};
     ghost use Rattle.cmap_tokens.specs.Scanner.{Cursor};
@@ -227,17 +228,18 @@ impl<'a> Scanner<'a> {
     pub fn new(source: &'a [u8]) -> Self
         ensures scanner { result ≡ start_of source.now }
 
-        // The tokens of a text are those that are left of it, if it ends after them.
+        // The tokens that are left at the start are all tokens of the text, if the text ends after them.
         ensures tokens { HasTokens source.now (tokens_of (start_of source.now)) }
 
-        // They end one after another, and those that end by a byte are decided by the bytes up to it.
+        // The tokens end in order. The bytes up to and including an offset decide all tokens whose ends are
+        // at most this offset.
         ensures order { EndInOrder (tokens_of (start_of source.now)) }
         ensures fronts { IsDecidedByFronts source.now }
     {
         Scanner { source, offset: 0 }
     }
 
-    /// How many bytes of the text have been passed.
+    /// The number of bytes of the text that the scanner has passed.
     #[tactic(auto, using(crate::proofs::Fronts::passed_of))]
     pub fn offset(&self) -> usize
         ensures passed { result ≡ self.now.passed }
@@ -246,22 +248,23 @@ impl<'a> Scanner<'a> {
         self.offset
     }
 
-    /// The offset at which what comes next begins, after white space and comments.
+    /// The offset at which the white space and comments that come next end. The next token, if any, begins
+    /// there.
     pub fn next_start(&self) -> usize
         ensures { result ≡ self.now.passed + gap_len false (rest_of self.now) }
     {
         self.offset + gap_len(&self.source[self.offset..])
     }
 
-    /// Where no token comes next, the offset of the first byte that shows it: after the bytes up to and
-    /// including that one none comes, whatever follows, and after fewer bytes one may still come. It is
-    /// the length of the text where none of its bytes shows it, as in white space and comments up to the
-    /// end, or in a string that isn't closed.
+    /// If no token comes next, the offset of the first byte that rules out a token. After the bytes up to
+    /// and including this byte no token can come, whatever follows; after fewer bytes a token can still
+    /// come. If no byte rules out a token, such as in white space and comments up to the end of the text or
+    /// in an unclosed string, the offset is the length of the text.
     pub fn stop(&self) -> usize
         ensures first { HasNoFront (rest_of self.now) → StopsAt self.now result }
         ensures only { HasNoFront (rest_of self.now)
             → (other : ℕ) → StopsAt self.now other → other ≡ result }
-        // The same offset, in the words of the tokens that are left.
+        // If no token is left, this offset is the `stop` of the tokens that are left.
         ensures offset { (tokens_of self.now).tokens ≡ [] → result ≡ (tokens_of self.now).stop }
         ensures within { result ≤ length self.now.source }
     {
@@ -270,7 +273,8 @@ impl<'a> Scanner<'a> {
         self.offset + gap + malformed_len(&rest[gap..])
     }
 
-    /// Whether a `>` stands where the string ends that `next_two_bytes` reads, as it does in most files.
+    /// Whether the seventh byte that is left is a `>`, as at the end of each string that `next_two_bytes`
+    /// reads. Most files have such strings.
     #[inline(always)]
     pub fn may_have_two_bytes(&self) -> bool
         ensures { result ≡ (get_or (rest_of self.now) 6 0 == byte ">") }
@@ -278,9 +282,9 @@ impl<'a> Scanner<'a> {
         matches!(&self.source[self.offset..], [_, _, _, _, _, _, b'>', ..])
     }
 
-    /// The number that the two bytes of the next string write, the high one first, where one white
-    /// byte and then `<`, four digits and `>` come next, as in most codes. The scanner is moved past
-    /// the string. `None` of any other text, leaving the scanner in place.
+    /// The big-endian number of the two bytes of the next string, if one white byte, `<`, four digits and
+    /// `>` come next, as in most codes. Moves the scanner past the string. For any other text the answer is
+    /// `None` and the scanner stays in place.
     #[inline(always)]
     pub fn next_two_bytes(&mut self) -> Option<u16>
         ensures token { IfSome result (λ number. (piece : List ℕ)
@@ -295,9 +299,9 @@ impl<'a> Scanner<'a> {
         Some(number)
     }
 
-    /// How many bytes the next string stands for, and the number that they write, the high one first,
-    /// where one white byte and then `<`, one to four pairs of digits and `>` come next. The scanner is
-    /// moved past the string. `None` of any other text, leaving the scanner in place.
+    /// The number of bytes that the next string stands for, and the big-endian number of these bytes, if one
+    /// white byte, `<`, one to four pairs of digits and `>` come next. Moves the scanner past the string.
+    /// For any other text the answer is `None` and the scanner stays in place.
     #[inline(always)]
     pub fn next_pairs(&mut self) -> Option<(u8, u32)>
         ensures token { IfSome result (λ first. (piece : List ℕ)
@@ -313,8 +317,10 @@ impl<'a> Scanner<'a> {
         Some((count, number))
     }
 
-    /// The same of a string of six or eight bytes: how many, the number that the first four write, and the
-    /// number that the others write.
+    /// The number of bytes that the next string stands for, the big-endian number of the first four bytes,
+    /// and the big-endian number of the other bytes, if one white byte, `<`, six or eight pairs of digits
+    /// and `>` come next. Moves the scanner past the string. For any other text the answer is `None` and the
+    /// scanner stays in place.
     #[inline(always)]
     pub fn next_parts(&mut self) -> Option<(u8, u32, u32)>
         ensures token { IfSome result (λ first. (piece : List ℕ)
@@ -330,9 +336,9 @@ impl<'a> Scanner<'a> {
         Some((count, high, low))
     }
 
-    /// The numbers that the two bytes of each of the next two strings write, where both stand as
-    /// `next_two_bytes` says. The scanner is moved past both. `None` of any other text, leaving the scanner
-    /// in place.
+    /// The big-endian numbers of the next two strings of two bytes, if both strings have the form that
+    /// `next_two_bytes` reads. Moves the scanner past both strings. For any other text the answer is `None`
+    /// and the scanner stays in place.
     #[inline(always)]
     pub fn next_two_strings(&mut self) -> Option<(u16, u16)>
         ensures tokens { IfSome result (λ found. (between : Cursor) × (first second : List ℕ)
@@ -347,10 +353,11 @@ impl<'a> Scanner<'a> {
         Some((first, second))
     }
 
-    /// The number that the two bytes of the next string write, and the number after it, where one white
-    /// byte stands before each, four digits write the bytes, and three to five decimal digits before a
-    /// white byte the number. Two white bytes may stand before three digits. The scanner is moved past both.
-    /// `None` of any other text and near the end of the text, leaving the scanner in place.
+    /// The big-endian number of the next string of two bytes, and the decimal number after the string. The
+    /// string has the form that `next_two_bytes` reads. The decimal number has three to five digits, with
+    /// one white byte before and one after; two white bytes may stand before three digits. Moves the scanner
+    /// past both tokens. For any other text, and near the end of the text, the answer is `None` and the
+    /// scanner stays in place.
     #[inline(always)]
     pub fn next_two_bytes_and_decimal(&mut self) -> Option<(u16, u64)>
         ensures tokens { IfSome result (λ found. (between : Cursor) × (piece : List ℕ)
@@ -366,9 +373,10 @@ impl<'a> Scanner<'a> {
         Some((bytes, number))
     }
 
-    /// The numbers that the two bytes of each of the next two strings write, and the number after them,
-    /// where these stand as `next_two_bytes_and_decimal` says. The scanner is moved past all three. `None`
-    /// of any other text and near the end of the text, leaving the scanner in place.
+    /// The big-endian numbers of the next two strings of two bytes, and the decimal number after the
+    /// strings, in the forms that `next_two_bytes_and_decimal` reads. Moves the scanner past all three
+    /// tokens. For any other text, and near the end of the text, the answer is `None` and the scanner stays
+    /// in place.
     #[inline(always)]
     pub fn next_two_strings_and_decimal(&mut self) -> Option<(u16, u16, u64)>
         ensures tokens { IfSome result (λ found. (first second : Cursor) × (low high : List ℕ)
@@ -386,8 +394,9 @@ impl<'a> Scanner<'a> {
         Some((low, high, number))
     }
 
-    /// The next number, where one white byte, one to 18 decimal digits and then a byte that ends them
-    /// come next. The scanner is moved past the digits. `None` of any other text, leaving it in place.
+    /// The next number, if one white byte, one to 18 decimal digits and a byte that isn't regular come next.
+    /// Moves the scanner past the digits. For any other text the answer is `None` and the scanner stays in
+    /// place.
     #[inline(always)]
     pub fn next_decimal(&mut self) -> Option<u64>
         ensures token { IfSome result (λ number.
@@ -406,7 +415,7 @@ impl<'a> Scanner<'a> {
         self.next_other_decimal()
     }
 
-    /// The answer of `next_decimal`, for a number of any length.
+    /// The answer of `next_decimal`, for a number of one to 18 digits.
     #[inline(never)]
     fn next_other_decimal(&mut self) -> Option<u64>
         ensures token { IfSome result (λ number.
@@ -422,9 +431,9 @@ impl<'a> Scanner<'a> {
         Some(number)
     }
 
-    /// The next number, where two white bytes, one to 18 decimal digits and then a byte that ends them
-    /// come next, as in columns of numbers. The scanner is moved past the digits. `None` of any other
-    /// text, leaving it in place.
+    /// The next number, if two white bytes, one to 18 decimal digits and a byte that isn't regular come
+    /// next, as in columns of numbers. Moves the scanner past the digits. For any other text the answer is
+    /// `None` and the scanner stays in place.
     #[inline(never)]
     pub fn next_padded_decimal(&mut self) -> Option<u64>
         ensures token { IfSome result (λ number.
@@ -438,13 +447,13 @@ impl<'a> Scanner<'a> {
         Some(number)
     }
 
-    /// The next token, whose slices are those of the text; `None` where only white space and
-    /// comments are left.
+    /// The next token, whose slices are slices of the text. `None` if only white space and comments are
+    /// left.
     ///
-    /// Only a token moves the scanner, to the byte after it. So after an error each later call
-    /// answers the same error.
+    /// A token moves the scanner to the byte after the token; the end of the text and an error leave the
+    /// scanner in place. So each call after an error gives the same error.
     pub fn next_token(&mut self) -> Result<Option<Token<'a>>, Malformed>
-        // The token that is read is the one that the text begins with, and there is no other.
+        // The token that is read is the only first token of the rest of the text.
         ensures token { IfOk result
             (λ found. IfSome found (λ token. ReadsToken self.old (token_seen token) self.new)) }
         ensures end { (result ≡ Ok None) ↔ IsBlank (rest_of self.old) }
@@ -453,7 +462,7 @@ impl<'a> Scanner<'a> {
         ensures end_stays { result ≡ Ok None → self.new ≡ self.old }
         ensures err_stays { OnErr result (self.new ≡ self.old) }
 
-        // What this says of the tokens that are left, and of how they end.
+        // The effect on the list of the tokens that are left.
         ensures left { MatchResult result (λ found. MatchOption found (LeavesNone true self.old)
             (λ token. LeavesAfter (token_seen token) self.old self.new))
             (λ malformed. LeavesMalformed (malformed_seen malformed) self.old) }

@@ -11,13 +11,12 @@ ghost use Rattle.cmap_tokens.specs.TextSeen.{text_seen};
 
 use std::alloc::{AllocError, Global};
 
-/// The text that a code stands for, as a bf destination of a CMap gives it (ISO 32000, ToUnicode
-/// CMaps).
+/// The text of a code, from a bf destination of a CMap (ISO 32000, ToUnicode CMaps).
 #[derive(Debug, Drop, PartialEq, Eq)]
 pub enum BfString {
     /// A text of one character.
     Char(char),
-    /// A text of more characters.
+    /// A text of more than one character.
     String(String),
 }
 
@@ -26,9 +25,9 @@ impl BfString {
     ghost use Rattle.cmap_tokens.specs.Texts.{more};
     ghost use Rattle.cmap_tokens.specs.TextSeen.{text_seen};
 
-    /// Another text with the characters of this one.
+    /// A copy of the text.
     ///
-    /// It fails only if memory runs out. Only a `String` takes some.
+    /// The call fails only if memory runs out; only a `String` allocates memory.
     pub fn clone(&self, alloc: Global) -> Result<BfString, AllocError>
         ensures same { IfOk result (λ copy. text_seen copy ≡ text_seen self.now) }
         ensures err { OnErr result
@@ -41,8 +40,8 @@ impl BfString {
     }
 }
 
-/// The 16-bit units that the bytes of a destination write, the high byte of each first. Of an odd
-/// number of bytes the first one is a unit by itself.
+/// The 16-bit units of a destination, whose bytes are big-endian. If the number of bytes is odd, the
+/// first byte is a unit by itself.
 ///
 /// It fails only if memory runs out.
 pub fn units(alloc: Global, bytes: &[u8]) -> Result<Vec<u16>, AllocError>
@@ -60,11 +59,11 @@ pub fn units(alloc: Global, bytes: &[u8]) -> Result<Vec<u16>, AllocError>
     Ok(units)
 }
 
-/// The text of the code at this offset from the first code of a declaration, whose 16-bit units
-/// these are. The offset is added to the last unit. `None` where there is no unit, where the sum
-/// is no unit, or where a surrogate stands alone.
+/// The text of the code at `offset` from the first code of a declaration. `units` are the 16-bit
+/// units of the text of the first code, and the offset is added to the last unit. `None` if there is
+/// no unit, if the sum exceeds 16 bits, or if a surrogate stands alone.
 ///
-/// It fails only if memory runs out, and only where the text has more than one character.
+/// It fails only if memory runs out, and only for a text of more than one character.
 pub fn text(alloc: Global, units: &[u16], offset: u32) -> Result<Option<BfString>, AllocError>
     ensures value { IfOk result
         (λ t. option_map text_seen t ≡ option_map text_of_characters (text_at units.now offset)) }
@@ -79,13 +78,14 @@ pub fn text(alloc: Global, units: &[u16], offset: u32) -> Result<Option<BfString
     match string(alloc, front, last) {
         Ok(Some(string)) => Ok(Some(BfString::String(string))),
         Ok(None) => Ok(None),
-        // A surrogate may stand alone where memory ran out.
+        // If a surrogate stands alone, the answer is `None` even if memory ran out.
         Err(AllocError) if is_well_formed(front, last) => Err(AllocError),
         Err(AllocError) => Ok(None),
     }
 }
 
-/// The character of the text that `text` gives, where it is just one. It takes no memory.
+/// The character of the text that `text` gives, if this text has just one character. The call
+/// allocates no memory.
 pub fn one_char(units: &[u16], offset: u32) -> Option<char>
     ensures { result ≡ only_character (text_at units.now offset) }
 {
@@ -104,7 +104,7 @@ fn shifted(units: &[u16], offset: u32) -> Option<(&[u16], u16)>
     Some((front, last))
 }
 
-/// The character that the units of `front` and `last` spell, where it is just one.
+/// The character of the units of `front` and `last`, if the units spell just one character.
 fn only_char(front: &[u16], last: u16) -> Option<char>
     ensures { result ≡ only_character (characters (front.now ++ last ∷ [])) }
 {
@@ -153,7 +153,7 @@ fn pair(high: u16, low: u16) -> Option<char>
     }
 }
 
-/// No surrogate stands alone.
+/// Whether no surrogate stands alone.
 #[tactic(auto, using(crate::proofs::TextsOfUnits::characters_end))]
 fn is_well_formed(front: &[u16], last: u16) -> bool
     ensures { result ≡ is_some (characters (front.now ++ last ∷ [])) }
@@ -168,12 +168,12 @@ fn is_well_formed(front: &[u16], last: u16) -> bool
     true
 }
 
-/// All the characters of the units of `front` and `last`; `None` where a surrogate stands alone.
+/// All the characters of the units of `front` and `last`; `None` if a surrogate stands alone.
 fn string(alloc: Global, front: &[u16], last: u16) -> Result<Option<String>, AllocError>
     ensures { IfOk result (λ string. option_map (λ string. chars (string_bytes string)) string
         ≡ characters (front.now ++ last ∷ [])) }
 {
-    // A unit takes three bytes at most.
+    // A unit takes at most three bytes in UTF-8.
     let mut text = String::with_capacity(alloc, 3 * (front.len() + 1))?;
     let mut index = 0;
     while index <= front.len() {

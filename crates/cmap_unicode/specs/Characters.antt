@@ -14,13 +14,13 @@ use Rattle.cmap_unicode.specs.declared.extractor.Extractor.{Extractor}
 abbrev pub font_of : Extractor → Font
 font_of maps = record { encoding = maps.encoding.now; to_unicode = option_copied maps.to_unicode; collection = option_copied maps.collection }
 
--- a code with its CID and its text, which is the only one that it has
+-- a code with its CID and its text; the code has no other text
 pub record IsCharacterOf (font : Font) (code : StringCode) (character : Character) : Type 0 where
   pub of_code : character.code ≡ code
   pub cid : character.cid ≡ declared_cid font.encoding code.code code.byte_len
   pub text : IsOnly (IsTextOf font code.code code.byte_len) (option_map text_seen character.text)
 
--- it is that of the code that the string begins with
+-- the code that the string begins with, with its CID and its text
 pub record IsNextCharacter (font : Font) (string : List ℕ) (character : Character) : Type 0 where
   pub code : IsOnly (IsNextCode font.encoding string) character.code
   pub lookups : IsCharacterOf font character.code character
@@ -31,7 +31,7 @@ pub record BeginsWithLongText (font : Font) (string : List ℕ) : Type 0 where
   pub is_next : IsOnly (IsNextCode font.encoding string) code
   pub is_long : HasLongText font code.code code.byte_len
 
--- they are those of all codes of the string, one after another
+-- all codes of the string, one after another, with their CIDs and their texts
 abbrev pub AreCharactersOf : Font → List ℕ → List Character → Type 0
 AreCharactersOf font string [] = string ≡ []
 AreCharactersOf font string (character ∷ characters) = IsNextCharacter font string character × AreCharactersOf font (drop character.code.byte_len string) characters
@@ -41,7 +41,7 @@ abbrev pub characters_of : Text → List ℕ
 characters_of (one c) = c ∷ []
 characters_of (more cs) = cs
 
--- in UTF-8, the text of a code, or another where it has none
+-- in UTF-8, the text of a code, or `missing` if the code has no text
 abbrev pub shown : List ℕ → Character → List ℕ
 shown missing character = unwrap_or (option_map (λ text. encode_utf8_all (characters_of (text_seen text))) character.text) missing
 

@@ -13,6 +13,6 @@ abbrev pub family_in : List Layer → Option Family
 family_in [] = None
 family_in (layer ∷ layers) = option_or (option_map (λ collection. collection.family) layer.metadata.collection) (family_in layers)
 
--- the name of its map
+-- the name of the map of that character collection
 abbrev pub collection_name_of : List Layer → Option (List ℕ)
 collection_name_of layers = option_map ucs2_name_of (family_in layers)

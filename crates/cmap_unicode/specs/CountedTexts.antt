@@ -1,8 +1,8 @@
--- Texts that count on: their last character.
+-- Texts that count on by their last character.
 use Rattle.std.specs.Prelude.{ℕ, ◌+◌, List, [], ◌∷◌}
 use Rattle.cmap_tokens.specs.Texts.{Text, more, one}
 
--- the characters, of which the last one is k characters further
+-- the characters, with the last one k characters further
 abbrev pub counted_on : List ℕ → ℕ → List ℕ
 counted_on [] k = []
 counted_on (c ∷ []) k = (c + k) ∷ []

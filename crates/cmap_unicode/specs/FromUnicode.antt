@@ -3,7 +3,7 @@ use Rattle.std.specs.Prelude.{ℕ, List, Option, None, Some, bytes_eq, codes, if
 use Rattle.cmap_values.specs.declared.writing_mode.WritingMode.{WritingMode}
 use Rattle.cmap_values.specs.declared.writing_mode.WritingMode.TheVariants.{Horizontal, Vertical}
 
--- for horizontal writing, and for vertical
+-- the names for horizontal and for vertical writing
 abbrev pub names_of : List ℕ → Option (List ℕ × List ℕ)
 names_of collection =
     if bytes_eq collection (codes "Adobe-Japan1") then Some (codes "UniJIS-UTF16-H", codes "UniJIS-UTF16-V")
@@ -18,6 +18,6 @@ abbrev for_mode : WritingMode → List ℕ × List ℕ → List ℕ
 for_mode Horizontal (horizontal, vertical) = horizontal
 for_mode Vertical (horizontal, vertical) = vertical
 
--- for a writing mode
+-- the name for a writing mode
 abbrev pub name_for : List ℕ → WritingMode → Option (List ℕ)
 name_for collection mode = option_map (for_mode mode) (names_of collection)

@@ -1,4 +1,4 @@
--- What layers declare for codes: CIDs, or notdefs.
+-- The CIDs or notdefs that layers declare for codes.
 use Rattle.std.specs.Prelude.{◌≡◌, ◌⊎◌, ℕ, ◌+◌, ◌-◌, ◌<◌, ◌≤◌, ◌^◌, List, [], ◌∷◌, IsSomeAnd, Option, None, Some, map, option_map, unwrap_or}
 use Rattle.cmap_runs.specs.Stretches.{IsLongest}
 use Rattle.cmap_values.specs.Files.{CidEntry, of_length}
@@ -10,16 +10,16 @@ use Rattle.cmap_layers.specs.declared.stretches.Cids.TheVariants.{Absent, CountO
 use Rattle.cmap_layers.specs.declared.stretches.CidStretch.{CidStretch}
 use Rattle.cmap_unicode.specs.Cids.{declared_cid}
 
--- the CID that a declaration of a CID gives to a code, or that of a notdef
+-- the CID that a declaration of a CID, or of a notdef, gives to a code
 pub data Given : Type 0 where
   as_cid : ℕ → Given
   as_notdef : ℕ → Given
 
--- a declaration of a CID gives none where that would pass 32 bits
+-- a declaration of a CID gives no CID past 32 bits
 abbrev pub given_at : CidEntry → ℕ → Option Given
 given_at e code = option_map as_cid (cid_at e code)
 
--- in one layer a declaration of a CID decides, or else one of a notdef
+-- in one layer, a declaration of a CID decides, or else a declaration of a notdef
 abbrev pub given_by : ℕ → Option CidEntry → Option CidEntry → Option (Option Given)
 given_by code (Some e) notdef = Some (given_at e code)
 given_by code None (Some e) = Some (Some (as_notdef e.cid))
@@ -58,25 +58,25 @@ Fits _ more = Unit {0}
 abbrev pub DeclaresNone : ℕ → ℕ → Layer → Type 0
 DeclaresNone len code layer = given_in layer code len ≡ None
 
--- in the list of CIDs another declaration decides the code after the last one than decides the first; or, where none does, in that of notdefs
+-- in the list of CIDs, another declaration decides the code after the last one than decides the first; or, if no CID is declared for the first code, so it is in the list of notdefs
 abbrev pub DeclarationsEnd : ℕ → ℕ → ℕ → Layer → Type 0
 DeclarationsEnd len first last layer = IsLongest (map cid_span (of_length layer.lists.cids len)) first last
     ⊎ ((last_cid (of_length layer.lists.cids len) first ≡ None) × IsLongest (map cid_span (of_length layer.lists.notdefs len)) first last)
 
--- what layers declare for codes of len bytes from the first to the last one
+-- the CIDs that layers declare for codes of len bytes from the first to the last one
 pub record AreDeclaredCids (layers : List Layer) (len first : ℕ) (stretch : CidStretch) : Type 0 where
   pub within : first ≤ stretch.last
   pub cids : (code : ℕ) → first ≤ code → code ≤ stretch.last → declared_cid layers code len ≡ cid_after stretch.cids (code - first)
   pub declared : (code : ℕ) → first ≤ code → code ≤ stretch.last → given layers code len ≡ given_after stretch.cids (code - first)
   pub fit : Fits stretch.cids (stretch.last - first)
-  -- it ends, unless with the last code of 32 bits, where another declaration decides, in a layer above which none declares anything for the first code; or with the last CID
+  -- unless the stretch ends with the last code of 32 bits, another declaration decides the next code, in a layer above which no layer declares anything for the first code; or the stretch ends with the last CID
   pub longest : stretch.last + 1 < 2 ^ 32 → HoldsBelow (DeclaresNone len first) (DeclarationsEnd len first stretch.last) layers ⊎ EndsCids stretch.cids (stretch.last - first)
 
 -- ---- private aid
--- of the codes from the first to the last one a layer decides that these are declared, or it decides nothing
+-- a layer declares these CIDs for the codes from the first to the last one, or declares nothing for any of them
 abbrev pub Decides : (ℕ → Option (Option Given)) → ℕ → ℕ → Option Cids → Type 0
 Decides decision first last cids = (code : ℕ) → first ≤ code → code ≤ last → decision code ≡ option_map (λ these. given_after these (code - first)) cids
 
--- what a layer declares from the first to the last code goes on with the code after it, unless one of these ends it
+-- a stretch of codes in one layer is as long as possible: it ends where its declarations end, or with the last CID
 abbrev pub IsLayerLongest : Layer → ℕ → ℕ → ℕ → Option Cids → Type 0
 IsLayerLongest layer len first last cids = last + 1 < 2 ^ 32 → DeclarationsEnd len first last layer ⊎ IsSomeAnd cids (λ these. EndsCids these (last - first))

@@ -1,10 +1,10 @@
--- Private aid: what one layer declares for a code.
+-- Private aid: the declaration of one layer for a code.
 use Rattle.std.specs.Prelude.{ℕ, Option, None, Some}
 use Rattle.cmap_values.specs.Files.{CidEntry, of_length}
 use Rattle.cmap_layers.specs.Layers.{Layer}
 use Rattle.cmap_layers.specs.Lookups.{cid_at, last_cid}
 
--- the CID of a declaration, or else that of a notdef
+-- the CID of a CID declaration, or else the CID of a notdef
 abbrev pub declared_by : ℕ → Option CidEntry → Option CidEntry → Option (Option ℕ)
 declared_by code (Some e) notdef = Some (cid_at e code)
 declared_by code None (Some e) = Some (Some e.cid)

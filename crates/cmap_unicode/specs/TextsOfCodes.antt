@@ -12,7 +12,7 @@ pub record Font : Type 0 where
   pub to_unicode : Option (List Layer)
   pub collection : Option (List Layer)
 
--- the text that a map gives to a code, by the code's number alone; none where the map is absent, where no declaration contains the code, and where the one that decides is empty or malformed
+-- the text that a map gives to a code, by the code's number alone; None if the map is absent, if no declaration contains the code, and if the deciding declaration is empty or malformed
 abbrev pub text_in : Option (List Layer) → ℕ → Option Text
 text_in map code = option_map text_of_characters (option_and_then (λ layers. bf_of layers code) map)
 
@@ -20,14 +20,14 @@ text_in map code = option_map text_of_characters (option_and_then (λ layers. bf
 pub data IsTextOf (font : Font) (code len : ℕ) : Option Text → Type 0 where
   -- the ToUnicode CMap converts the code to Unicode
   by_code : (text : Text) → text_in font.to_unicode code ≡ Some text → IsTextOf font code len (Some text)
-  -- it doesn't: the font's CMap maps the code to a CID, which may be that of a notdef, and the map of the character collection maps the CID to Unicode
+  -- the ToUnicode CMap doesn't: the font's CMap maps the code to a CID, which may be the CID of a notdef, and the map of the character collection maps the CID to Unicode
   by_cid : (cid : ℕ) (text : Text) → text_in font.to_unicode code ≡ None → declared_cid font.encoding code len ≡ Some cid → text_in font.collection cid ≡ Some text
       → IsTextOf font code len (Some text)
-  -- neither does: there is no way to determine what the code represents
+  -- neither map gives a text: there is no way to determine what the code represents
   unknown : text_in font.to_unicode code ≡ None → ((cid : ℕ) → declared_cid font.encoding code len ≡ Some cid → text_in font.collection cid ≡ None)
       → IsTextOf font code len None
 
--- it is a text of more than one character, which takes memory
+-- the code has a text of more than one character, which takes memory
 abbrev pub HasLongText : Font → ℕ → ℕ → Type 0
 HasLongText font code len = (characters : List ℕ) × IsTextOf font code len (Some (more characters))
 

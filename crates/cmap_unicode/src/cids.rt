@@ -20,11 +20,11 @@ use cmap_values::code_length::CodeLength;
 use cmap_values::declarations::CidRange;
 use cmap_values::names::Cid;
 
-/// The CID that a map declares for `code`, a code of `byte_len` bytes, big-endian: the one that
-/// `Layers::cid` gives where the map declares no texts. A character of a text is no CID.
+/// The CID that a map declares for `code`, a code of `byte_len` bytes, big-endian: the answer of
+/// `Layers::cid` if the map had no texts. A character of a text is no CID.
 ///
-/// It is `None` where no declaration of a CID or of a notdef contains the code, for a `byte_len`
-/// outside 1 to 4, and where the CID that is declared passes 32 bits. Codespace ranges aren't looked at.
+/// The result is `None` if no declaration of a CID or of a notdef contains the code, if `byte_len` isn't 1
+/// to 4, and if the declared CID doesn't fit in 32 bits. Codespace ranges aren't looked at.
 pub fn declared_cid(map: &Layers, code: u32, byte_len: u8) -> Option<Cid>
     ensures { result ≡ declared_cid map.now code byte_len }
 {
@@ -38,7 +38,8 @@ pub fn declared_cid(map: &Layers, code: u32, byte_len: u8) -> Option<Cid>
     None
 }
 
-/// What a layer declares for a code, if it does: its CID, or that it has none.
+/// The decision of a layer for a code, if the layer declares anything for it: the CID of the code, or that
+/// the code has no CID.
 fn declared_in(layer: &Layer, code: u32, len: CodeLength) -> Option<Option<Cid>>
     ensures { result ≡ declared_in (layer_seen layer.now) code (length_of len) }
 {
@@ -58,7 +59,7 @@ fn find_cid(cids: &Table<CidRange>, code: u32) -> Option<&CidRange>
     cids.find(code, &mut Looks::new())
 }
 
-/// Codes in a row, and what a layer declares for each of them, if it does.
+/// Codes in a row, and the CIDs that a layer declares for all of them, if it does.
 #[derive(Clone, Copy)]
 struct LayerStretch {
     cids: Option<Cids>,
@@ -66,15 +67,16 @@ struct LayerStretch {
 }
 
 /// The CIDs that a map declares for codes of this length from `first` on, as `declared_cid` gives them. The
-/// stretch ends where another declaration decides, or with the last CID. A caller who goes on with the code
-/// after the last one has the CIDs of all codes.
+/// stretch ends before a code for which another declaration decides, or with the last CID. A caller who
+/// goes on with the code after the last one gets the CIDs of all codes.
 pub fn declared_stretch(map: &Layers, first: u32, len: CodeLength) -> CidStretch
     ensures { AreDeclaredCids map.now (length_of len) first result }
 {
     stretch_of_layers(map.as_slice(), first, len)
 }
 
-/// The same by layers in a row, the top one first: those of a map, or some of them.
+/// The answer of `declared_stretch` for layers in a row, the top one first: all layers of a map, or some of
+/// them.
 pub fn stretch_of_layers(layers: &[Layer], first: u32, len: CodeLength) -> CidStretch
     ensures { AreDeclaredCids (layers_seen layers.now) (length_of len) first result }
 {
@@ -92,7 +94,7 @@ pub fn stretch_of_layers(layers: &[Layer], first: u32, len: CodeLength) -> CidSt
     }
 }
 
-/// What a layer declares for codes from `first` on.
+/// The CIDs that a layer declares for codes from `first` on.
 fn stretch_in(layer: &Layer, first: u32, len: CodeLength) -> LayerStretch
     ensures within { first ≤ result.last }
     ensures cids { Decides (λ code. given_in (layer_seen layer.now) code (length_of len))
@@ -118,8 +120,8 @@ fn same_cid(declaration: Option<&CidRange>) -> Option<Cids>
     Some(Cids::Same(declaration?.cid))
 }
 
-/// The CIDs that a declaration gives to codes from `first` to `last`, which it contains, up to where
-/// they pass 32 bits.
+/// The CIDs that a declaration gives to codes from `first` to `last`, which it contains. The stretch ends
+/// with the last CID of 32 bits; codes past that CID have none.
 fn counted_on(declaration: &CidRange, first: u32, last: u32) -> LayerStretch
     requires start { declaration.now.range.start ≤ first }
     requires last { first ≤ last }

@@ -11,15 +11,15 @@ use cmap_values::character_collection::CidFamily;
 use cmap_values::writing_mode::WritingMode;
 use std::alloc::{AllocError, Global};
 
-/// The name of the CMap from the CIDs of a family of character collections to Unicode, in UCS-2:
-/// its registry and its ordering, as `Adobe-Japan1-UCS2`. Any family has one, also where nobody
+/// The name of the CMap from the CIDs of a family of character collections to Unicode, in UCS-2. The name
+/// has the registry and the ordering, such as `Adobe-Japan1-UCS2`. Every family has a name, even if nobody
 /// made such a CMap. ISO 32000-1, 9.10.2.
 ///
 /// It fails only if memory runs out.
 pub fn ucs2_name(alloc: Global, family: &CidFamily) -> Result<Vec<u8>, AllocError>
     ensures name { IfOk result (λ name. name.items ≡ ucs2_name_of (family_seen family.now)) }
 
-    // It is the name that `CidFamily::ucs2_cmap` knows, where it knows one.
+    // If `CidFamily::ucs2_cmap` knows a name for the family, this is the same name.
     ensures known { IfOk result (λ name. IfSome (ucs2_cmap_of (family_seen family.now))
         (λ known. name.items ≡ known)) }
 {
@@ -30,8 +30,8 @@ pub fn ucs2_name(alloc: Global, family: &CidFamily) -> Result<Vec<u8>, AllocErro
     Ok(name)
 }
 
-/// The name of the CMap from the CIDs of an encoding to Unicode, by the character collection that the file
-/// of its first layer with one names; `None` where none names one. ISO 32000-1, 9.10.2.
+/// The name of the CMap from the CIDs of an encoding to Unicode, by the character collection of the first
+/// layer that has one; `None` if no layer has one. ISO 32000-1, 9.10.2.
 ///
 /// It fails only if memory runs out.
 pub fn collection_name(alloc: Global, encoding: &Layers) -> Result<Option<Vec<u8>>, AllocError>
@@ -73,13 +73,14 @@ const JAPAN2: &[u8] = b"Adobe-Japan2";
 #[derive(Clone, Copy)]
 struct FromUnicode {
     horizontal: &'static [u8],
-    /// The one for vertical writing; it may be the same.
+    /// The name for vertical writing, which may be the same.
     vertical: &'static [u8],
 }
 
-/// The name of the CMap from Unicode, in UTF-16, to the CIDs of a character collection: of `Adobe-Japan1`
-/// it is `UniJIS-UTF16-H`, and `UniJIS-UTF16-V` for vertical writing. Only Japan1, GB1, CNS1, Korea1, KR
-/// and Japan2 of Adobe have one, and KR has none for vertical writing alone.
+/// The name of the CMap from Unicode, in UTF-16, to the CIDs of a character collection. For `Adobe-Japan1`
+/// the name is `UniJIS-UTF16-H`, or `UniJIS-UTF16-V` for vertical writing. Only the collections Japan1,
+/// GB1, CNS1, Korea1, KR and Japan2 of Adobe have such a CMap, and KR has no separate one for vertical
+/// writing.
 pub fn unicode_name(collection: &[u8], mode: WritingMode) -> Option<&'static [u8]>
     ensures { option_map (λ name. name.now) result ≡ name_for collection.now mode }
 {

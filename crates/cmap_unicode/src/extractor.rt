@@ -24,8 +24,8 @@ pub struct Extractor<'m> {
     pub encoding: &'m Layers,
     /// The font's ToUnicode CMap, if it has one: it gives codes their texts.
     pub to_unicode: Option<&'m Layers>,
-    /// The map of the font's character collection, if there is one, as `Adobe-Japan1-UCS2`. Its codes
-    /// are CIDs, to which it gives texts; `ucs2_name` has its name.
+    /// The map of the font's character collection, if there is one, such as `Adobe-Japan1-UCS2`. The
+    /// codes of this map are CIDs, and the map gives them texts. `ucs2_name` gives the name of the map.
     pub collection: Option<&'m Layers>,
 }
 
@@ -34,16 +34,16 @@ pub struct Extractor<'m> {
 pub struct Character {
     /// The code.
     pub code: StringCode,
-    /// The CID that the font's CMap declares for it.
+    /// The CID that the font's CMap declares for the code.
     pub cid: Option<Cid>,
-    /// Its text.
+    /// The text of the code.
     pub text: Option<BfString>,
 }
 
 impl Extractor<'_> {
-    /// The code that a string begins with, with its CID and its text; `None` where the string is empty.
+    /// The code that a string begins with, with its CID and its text; `None` if the string is empty.
     ///
-    /// It is the code that `next_code` of the font's CMap gives; `character_of` has the rest.
+    /// `next_code` of the font's CMap gives the code, and `character_of` the CID and the text.
     pub fn next(&self, alloc: Global, string: &[u8]) -> Result<Option<Character>, AllocError>
         ensures character { IfOk result
             (λ found. MatchOption found (string.now ≡ []) (IsNextCharacter (font_of self.now) string.now)) }
@@ -91,9 +91,9 @@ impl Extractor<'_> {
 
     /// A code with its CID and its text.
     ///
-    /// The CID is the one that the font's CMap declares, as `declared_cid` gives it. The text is that
-    /// of the ToUnicode CMap, where it has one for the code; else that of the CID in the collection's
-    /// map. A code in no codespace range is looked up too.
+    /// The font's CMap declares the CID, as `declared_cid` gives it. The text comes from the ToUnicode
+    /// CMap, if it has a text for the code, or else from the collection's map, by the CID. A code in no
+    /// codespace range is looked up too.
     ///
     /// It fails only if memory runs out, and only for a text of more than one character.
     pub fn character_of(&self, alloc: Global, code: StringCode) -> Result<Character, AllocError>
@@ -127,7 +127,7 @@ impl Extractor<'_> {
     }
 }
 
-/// Adds the text of a code, or another where it has none.
+/// Adds the text of a code, or `missing` if the code has no text.
 fn push_text(text: &mut String, character: &Character, missing: &str) -> Result<(), AllocError>
     ensures { OnOk result (string_bytes text.new
         ≡ string_bytes text.old ++ shown missing.now character.now) }

@@ -24,15 +24,16 @@ use std::alloc::{AllocError, Global};
 pub struct TextRow {
     /// The text of the first code.
     pub text: Option<BfString>,
-    /// Whether the last character of the text counts on from code to code; else the codes have the same text.
+    /// Whether the last character of the text counts on from code to code; if not, all codes have the same
+    /// text.
     pub counts_on: bool,
     /// The last of the codes.
     pub last: u32,
 }
 
 impl Extractor<'_> {
-    /// The texts of codes of this length from `first` on, as `character_of` gives them. A caller who
-    /// goes on with the code after the last one has the texts of all codes.
+    /// The texts of codes of this length from `first` on, as `character_of` gives them. A caller who goes on
+    /// with the code after the last one gets the texts of all codes.
     ///
     /// It fails only if memory runs out.
     pub fn text_row(
@@ -56,9 +57,9 @@ impl Extractor<'_> {
     }
 }
 
-/// The texts that a map gives to codes from `first` on, by the codes' numbers alone. They count on. So
-/// a ToUnicode CMap gives texts to codes, and the map of a character collection to CIDs. A map that is
-/// absent gives none.
+/// The texts that a map gives to codes from `first` on, by the codes' numbers alone. The texts count on from
+/// code to code. The codes are character codes for a ToUnicode CMap, and CIDs for the map of a character
+/// collection. An absent map gives no texts.
 ///
 /// It fails only if memory runs out.
 pub fn texts_in_row(alloc: Global, map: Option<&Layers>, first: u32) -> Result<TextRow, AllocError>
@@ -82,7 +83,7 @@ pub fn texts_in_row(alloc: Global, map: Option<&Layers>, first: u32) -> Result<T
     })
 }
 
-/// The texts of codes from `first` on that have these CIDs in a collection's map.
+/// The texts of codes from `first` on, by their CIDs, in a collection's map.
 fn row_of_cids(
     alloc: Global,
     collection: Option<&Layers>,
@@ -118,7 +119,7 @@ fn row_of_cids(
     }
 }
 
-/// The last code up to which the texts of a map count on from that of `first`.
+/// The last code up to which the texts of a map count on from the text of `first`.
 fn last_in_row(map: &Layers, first: u32) -> u32
     ensures within { first ≤ result }
     ensures texts { TextsCountOn map.now first result }
@@ -135,8 +136,8 @@ fn last_in_row(map: &Layers, first: u32) -> u32
     }
 }
 
-/// How many further offsets have texts that count on from that of this one, or, if this one gives none,
-/// none. Surrogates lie in rows of 1,024 units.
+/// The number of further offsets whose texts count on from the text at this offset, or, if this offset gives
+/// no text, the number of further offsets that give none either. Surrogates lie in rows of 1,024 units.
 fn further_texts(units: &[u16], offset: u32) -> u32
     ensures count { (k : ℕ) → k ≤ result → text_at units.now (offset + k)
         ≡ option_map (λ cs. counted_on cs k) (text_at units.now offset) }

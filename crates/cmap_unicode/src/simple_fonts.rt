@@ -25,7 +25,7 @@ pub fn simple_encoding(alloc: Global) -> Result<Layers, AllocError>
     Ok(Layers::of(layers))
 }
 
-/// Its one layer.
+/// The one layer of the encoding.
 fn one_byte_layers(alloc: Global) -> Result<Vec<Layer>, AllocError>
     ensures { IfOk result (λ layers. layers_seen layers.items ≡ one_byte_layer ∷ []) }
 {

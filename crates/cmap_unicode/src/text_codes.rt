@@ -19,7 +19,7 @@ use std::alloc::{AllocError, Global};
 
 impl Extractor<'_> {
     /// The codes of this length that have the text, as `character_of` gives it: ranges in order, each as
-    /// long as can be. Codes in no codespace range are among them.
+    /// long as possible. Codes in no codespace range are included.
     ///
     /// It fails only if memory runs out.
     pub fn codes_of_text(
@@ -45,7 +45,7 @@ impl Extractor<'_> {
         Ok(ranges)
     }
 
-    /// Of the codes from a first to a last one, those that have the text; and the last one.
+    /// The codes that have the text, from `first` to a last code; and that last code.
     fn codes_from(
         &self,
         alloc: Global,
@@ -72,7 +72,7 @@ fn chars_of(alloc: Global, text: &str) -> Result<Vec<char>, AllocError>
     text.chars().collect(alloc)
 }
 
-/// The codes of a range that begins with a row and lies in it, that have the text.
+/// The codes that have the text, in a range that begins with a row and lies within the row.
 fn codes_among(
     alloc: Global,
     row: &TextRow,
@@ -109,7 +109,7 @@ fn characters_of(alloc: Global, text: &BfString) -> Result<Vec<char>, AllocError
     }
 }
 
-/// The code of a range that has the text, where the text of the first one counts on.
+/// The code of a range that has the text, if the text of the first code counts on.
 fn code_among(begin: &[char], range: Range, text: &[char]) -> Option<Range>
     requires { range.start ≤ range.end }
     ensures { 0 < length begin.now
@@ -123,7 +123,8 @@ fn code_among(begin: &[char], range: Range, text: &[char]) -> Option<Range>
     })
 }
 
-/// How many characters the last one of a text comes after that of another, where those before are the same.
+/// The number of characters from the last character of `begin` to the last character of `text`, if all
+/// characters before are the same.
 fn further_of(begin: &[char], text: &[char]) -> Option<u32>
     ensures { 0 < length begin.now
         → (k : ℕ) → (CountsTo begin.now text.now k ↔ (result ≡ Some k)) }

@@ -74,7 +74,7 @@ name_bytes UniKsUtf16V = codes "UniKS-UTF16-V"
 name_bytes V = codes "V"
 name_bytes (Custom bytes) = bytes.now
 
--- the index of a name among the known ones; a custom one has none
+-- the index of a name among the known names; a custom name has none
 abbrev pub index_of_name : CMapName → Option ℕ
 index_of_name (Custom bytes) = None
 index_of_name name = index_of_text (name_bytes name)
@@ -83,10 +83,10 @@ abbrev pub is_custom : CMapName → Bool
 is_custom (Custom bytes) = true
 is_custom name = false
 
--- the name that stands for a text: it is custom only if every name with this text is
+-- the name of a text; the name is custom only if every name with this text is custom
 abbrev pub IsNameOf : List ℕ → CMapName → Type 0
 IsNameOf text name = (name_bytes name ≡ text) × (IsTrue (is_custom name) → (other : CMapName) → name_bytes other ≡ text → IsTrue (is_custom other))
 
--- one name, wherever the text of a custom one lies
+-- the same name, wherever in memory the text of a custom name lies
 abbrev pub IsSameName : CMapName → CMapName → Type 0
 IsSameName name other = (name ≡ other) ⊎ ((text same : Bor (List ℕ)) × (name ≡ Custom text) × (other ≡ Custom same) × (text.now ≡ same.now))

@@ -1,4 +1,4 @@
--- How many bytes a code has, and the number that these write.
+-- The lengths of codes in bytes, and the numbers that the bytes of codes write.
 use Rattle.std.specs.Prelude.{ℕ, ◌≤◌, ◌&&◌, if◌then◌else◌, List, length, nat_le, Option, Some, None}
 use Rattle.cmap_values.specs.BigEndian.{big_endian}
 use Rattle.cmap_values.specs.declared.code_length.CodeLength.{CodeLength}
@@ -14,7 +14,7 @@ length_of Two = 2
 length_of Three = 3
 length_of Four = 4
 
--- how many bytes there are, and the number that they write, where they are one to four
+-- the number of the bytes, and the number that they write, if there are one to four bytes
 abbrev pub code_written : List ℕ → Option (ℕ × ℕ)
 code_written bytes = if nat_le 1 (length bytes) && nat_le (length bytes) 4 then Some (length bytes, big_endian bytes) else None
 

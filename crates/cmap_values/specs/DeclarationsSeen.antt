@@ -42,7 +42,7 @@ lists_seen lists = record {
   spaces = map codespace_seen lists.spaces.items;
 }
 
--- the one for codes of a length
+-- the value for codes of a length
 abbrev pub slot : {T : Type 0} → ByLength T → CodeLength → T
 slot lists One = lists.one
 slot lists Two = lists.two

@@ -1,26 +1,26 @@
--- What one file says: its metadata, its declarations, and the files that it uses.
+-- The content of one file: its metadata, its declarations, and the files that it uses.
 use Rattle.std.specs.Prelude.{ℕ, List, [], ◌∷◌, ◌==◌, if◌then◌else◌}
 pub use Rattle.cmap_values.specs.Metadata.{Mode, horizontal, vertical, Collection, FileMetadata, mode_numbered}
 
--- codes from start to end: start + k has the CID cid + k, or in a notdef declaration cid itself
+-- codes from start to end: the code start + k has the CID cid + k, or in a notdef declaration the CID cid
 pub record CidEntry : Type 0 where
   pub start : ℕ
   pub end : ℕ
   pub cid : ℕ
 
--- codes from start to end: start + k has the text of the units at offset k
+-- codes from start to end: the code start + k has the text of the units at the offset k
 pub record BfEntry : Type 0 where
   pub start : ℕ
   pub end : ℕ
   pub units : List ℕ
 
--- codes of len bytes, each byte of them between those of low and high
+-- codes of len bytes, where each byte lies between the bytes of low and high at its position
 pub record Codespace : Type 0 where
   pub len : ℕ
   pub low : ℕ
   pub high : ℕ
 
--- one declaration as a file makes it; those of CIDs are filed by a length of code
+-- one declaration of a file; declarations of CIDs are filed by a length of codes
 pub data Declaration : Type 0 where
   cid : ℕ → CidEntry → Declaration
   notdef : ℕ → CidEntry → Declaration
@@ -77,7 +77,7 @@ lists_of ds = record {
   spaces = spaces_of ds;
 }
 
--- what a file says: the names that it uses are in the order of the file
+-- the content of a file; the names of the files that it uses are in the order of the file
 pub record File : Type 0 where
   pub metadata : FileMetadata
   pub lists : Lists

@@ -1,4 +1,4 @@
--- What contracts see of what one file says.
+-- What contracts see of the content of one file.
 use Rattle.cmap_values.specs.Files as files
 use Rattle.cmap_values.specs.DeclarationsSeen.{lists_seen}
 use Rattle.cmap_values.specs.MetadataSeen.{metadata_seen}

@@ -1,4 +1,4 @@
--- Private aid: a file that says nothing, and lists of declarations, one part of a file after another.
+-- Private aid: a file without content, and the lists of declarations of one part of a file after another.
 use Rattle.std.specs.Prelude.{[], ◌++◌, None}
 use Rattle.cmap_values.specs.Files.{ByLength, File, Lists, lists_of}
 
@@ -16,6 +16,6 @@ append_lists a b = record {
   spaces = a.spaces ++ b.spaces;
 }
 
--- a file that says nothing
+-- a file without metadata, declarations and uses
 abbrev pub no_file : File
 no_file = record { metadata = record { collection = None; name = None; mode = None }; lists = no_lists; uses = [] }

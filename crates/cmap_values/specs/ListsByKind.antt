@@ -1,12 +1,12 @@
--- Private aid: declarations that stand kind by kind.
+-- Private aid: declarations in the order of their kinds.
 use Rattle.std.specs.Prelude.{ℕ, List, ◌++◌, map}
 use Rattle.cmap_values.specs.Files.{CidEntry, Declaration, Lists}
 
--- for codes of one to four bytes
+-- the declarations of one kind, for codes of one to four bytes
 abbrev pub by_length : (ℕ → CidEntry → Declaration) → List CidEntry → List CidEntry → List CidEntry → List CidEntry → List Declaration
 by_length declare one two three four = map (declare 1) one ++ (map (declare 2) two ++ (map (declare 3) three ++ map (declare 4) four))
 
--- all of a file
+-- all declarations of a file
 abbrev pub declarations_of : Lists → List Declaration
 declarations_of l =
     (map Declaration.codespace l.spaces ++ by_length Declaration.notdef l.notdefs.one l.notdefs.two l.notdefs.three l.notdefs.four)

@@ -1,4 +1,4 @@
--- What a CMap file says of itself.
+-- What a CMap file states about itself.
 use Rattle.std.specs.Prelude.{ℕ, ℤ, List, ◌==◌, Option, Some, None, if◌then◌else◌}
 use Rattle.cmap_values.specs.Names.{Family}
 
@@ -11,7 +11,7 @@ pub record Collection : Type 0 where
   pub family : Family
   pub supplement : ℤ
 
--- what a file says of itself
+-- what a file states about itself
 pub record FileMetadata : Type 0 where
   pub collection : Option Collection
   pub name : Option (List ℕ)

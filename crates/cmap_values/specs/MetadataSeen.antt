@@ -1,4 +1,4 @@
--- What contracts see of what files say of themselves.
+-- What contracts see of the metadata of files.
 use Rattle.std.specs.Prelude.{option_map, IsSome, IsSomeAnd, ◌⊎◌}
 use Rattle.cmap_values.specs.Names as names
 use Rattle.cmap_values.specs.Metadata as said
@@ -31,6 +31,6 @@ metadata_seen metadata = record {
   mode = option_map mode_seen metadata.writing_mode;
 }
 
--- it holds a name, or the texts of a family
+-- the metadata contains a name, or the texts of a custom family
 abbrev pub HoldsTexts : said.FileMetadata → Type 0
 HoldsTexts metadata = IsSome metadata.name ⊎ IsSomeAnd metadata.collection (λ collection. names.IsCustom collection.family)

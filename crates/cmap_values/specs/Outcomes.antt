@@ -1,24 +1,24 @@
--- What calls that read answer: what holds of the answer, and what where they have none. Of a want of memory nothing is said.
+-- The outcomes of calls that read: what holds of the answer, and what holds of the refusal. If memory runs out, nothing is claimed.
 use Rattle.std.specs.Prelude.{ℕ, ◌+◌, ◌<◌, ◌≤◌, List, ◌++◌, length, take, IfOk, IfErr, MatchOption, Option, Result}
 use Rattle.cmap_values.specs.Only.{IsOnly, HoldsOfNone}
 use Rattle.cmap_values.specs.declared.fault.Fault.{Fault}
 use Rattle.cmap_values.specs.declared.fault.Fault.TheVariants as fault
 use Rattle.cmap_values.specs.declared.fault.Stop.{Stop}
 
--- this holds of what is refused; of a want of memory nothing is said
+-- P holds of the refusal; if memory runs out, nothing is claimed
 abbrev pub RefusesWith : {R : Type 0} → (R → Type 0) → Fault R → Type 0
 RefusesWith P (fault.Refused refused) = P refused
 RefusesWith P fault.Memory = Unit {0}
 
--- the answer is such a one, and this holds of what it refuses with
+-- the answer satisfies IsAnswer, and the refusal satisfies refuses
 abbrev pub Outcome : {A R : Type 0} → (A → Type 0) → (R → Type 0) → Result A (Fault R) → Type 0
 Outcome IsAnswer refuses result = IfOk result IsAnswer × IfErr result (RefusesWith refuses)
 
--- the first holds where it succeeds, and the second where it refuses
+-- the first holds if the call succeeds, and the second holds if the call refuses
 abbrev pub Succeeds : {A R : Type 0} → Type 0 → Type 0 → Result A (Fault R) → Type 0
 Succeeds succeeds refuses = Outcome (λ done. succeeds) (λ reason. refuses)
 
--- the answer is the one value with the property, as a clause sees it, and it refuses only where no value has it
+-- the answer, as contracts see it, is the only value with the property P; the call refuses only if no value has P
 abbrev pub Reads : {A B R : Type 0} → (B → Type 0) → (A → B) → Result A (Fault R) → Type 0
 Reads P seen = Outcome (λ x. IsOnly P (seen x)) (λ reason. HoldsOfNone P)
 
@@ -26,14 +26,14 @@ abbrev pub Finds : {A B : Type 0} → (B → Type 0) → (A → B) → Option A 
 Finds P seen result = MatchOption result (HoldsOfNone P) (λ x. IsOnly P (seen x))
 
 -- ---- files
--- this holds of a file that is refused, and reading stops within this many bytes
+-- if a file is refused, refuses holds, and the offset of the stop is at most len
 abbrev pub StopsWithin : ℕ → Type 0 → Fault Stop → Type 0
 StopsWithin len refuses = RefusesWith (λ stop. refuses × (stop.offset ≤ len))
 
--- the answer is what the one value with the property says, as a clause sees it; it refuses only where no value has it, and stops within the bytes
+-- the answer, as contracts see it, is the only value with the property P of these bytes; the call refuses only if no value has P, and stops within the bytes
 abbrev pub ReadsFile : {A B : Type 0} → (List ℕ → B → Type 0) → (A → B) → List ℕ → Result A (Fault Stop) → Type 0
 ReadsFile P seen bytes = Outcome (λ x. IsOnly (P bytes) (seen x)) (λ stop. HoldsOfNone (P bytes) × (stop.offset ≤ length bytes))
 
--- a file that is refused before its end: no bytes that begin as it does, up to this offset and with the byte there, have the property, whatever follows
+-- if a file is refused before its end, no bytes with the same prefix, up to and including the byte at the offset of the stop, have the property P
 abbrev pub DecidedBy : {B : Type 0} → (List ℕ → B → Type 0) → List ℕ → Stop → Type 0
 DecidedBy P bytes stop = stop.offset < length bytes → (more : List ℕ) → HoldsOfNone (P (take (1 + stop.offset) bytes ++ more))

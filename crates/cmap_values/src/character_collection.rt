@@ -23,8 +23,8 @@ const IDENTITY: &[u8] = b"Identity";
 /// A family of character collections: the registry and the ordering of a CIDSystemInfo dictionary.
 /// Adobe Technical Note 5014.
 ///
-/// Equality and hash are the derived ones: by the variant, and of `Custom` by both texts. So equal
-/// families have equal hashes.
+/// Equality and hash are derived: they depend on the variant, and for `Custom` on both texts. So equal families
+/// have equal hashes.
 #[derive(Debug, Drop, PartialEq, Eq, Hash)]
 pub enum CidFamily {
     /// Adobe-Japan1
@@ -45,9 +45,9 @@ pub enum CidFamily {
 }
 
 impl CidFamily {
-    /// The family of this registry and ordering; `Custom` unless it is one of the other five.
+    /// The family of this registry and ordering; `Custom` if it is none of the other five families.
     ///
-    /// It fails only if memory runs out. Only a `Custom` takes some.
+    /// It fails only if memory runs out; only a `Custom` allocates memory.
     pub fn from_registry_ordering(
         alloc: Global,
         registry: &[u8],
@@ -65,7 +65,7 @@ impl CidFamily {
         CidFamily::custom(alloc, registry, ordering)
     }
 
-    /// The family of Adobe with this ordering, where it has a name.
+    /// The Adobe family with this ordering, if it has a variant of its own.
     fn of_adobe(ordering: &[u8]) -> Option<CidFamily>
         ensures { MatchOption result
             (family_of (codes "Adobe") ordering.now ≡ custom (codes "Adobe") ordering.now)
@@ -144,7 +144,7 @@ impl CidFamily {
 
     /// A copy of the family.
     ///
-    /// It fails only if memory runs out. Only a `Custom` takes some.
+    /// It fails only if memory runs out; only a `Custom` allocates memory.
     pub fn clone(&self, alloc: Global) -> Result<CidFamily, AllocError>
         ensures same { IfOk result (λ copy. family_seen copy ≡ family_seen self.now) }
         ensures err { OnErr result (IsCustom (family_seen self.now)) }
@@ -172,7 +172,7 @@ impl CidFamily {
     }
 }
 
-/// A character collection: its family, and the number of its supplement. Equality and hash are by both.
+/// A character collection: its family, and the number of its supplement. Equality and hash depend on both.
 #[derive(Debug, Drop, PartialEq, Eq, Hash)]
 pub struct CharacterCollection {
     pub family: CidFamily,
@@ -182,7 +182,7 @@ pub struct CharacterCollection {
 impl CharacterCollection {
     /// A copy of the collection.
     ///
-    /// It fails only if memory runs out. Only one of a `Custom` family takes some.
+    /// It fails only if memory runs out; only a collection of a `Custom` family allocates memory.
     pub fn clone(&self, alloc: Global) -> Result<CharacterCollection, AllocError>
         ensures same { IfOk result (λ copy. collection_seen copy ≡ collection_seen self.now) }
         ensures err { OnErr result (IsCustom (family_seen self.now.family)) }

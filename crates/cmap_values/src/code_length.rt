@@ -1,4 +1,4 @@
-//! How many bytes a code has, and the number that these write.
+//! The lengths of codes in bytes, and the numbers that the bytes of codes write.
 
 ghost use Rattle.std.specs.Prelude.{◌≡◌, ◌+◌, ◌^◌, option_map, MatchOption};
 ghost use Rattle.cmap_values.specs.CodeLengths.{IsCodeLength, code_seen, code_written, length_of};
@@ -13,7 +13,7 @@ pub enum CodeLength {
 }
 
 impl CodeLength {
-    /// The length of codes of `count` bytes; `None` unless these are one to four.
+    /// The length of codes of `count` bytes; `None` unless `count` is from one to four.
     pub fn of(count: u8) -> Option<CodeLength>
         ensures { MatchOption result (IsCodeLength count → ⊥)
             (λ len. IsCodeLength count × (length_of len ≡ count)) }
@@ -52,8 +52,8 @@ impl CodeLength {
     }
 }
 
-/// The code that one to four bytes write, the first one high: its length, and its number. `None` of
-/// no bytes, and of more than four.
+/// The code that one to four bytes write: its length, and its big-endian number. `None` for no
+/// bytes, and for more than four.
 pub fn read_code(bytes: &[u8]) -> Option<(CodeLength, u32)>
     ensures { option_map code_seen result ≡ code_written bytes.now }
 {

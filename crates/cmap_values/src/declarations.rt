@@ -72,7 +72,8 @@ impl HasRange for BfRange {
     }
 }
 
-/// Codes of one length, each byte between those of `low` and `high`.
+/// A codespace range: codes of one length, where each byte lies between the bytes of `low` and `high` at
+/// its position.
 #[derive(Clone, Copy, Debug)]
 pub struct Codespace {
     pub len: CodeLength,
@@ -80,7 +81,7 @@ pub struct Codespace {
     pub high: u32,
 }
 
-/// One for codes of each length in bytes.
+/// A value for codes of each length in bytes.
 #[derive(Debug, Drop)]
 pub struct ByLength<T> {
     pub one: T,
@@ -90,7 +91,7 @@ pub struct ByLength<T> {
 }
 
 impl<T> ByLength<T> {
-    /// The one for codes of this length.
+    /// The value for codes of this length.
     pub fn get(&self, len: CodeLength) -> &T
         ensures { result.now ≡ slot self.now len }
     {
@@ -134,7 +135,7 @@ impl Lists {
         push_filed(&mut self.cids, len, range)
     }
 
-    /// Makes room for this number of further declarations of CIDs for codes of this length.
+    /// Reserves space for this number of further declarations of CIDs for codes of this length.
     ///
     /// It fails only if memory runs out.
     pub fn reserve_cids(&mut self, len: CodeLength, additional: usize) -> Result<(), AllocError>
@@ -211,7 +212,7 @@ fn push_filed(
     }
 }
 
-/// How many values a list has room for from the first one on.
+/// The least number of further values for which a full list reserves space.
 const FIRST_ROOM: usize = 32;
 
 /// Adds a value to a list.
@@ -227,8 +228,8 @@ fn push<T: Drop>(list: &mut Vec<T>, value: T) -> Result<(), AllocError>
     Ok(())
 }
 
-/// Makes room for more values, half of those that a list has. Texts take the most memory of a file while
-/// it is read, so their list isn't doubled.
+/// Reserves space for more values, half as many as a list has and 16 more. The texts of a file take the
+/// most memory while the file is read, so their list isn't doubled.
 #[inline(never)]
 fn grow_by_half<T>(list: &mut Vec<T>) -> Result<(), AllocError>
     ensures same { list.new.items ≡ list.old.items }

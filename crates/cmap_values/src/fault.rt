@@ -3,7 +3,7 @@
 use std::alloc::{AllocError, AllocFailed};
 use std::fmt::{self, Display, Formatter, Write};
 
-/// What is wrong with a file where reading stopped.
+/// The reason why the reading of a file stopped.
 #[derive(Clone, Copy, Debug, PartialEq, Eq)]
 pub enum Reason {
     /// A string of a text isn't closed.
@@ -14,21 +14,21 @@ pub enum Reason {
     StrayDelimiter,
     /// A text ends within a section.
     EndWithinSection,
-    /// Another token than a code, which is a string.
+    /// Another token stands in the place of a code, which is a string.
     CodeExpected,
-    /// A code of no or of more than four bytes.
+    /// A code has no bytes, or more than four bytes.
     CodeLength,
     /// The two ends of a codespace range have unequal lengths.
     UnequalLengths,
-    /// Another token than a CID, which is an integer from 0 to 2^32 - 1.
+    /// Another token stands in the place of a CID, which is an integer from 0 to 2^32 - 1.
     CidExpected,
-    /// Another token than the text of a code, which is a string that isn't empty.
+    /// Another token stands in the place of the text of a code, which is a string that isn't empty.
     TextExpected,
-    /// Another token than the `]` after the texts of a range.
+    /// Another token stands in the place of the `]` after the texts of a range.
     BracketExpected,
     /// A `usecmap` without a literal name before it.
     UseWithoutName,
-    /// A binary file has no whole header of version 1, or fewer bytes than its header says.
+    /// A binary file has no complete header of version 1, or fewer bytes than its header states.
     Header,
     /// The last segment of a binary file is cut short.
     SegmentLength,
@@ -76,7 +76,7 @@ impl Display for Reason {
     }
 }
 
-/// A segment of a binary file that can be cut short, by what it holds.
+/// The segments of a binary file that can be cut short, named by their contents.
 #[derive(Clone, Copy, Debug, PartialEq, Eq)]
 pub enum Segment {
     Cids,
@@ -103,7 +103,7 @@ impl Display for Segment {
 /// Why a call has no answer.
 #[derive(Debug, Drop)]
 pub enum Fault<R> {
-    /// What was read is refused.
+    /// The input is refused.
     Refused(R),
     /// An allocation failed.
     Memory,
@@ -134,10 +134,11 @@ impl<R, T: Drop> From<AllocFailed<T>> for Fault<R> {
 /// Where the reading of a file stopped, and why.
 #[derive(Clone, Copy, Debug, PartialEq, Eq)]
 pub struct Stop {
-    /// Where in the file, in bytes. Of a text it is the end of the token that can't stand there; where
-    /// no token stands, the offset of the byte that shows it; and where only the end of the file shows
-    /// it, its length. Of a text that is read past its faults it is the offset of the bracket where a
-    /// string isn't closed. Of a binary file it is the start of the segment at fault.
+    /// The offset in the file, in bytes. In a text it is the end of the token that can't stand at its
+    /// place; if no token stands there, the offset of the byte that shows this; and if only the end of
+    /// the file shows it, the length of the file. In a text that is read past its faults, the offset
+    /// for an unclosed string is the offset of its bracket. In a binary file it is the start of the
+    /// segment at fault.
     pub offset: usize,
     pub reason: Reason,
 }

@@ -1,4 +1,4 @@
-//! What one file says.
+//! The content of one file.
 
 ghost use Rattle.std.specs.Prelude.{◌≡◌};
 ghost use Rattle.cmap_values.specs.ListsAppended.{no_file};
@@ -9,7 +9,8 @@ use crate::fault::Stop;
 use crate::metadata::Metadata;
 use std::alloc::Global;
 
-/// What one file says, and the names of the files that it uses, in order.
+/// The content of one file: its metadata, its declarations, and the names of the files that it
+/// uses, in order.
 #[derive(Drop)]
 pub struct File<'d> {
     pub metadata: Metadata,
@@ -18,7 +19,7 @@ pub struct File<'d> {
 }
 
 impl<'d> File<'d> {
-    /// One that says nothing.
+    /// A file without metadata, declarations and uses.
     pub fn new(alloc: Global) -> Self
         ensures { file_seen result ≡ no_file }
     {
@@ -34,10 +35,10 @@ impl<'d> File<'d> {
     }
 }
 
-/// What a file says apart from its faults, and the faults.
+/// The content of a file apart from its faults, and the faults.
 #[derive(Drop)]
 pub struct Salvaged<'d> {
     pub file: File<'d>,
-    /// In the order of the file, each with an offset and a reason.
+    /// The faults in the order of the file, each with an offset and a reason.
     pub faults: Vec<Stop>,
 }

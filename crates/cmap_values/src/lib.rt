@@ -1,6 +1,6 @@
-//! The values that layers and callers share: what one file says (its metadata, its declarations by kind and
-//! length of code, the names that it uses), the names of CMaps and the families of character collections,
-//! lengths of codes, units of texts, and why a file is refused.
+//! The values that layers and callers share: the content of one file (its metadata, its declarations by
+//! kind and length of code, the names of the files that it uses), the names of CMaps and the families of
+//! character collections, lengths of codes, units of texts, and the reasons why a file is refused.
 #![tactic(auto)]
 
 pub mod character_collection;

@@ -4,7 +4,7 @@ ghost use Rattle.std.specs.Prelude.{◌⊎◌, ◌≡◌, IsErr, IsOk, MatchResu
 
 use std::alloc::AllocError;
 
-/// What two steps make, if neither fails.
+/// The results of two steps, if neither step fails.
 pub fn both<T: Drop, U: Drop>(
     one: Result<T, AllocError>,
     other: Result<U, AllocError>,
@@ -18,7 +18,7 @@ pub fn both<T: Drop, U: Drop>(
     }
 }
 
-/// A value after a step, if that doesn't fail.
+/// A value after a step, if the step doesn't fail.
 pub fn after<T: Drop>(value: T, step: Result<(), AllocError>) -> Result<T, AllocError>
     ensures { MatchResult result (λ kept. (kept ≡ value) × IsOk step) (λ _. IsErr step) }
 {

@@ -13,8 +13,9 @@ pub type Cid = u32;
 /// The name of a CMap: one of the predefined CMaps of ISO 32000-1, 9.7.5.2, and of the ToUnicode
 /// mapping files of Adobe Technical Note 5411, or any other name.
 ///
-/// Equality is the derived one: by the variant, and of `Custom` by its bytes. So a `Custom` that was
-/// made by hand of a known text isn't equal to the known name; `from_bytes` makes none.
+/// Equality is derived: it compares the variant, and for `Custom` the bytes. So a `Custom` that a
+/// caller makes directly from the text of a known name isn't equal to the known name; `from_bytes`
+/// makes no such `Custom`.
 #[derive(Clone, Copy, PartialEq, Eq)]
 pub enum CMapName<'a> {
     /// `83pv-RKSJ-H`
@@ -223,7 +224,7 @@ pub const KNOWN_NAMES: &[CMapName<'static>] = &[
 /// How many names are known.
 pub const KNOWN_COUNT: usize = 65;
 
-/// The text of the name, as a string.
+/// Shows the text of the name as a string, or its bytes if they aren't UTF-8.
 impl fmt::Debug for CMapName<'_> {
     fn fmt<W: fmt::Write>(&self, f: &mut fmt::Formatter<W>) -> fmt::Result {
         match str::from_utf8(self.text()) {
@@ -234,11 +235,11 @@ impl fmt::Debug for CMapName<'_> {
 }
 
 impl<'a> CMapName<'a> {
-    /// The name whose text these bytes are; `Custom` of every other text, the empty one too.
+    /// The name with this text; `Custom` for a text that no known name has, such as the empty text.
     pub fn from_bytes(bytes: &'a [u8]) -> CMapName<'a>
         ensures name { IsNameOf bytes.now result }
 
-        // Its index is that of the text.
+        // The index of the name is the index of the text.
         ensures index { index_of_name result ≡ index_of_text bytes.now }
 
         // A text has one name.
@@ -254,7 +255,7 @@ impl<'a> CMapName<'a> {
     pub fn to_bytes(&self) -> &'a [u8]
         ensures text { result.now ≡ name_bytes self.now }
 
-        // The name of this text is the name itself, unless that was made by hand as a `Custom` of a
+        // A known name is the name of its text. A `Custom` that a caller makes directly may have a
         // known text.
         ensures known { IsSome (index_of_name self.now) → IsNameOf result.now self.now }
     {
@@ -334,7 +335,7 @@ impl<'a> CMapName<'a> {
         }
     }
 
-    /// Its index among the known names; `None` for a `Custom` one, whatever its text is.
+    /// The index of the name among the known names; `None` for a `Custom`, whatever its text is.
     pub fn index(self) -> Option<usize>
         ensures { result ≡ index_of_name self.entry }
     {

@@ -3,7 +3,7 @@
 ghost use Rattle.std.specs.Prelude.{◌≡◌};
 ghost use Rattle.cmap_values.specs.Spans.{Span};
 
-/// The codes from `start` to `end`, both among them; none where `start` is above `end`.
+/// The codes from `start` to `end`, both included; no codes if `start` is above `end`.
 #[derive(Clone, Copy, Debug)]
 pub struct Range {
     /// The first code.
@@ -12,10 +12,10 @@ pub struct Range {
     pub end: u32,
 }
 
-/// A declaration for the codes of a range, as the ranges and single characters of a CMap are
-/// (ISO 32000, CMap files).
+/// A declaration for the codes of a range, such as a range or a single character of a CMap (ISO
+/// 32000, CMap files).
 pub trait HasRange: Drop {
-    // The value alone says which range it has.
+    // The value alone determines its range.
     ghost span: { Self → Span };
 
     /// The codes that the declaration contains.

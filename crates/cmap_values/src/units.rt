@@ -1,4 +1,4 @@
-//! The units of texts, of which nearly each text has one or two, and few have more than four.
+//! The units of texts. Nearly every text has one or two units, and few texts have more than four.
 
 ghost use Rattle.std.specs.Prelude.{◌≡◌, ◌≤◌, IfOk, IsOk, length};
 ghost use Rattle.cmap_values.specs.UnitsSeen.{units_seen};
@@ -6,8 +6,8 @@ ghost use Rattle.cmap_values.specs.UnitsSeen.{units_seen};
 use std::alloc::{AllocError, Global};
 use std::fmt;
 
-/// The units of a text in UTF-16. Up to four lie in the value itself; more lie in memory of their own,
-/// over one pointer, so that a value stays small.
+/// The units of a text in UTF-16. Up to four units lie in the value itself. More units lie in memory
+/// behind one pointer, so that a value stays small.
 #[derive(Drop)]
 pub enum Units {
     Empty,
@@ -25,9 +25,9 @@ impl fmt::Debug for Units {
 }
 
 impl Units {
-    /// These units.
+    /// A value with these units.
     ///
-    /// It fails only if memory runs out. Up to four units take none.
+    /// It fails only if memory runs out; up to four units allocate no memory.
     pub fn from_slice(alloc: Global, units: &[u16]) -> Result<Units, AllocError>
         ensures units { IfOk result (λ made. units_seen made ≡ units.now) }
         ensures few { length units.now ≤ 4 → IsOk result }
@@ -61,7 +61,7 @@ impl Units {
 
     /// A copy of the units.
     ///
-    /// It fails only if memory runs out. A copy of up to four units takes none.
+    /// It fails only if memory runs out; a copy of up to four units allocates no memory.
     pub fn clone(&self, alloc: Global) -> Result<Units, AllocError>
         ensures units { IfOk result (λ copy. units_seen copy ≡ units_seen self.now) }
         ensures few { length (units_seen self.now) ≤ 4 → IsOk result }

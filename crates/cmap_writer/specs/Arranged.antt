@@ -1,4 +1,4 @@
--- In which segments the entries of a file stand, and in which order.
+-- The segments in which the entries of a file stand, and their order.
 use Rattle.std.specs.Prelude.{◌≡◌, ◌⊎◌, ℕ, ◌+◌, ◌-◌, ◌*◌, ◌<◌, ◌≤◌, ◌^◌, ◌&&◌, nat_le, nat_lt, if◌then◌else◌, List, [], ◌∷◌, ◌++◌, All, Option, Some, None, flat_map, get_or, length, map}
 use Rattle.std.specs.List.Sorted.{IsPermutation}
 use Rattle.cmap_runs.specs.Ranges.{Span, runs_of}
@@ -26,7 +26,7 @@ abbrev pub most_fixed : Shape → ℕ
 most_fixed ranges = 2
 most_fixed singles = 4
 
--- how many units are fixed where a text has this many
+-- the fixed number of units for a text with this many units, if a segment can fix it
 abbrev pub units_fixed : Shape → ℕ → Option ℕ
 units_fixed shape count = if nat_le 1 count && nat_le count (most_fixed shape) then Some count else None
 
@@ -35,7 +35,7 @@ abbrev pub cid_type : ℕ → Shape → ℕ
 cid_type len ranges = 2 * len - 1
 cid_type len singles = 2 * len
 
--- the type of segments with texts that have as many units as are fixed
+-- the type of segments with texts that have the fixed number of units
 abbrev pub text_type : Shape → Option ℕ → ℕ
 text_type ranges None = 15
 text_type singles None = 16
@@ -52,44 +52,44 @@ segment_type (Declaration.bf e) = bf_type e
 segment_type other = 0
 
 -- ---- entries that stand in one segment
--- it stands for itself also behind others, as CID 0 doesn't
+-- an entry keeps its value behind other entries, unless it has CID 0
 abbrev pub IsOwn : Declaration → Type 0
 IsOwn (Declaration.cid len e) = 0 < e.cid
 IsOwn other = Unit {0}
 
--- the entry can come next in the segment of the one before
+-- the entry can come next after `before` in one segment
 pub record CanFollow (before d : Declaration) : Type 0 where
   pub same : segment_type d ≡ segment_type before
   pub after : (declared_span before).end < (declared_span d).start
   pub own : IsOwn d
 
--- one entry or more, of which each can follow the one before
+-- one entry or more, each of which can follow the one before
 abbrev pub AreInOne : List Declaration → Type 0
 AreInOne [] = ⊥
 AreInOne (d ∷ []) = Unit {0}
 AreInOne (d ∷ e ∷ ds) = CanFollow d e × AreInOne (e ∷ ds)
 
--- these are as many as one segment can hold, or the next entry can't follow them
+-- the part has as many entries as one segment can hold, or the next entry can't follow the part
 abbrev pub AreEnded : List Declaration → List Declaration → Type 0
 AreEnded part later = (d : Declaration) → length part < 65535 → 0 < length later → CanFollow (get_or part (length part - 1) d) (get_or later 0 d) → ⊥
 
--- parts that are as long as can be, one after another: each stands in one segment
+-- parts that are as long as possible, one after another; each part stands in one segment
 abbrev pub AreFull : List (List Declaration) → Type 0
 AreFull [] = Unit {0}
 AreFull (part ∷ parts) = AreInOne part × (length part < 2 ^ 16) × AreEnded part (flat_map (λ p. p) parts) × AreFull parts
 
 -- ---- segments of entries
--- how many codes more than two an entry has that is a range
+-- the number of codes of a range beyond two; a single code has no number
 abbrev pub count_of : Declaration → List ℕ
 count_of d = if nat_lt (declared_span d).start (declared_span d).end then ((declared_span d).end - (declared_span d).start - 1) ∷ [] else []
 
--- the CID or the text of an entry, as it is written
+-- the CID or the text of an entry in bytes
 abbrev pub value_of : Declaration → List ℕ
 value_of (Declaration.cid len e) = bytes_of 2 e.cid
 value_of (Declaration.bf e) = destination (units_fixed (shape_of e.start e.end) (length e.units)) e.units
 value_of other = []
 
--- the segment has the type and the shape of these entries, their deltas, their counts and their values
+-- the segment has the type, the shape, the deltas, the counts and the values of these entries
 pub record HoldsEntries (segment : Segment) (ds : List Declaration) : Type 0 where
   pub shape : All (λ d. shape_of (declared_span d).start (declared_span d).end ≡ shape_seen segment.shape) ds
   pub type : All (λ d. segment_type d ≡ segment.number) ds
@@ -120,20 +120,20 @@ pub record StandIn (segments : List Segment) (ds : List Declaration) : Type 0 wh
   pub all : flat_map (λ p. p) parts ≡ ds
   pub full : AreFull parts
 
--- and such segments come after the old ones
+-- the new segments are the old ones and segments in which these entries stand
 abbrev pub AddsFull : List Segment → List Segment → List Declaration → Type 0
 AddsFull old new ds = (added : List Segment) × (new ≡ old ++ added) × StandIn added ds
 
 -- ---- the entries of a list
--- an entry before another one: its type is lower, or it is the same and its codes are lower
+-- one entry stands before another: its type is lower, or the types are equal and its codes are lower
 abbrev pub IsBefore : Declaration → Declaration → Type 0
 IsBefore d e = (segment_type d < segment_type e) ⊎ ((segment_type d ≡ segment_type e) × ((declared_span d).end < (declared_span e).start))
 
--- each of these is before the next one
+-- each entry is before the next one
 abbrev pub AreOrdered : List Declaration → Type 0
 AreOrdered ds = (k : ℕ) (d : Declaration) → k + 1 < length ds → IsBefore (get_or ds k d) (get_or ds (k + 1) d)
 
--- the pieces of a range: of more than 257 codes the first 256, and so on
+-- the pieces of a range: a range of more than 257 codes gives its first 256 codes as a piece, and so on
 abbrev pub IsCut : Span → List Span → Type 0
 IsCut s [] = ⊥
 IsCut s (p ∷ []) = (p ≡ s) × (s.end - s.start ≤ 256)
@@ -144,18 +144,18 @@ abbrev pub AreCut : List Span → List Span → Type 0
 AreCut [] pieces = pieces ≡ []
 AreCut (s ∷ spans) pieces = (here later : List Span) × (pieces ≡ here ++ later) × IsCut s here × AreCut spans later
 
--- it begins where the other one ends, with the CIDs after its
+-- the next range begins just after the other one, and its CIDs go on from the CIDs of the other one
 pub record CanJoin (e next : CidEntry) : Type 0 where
   pub after : next.start ≡ e.end + 1
   pub cids : next.cid ≡ e.cid + (next.start - e.start)
 
--- each range comes after the one before, and isn't one range with it
+-- each range comes after the one before, and the two couldn't be one range
 abbrev pub AreWhole : List CidEntry → Type 0
 AreWhole [] = Unit {0}
 AreWhole (e ∷ []) = Unit {0}
 AreWhole (e ∷ next ∷ es) = (e.end < next.start) × (CanJoin e next → ⊥) × AreWhole (next ∷ es)
 
--- the entries of a list of CIDs: the ranges of codes that the list gives CIDs that go on, as large as can be, each cut in pieces, these in order
+-- the entries of a list of CIDs: the ranges of codes with consecutive CIDs by the list, as large as possible, each cut in pieces, and the pieces in order
 pub record AreCidEntries (len : ℕ) (es made : List CidEntry) : Type 0 where
   pub ranges : List CidEntry
   pub pieces : List CidEntry
@@ -168,7 +168,7 @@ pub record AreCidEntries (len : ℕ) (es made : List CidEntry) : Type 0 where
   pub moved : IsPermutation pieces made
   pub ordered : AreOrdered (map (Declaration.cid len) made)
 
--- the entries of a list of texts: the runs of codes that one declaration decides, each of at most 2^16 codes and cut in pieces, these in order
+-- the entries of a list of texts: the runs of codes that one declaration decides, each of at most 2^16 codes and cut in pieces, and the pieces in order
 pub record AreTextEntries (es made : List BfEntry) : Type 0 where
   pub pieces : List BfEntry
   pub few : All (λ run. run.high - run.low < 2 ^ 16) (runs_of (map bf_span es))
@@ -180,23 +180,23 @@ pub record AreTextEntries (es made : List BfEntry) : Type 0 where
   pub ordered : AreOrdered (map Declaration.bf made)
 
 -- ---- a file
--- the entries of a list, in full segments, come after the old ones
+-- the new segments are the old ones and full segments with the entries of the list
 abbrev pub AddsCidEntries : ℕ → List CidEntry → List Segment → List Segment → Type 0
 AddsCidEntries len es old new = (made : List CidEntry) × AreCidEntries len es made × AddsFull old new (map (Declaration.cid len) made)
 
 abbrev pub AddsTextEntries : List BfEntry → List Segment → List Segment → Type 0
 AddsTextEntries es old new = (made : List BfEntry) × AreTextEntries es made × AddsFull old new (map Declaration.bf made)
 
--- lists of entries, each in full segments, one list after another
+-- lists of entries in full segments, one list after another
 abbrev pub StandInTurn : List Segment → List (List Declaration) → Type 0
 StandInTurn segments [] = segments ≡ []
 StandInTurn segments (ds ∷ lists) = (here later : List Segment) × (segments ≡ here ++ later) × StandIn here ds × StandInTurn later lists
 
--- such segments come after the old ones
+-- the new segments are the old ones and such segments
 abbrev pub AddsInTurn : List Segment → List Segment → List (List Declaration) → Type 0
 AddsInTurn old new lists = (added : List Segment) × (new ≡ old ++ added) × StandInTurn added lists
 
--- these are the entries of lists of CIDs
+-- the entries of the lists of CIDs for codes of each length
 pub record AreByLength (lists made : ByLength) : Type 0 where
   pub one : AreCidEntries 1 lists.one made.one
   pub two : AreCidEntries 2 lists.two made.two
@@ -209,7 +209,7 @@ lists_by_length made = map (Declaration.cid 1) made.one ∷ map (Declaration.cid
 abbrev pub AddsByLength : ByLength → List Segment → List Segment → Type 0
 AddsByLength lists old new = (made : ByLength) × AreByLength lists made × AddsInTurn old new (lists_by_length made)
 
--- the fields have these bytes, and the segments are those of the entries of each list of the file, in order: no other segments are so
+-- the fields have the bytes of the file, and the segments have the entries of each list of the file, in order; this determines the segments
 pub record IsArranged (file : File) (prepared : Prepared) : Type 0 where
   pub fields : prepared.fields.items ≡ fields_of file
   pub cids : ByLength
@@ -219,14 +219,14 @@ pub record IsArranged (file : File) (prepared : Prepared) : Type 0 where
   pub segments : StandInTurn prepared.segments.items (lists_by_length cids ++ map Declaration.bf texts ∷ [])
 
 -- ---- private aid
--- the pieces of a range come after the old ones
+-- the new pieces are the old ones and the pieces of the range
 abbrev pub PushesCut : Span → List Span → List Span → Type 0
 PushesCut s old new = (pieces : List Span) × (new ≡ old ++ pieces) × IsCut s pieces
 
--- these end before a code
+-- all ranges end before a code
 abbrev pub EndBefore : ℕ → List CidEntry → Type 0
 EndBefore code es = All (λ e. e.end < code) es
 
--- a range after whole ones joins them, which stay whole
+-- a range is added after whole ranges, and the ranges stay whole
 abbrev pub KeepsWhole : List CidEntry → List CidEntry → CidEntry → Type 0
 KeepsWhole old new e = AreWhole old → EndBefore e.start old → AreWhole new × EndBefore (e.end + 1) new

@@ -1,4 +1,4 @@
--- Columns that are written.
+-- The bytes of columns.
 use Rattle.std.specs.Prelude.{ℕ, List, [], ◌∷◌}
 use Rattle.cmap_runs.specs.Ranges.{Span}
 use Rattle.cmap_binary.specs.BinaryEntries.{Shape}
@@ -8,7 +8,7 @@ use Rattle.cmap_binary.specs.PrefixWords.{BeginWithWordsOf, CodeWord, bits}
 use Rattle.cmap_writer.specs.Spelled.{IsSpelledIn}
 use Rattle.cmap_writer.specs.Written.{IsSized, Writes}
 
--- a sized piece whose bits are the code words of these symbols, and zeros that fill its last byte
+-- a sized piece whose bits are the code words of these symbols, and zeros up to the end of the last byte
 abbrev pub WritesColumn : List CodeWord → List ℕ → List ℕ → Type 0
 WritesColumn table symbols bytes = (text : List ℕ) × IsSized text bytes × BeginWithWordsOf table symbols (bits text) × IsSpelledIn table symbols text
 

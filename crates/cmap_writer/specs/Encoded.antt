@@ -1,4 +1,4 @@
--- The bytes of a file that is written: there is one such list where each symbol has one code word.
+-- The bytes of a written file: the bytes are determined where each symbol has one code word.
 use Rattle.std.specs.Prelude.{◌≡◌, ℕ, List, [], ◌∷◌, ◌++◌, Some, slice_get}
 use Rattle.cmap_values.specs.Files.{File}
 use Rattle.cmap_binary.specs.Bundles.{PrefixTables}
@@ -9,13 +9,14 @@ use Rattle.cmap_writer.specs.Segments.{AreSegmentBytes}
 use Rattle.cmap_writer.specs.Written.{IsFramed}
 use Rattle.cmap_writer.specs.declared.prepared.Prepared.{Prepared}
 
--- the bytes of what is prepared: the head of version 1 and the length of all, the fields, and the segments with their numbers spelled by these tables
+-- the bytes of a prepared file: the head of version 1 with the length of the whole, the fields, and the segments with their numbers spelled by these
+-- tables
 pub record IsEncoded (tables : PrefixTables) (prepared : Prepared) (bytes : List ℕ) : Type 0 where
   pub segments : List ℕ
   pub are : AreSegmentBytes tables prepared.segments.items segments
   pub framed : IsFramed (magic ++ 1 ∷ []) (prepared.fields.items ++ segments) bytes
 
--- the bytes of what is to be written of the file
+-- the bytes of the prepared form of the file
 abbrev pub IsEncodedFor : PrefixTables → File → List ℕ → Type 0
 IsEncodedFor tables file bytes = (prepared : Prepared) × IsPreparedFor file prepared × IsEncoded tables prepared bytes
 

@@ -1,4 +1,4 @@
--- What contracts see of the code words of a bundle, and of the shape of entries.
+-- The values that contracts see for the code words of a bundle and for the shape of entries.
 use Rattle.cmap_binary.specs.Bundles.{PrefixTables}
 use Rattle.cmap_binary.specs.BinaryEntries as entries
 use Rattle.cmap_writer.specs.declared.columns.Encoders.{Encoders}

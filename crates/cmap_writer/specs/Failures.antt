@@ -1,10 +1,10 @@
--- Why nothing was written.
+-- The reasons why nothing was written.
 use Rattle.cmap_values.specs.declared.fault.Fault.{Fault}
 use Rattle.cmap_values.specs.declared.fault.Fault.TheVariants.{Memory, Refused}
 use Rattle.cmap_writer.specs.declared.obstacle.Obstacle.{Obstacle}
 use Rattle.cmap_writer.specs.declared.obstacle.Obstacle.TheVariants.{TooLong}
 
--- something is too long only where this holds; of memory nothing is said, and there is no other reason
+-- the fault is `TooLong`, only where `long` holds, or that memory ran out
 abbrev pub IsTooLongIf : Type 0 → Fault Obstacle → Type 0
 IsTooLongIf long (Refused TooLong) = long
 IsTooLongIf long (Refused other) = ⊥

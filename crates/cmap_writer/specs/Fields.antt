@@ -1,4 +1,4 @@
--- The bytes of the segments of a file that hold no columns.
+-- The bytes of the segments of a file that have no columns.
 use Rattle.std.specs.Prelude.{◌≡◌, ℕ, zero, suc, pos, nat_abs, ◌+◌, ◌<◌, ◌^◌, List, [], ◌∷◌, ◌++◌, All, IfSome, Option, Some, None, drop, flat_map, length, take}
 use Rattle.cmap_values.specs.CodeLengths.{IsCodeLength}
 use Rattle.cmap_values.specs.Files.{ByLength, CidEntry, Codespace, File}
@@ -12,7 +12,7 @@ use Rattle.cmap_writer.specs.Written.{bytes_of}
 abbrev pub segment_bytes : ℕ → List ℕ → List ℕ
 segment_bytes number payload = (number ∷ bytes_of 4 (5 + length payload)) ++ payload
 
--- a list in parts of this many elements, in at most so many steps; the last part may have fewer
+-- a list in at most `steps` parts of `most` elements each; the last part may have fewer
 abbrev pub parts_in : {A : Type 0} → ℕ → ℕ → List A → List (List A)
 parts_in zero most xs = []
 parts_in (suc steps) most [] = []
@@ -21,7 +21,7 @@ parts_in (suc steps) most (x ∷ xs) = take most (x ∷ xs) ∷ parts_in steps m
 abbrev pub parts_of : {A : Type 0} → ℕ → List A → List (List A)
 parts_of most xs = parts_in (length xs) most xs
 
--- a segment of this type for each part of at most this many elements
+-- a segment of this type for each part of at most `most` elements
 abbrev pub part_segments : {A : Type 0} → ℕ → (List A → List ℕ) → ℕ → List A → List ℕ
 part_segments number payload most xs = flat_map (λ part. segment_bytes number (payload part)) (parts_of most xs)
 
@@ -56,7 +56,7 @@ abbrev pub uses_bytes : List (List ℕ) → List ℕ
 uses_bytes names = flat_map (λ name. segment_bytes 9 name) names
 
 -- ---- declarations
--- the length of the codes, low, high
+-- the length of the codes, the low code, the high code
 abbrev pub space_bytes : Codespace → List ℕ
 space_bytes space = space.len ∷ (bytes_of space.len space.low ++ bytes_of space.len space.high)
 
@@ -84,7 +84,7 @@ abbrev pub fields_of : File → List ℕ
 fields_of file = metadata_bytes file.metadata ++ (uses_bytes file.uses ++ (spaces_bytes file.lists.spaces ++ notdef_lists_bytes file.lists.notdefs))
 
 -- ---- private aid
--- what these bytes can say
+-- the values that these bytes can represent
 pub record CodeFits (len code : ℕ) : Type 0 where
   pub length : IsCodeLength len
   pub small : code < 256 ^ len

@@ -1,4 +1,4 @@
--- What a file that is written keeps of the one that was handed in.
+-- The content that a written file keeps of the given file.
 use Rattle.std.specs.Prelude.{◌≡◌, ℕ, List, ◌∷◌, map}
 use Rattle.cmap_values.specs.Files.{BfEntry, CidEntry, File, Lists}
 use Rattle.cmap_unicode.specs.Cids.{declared_cid}
@@ -17,7 +17,7 @@ HaveSameCids es made = (code : ℕ) → cid_told made code ≡ cid_told es code
 abbrev pub HaveSameTexts : List BfEntry → List BfEntry → Type 0
 HaveSameTexts es made = (code : ℕ) → text_told made code ≡ text_told es code
 
--- lists that say the same: those of CIDs and texts of each code, the others in the same declarations
+-- lists with the same content: the same CID or text for each code, and the same notdef declarations and codespace ranges
 pub record KeepLists (lists made : Lists) : Type 0 where
   pub spaces : made.spaces ≡ lists.spaces
   pub notdefs : made.notdefs ≡ lists.notdefs
@@ -27,7 +27,7 @@ pub record KeepLists (lists made : Lists) : Type 0 where
   pub three : HaveSameCids lists.cids.three made.cids.three
   pub four : HaveSameCids lists.cids.four made.cids.four
 
--- by both each code of each length has the same CID, the same CID where texts don't count, and each code the same text; and both have the same metadata and codespace ranges, layer by layer
+-- both have the same CID for each code of each length, with or without texts, and the same text for each code; and both have the same metadata and codespace ranges, layer by layer
 pub record AnswerAlike (layers others : List Layer) : Type 0 where
   pub cids : (code len : ℕ) → cid_of others code len ≡ cid_of layers code len
   pub declared : (code len : ℕ) → declared_cid others code len ≡ declared_cid layers code len
@@ -35,14 +35,15 @@ pub record AnswerAlike (layers others : List Layer) : Type 0 where
   pub metadata : map (λ layer. layer.metadata) others ≡ map (λ layer. layer.metadata) layers
   pub spaces : map (λ layer. layer.lists.spaces) others ≡ map (λ layer. layer.lists.spaces) layers
 
--- the same metadata and names of files that are used, and lists that say the same; and over layers that answer alike it answers alike, so a chain of files does if each is kept
+-- the same metadata and names of used files, and lists with the same content; over layers with the same answers both files have the same answers, so a chain of files has the same answers
+-- if each file is kept
 pub record Keeps (file made : File) : Type 0 where
   pub metadata : made.metadata ≡ file.metadata
   pub lists : KeepLists file.lists made.lists
   pub uses : made.uses ≡ file.uses
   pub answers : (below others : List Layer) → AnswerAlike below others → AnswerAlike (layer_of file ∷ below) (layer_of made ∷ others)
 
--- the bytes are a binary file by these tables which keeps what the file says, and which gives its own length
+-- the bytes are a binary file by these tables, which keeps the content of the file and states its own length
 pub record IsWritten (tables : PrefixTables) (file : File) (bytes : List ℕ) : Type 0 where
   pub made : File
   pub is : IsBinaryFile tables bytes made

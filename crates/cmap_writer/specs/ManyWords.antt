@@ -1,4 +1,4 @@
--- Which tables have too many code words to be written anew.
+-- The tables that have too many code words to be written again.
 use Rattle.std.specs.Prelude.{ℕ, ◌≤◌, ◌^◌, ◌==◌, List, count_by}
 use Rattle.cmap_binary.specs.PrefixWords.{CodeWord, lengths_of}
 

@@ -1,4 +1,4 @@
--- Why a file can't be written in the binary form.
+-- The reasons why a file can't be written in the binary form.
 use Rattle.std.specs.Prelude.{◌≡◌, ◌≢◌, ◌⊎◌, ℕ, ℤ, pos, ◌+◌, ◌≤◌, ◌<◌, ◌^◌, List, Any, Contains, Option, Some, None, IsSomeAnd, length, map}
 use Rattle.cmap_runs.specs.Ranges.{Span, runs_of}
 use Rattle.cmap_values.specs.declared.range.Range.{Range}
@@ -20,7 +20,7 @@ use Rattle.cmap_writer.specs.declared.segments.Segment.{Segment}
 use Rattle.cmap_writer.specs.declared.obstacle.Obstacle.{Obstacle}
 use Rattle.cmap_writer.specs.declared.obstacle.Obstacle.TheVariants.{CustomFamily, LargeCid, LargeCode, NoPlace, NoWord, Supplement, Text, TooLong, ZeroByte}
 
--- a CID that two bytes can't say, or none since 32 bits can't say it
+-- a CID that doesn't fit in two bytes, or no CID since it doesn't fit in 32 bits
 abbrev pub IsLargeCid : Option ℕ → Type 0
 IsLargeCid None = Unit {0}
 IsLargeCid (Some cid) = 2 ^ 16 ≤ cid
@@ -29,7 +29,7 @@ IsLargeCid (Some cid) = 2 ^ 16 ≤ cid
 abbrev pub IsRunOf : List Span → Range → Type 0
 IsRunOf spans range = Any (λ run. (run.low ≡ range.start) × (run.high ≡ range.end)) (runs_of spans)
 
--- a list of CIDs gives the last code of a run a large one
+-- a list gives the last code of a run a large CID
 abbrev pub GivesLargeCid : List CidEntry → Range → Type 0
 GivesLargeCid es range = IsRunOf (map cid_span es) range × IsSomeAnd (cid_told es range.end) IsLargeCid
 
@@ -37,23 +37,23 @@ GivesLargeCid es range = IsRunOf (map cid_span es) range × IsSomeAnd (cid_told 
 abbrev pub IsLargeNotdef : Range → CidEntry → Type 0
 IsLargeNotdef range e = (e.start ≡ range.start) × (e.end ≡ range.end) × (2 ^ 16 ≤ e.cid)
 
--- the code is one of two ends, and this many bytes can't say it
+-- the code is one of two ends, and it doesn't fit in this many bytes
 abbrev pub IsLargeEnd : ℕ → ℕ → ℕ → ℕ → Type 0
 IsLargeEnd code len low high = ((code ≡ low) ⊎ (code ≡ high)) × (256 ^ len ≤ code)
 
--- a text that names the family holds a zero byte
+-- the registry or the ordering of the family has a zero byte
 abbrev pub HoldsZero : Collection → Type 0
 HoldsZero collection = Contains (registry_of collection.family) 0 ⊎ Contains (ordering_of collection.family) 0
 
--- the family isn't the one of the texts that name it
+-- the family isn't the family that its registry and ordering name
 abbrev pub IsMisnamed : Collection → Type 0
 IsMisnamed collection = family_of (registry_of collection.family) (ordering_of collection.family) ≢ collection.family
 
--- the supplement, which two bytes can't say
+-- the supplement is n, and it doesn't fit in two bytes
 abbrev pub HasWideSupplement : ℤ → Collection → Type 0
 HasWideSupplement n collection = (collection.supplement ≡ n) × ((number : ℕ) → number < 2 ^ 16 → pos number ≢ n)
 
--- the declaration that decides a run gives its first code a text of more units than a byte can count
+-- the declaration that decides a run gives the first code of the run a text whose number of units doesn't fit in a byte
 abbrev pub HasLongText : List BfEntry → Range → Type 0
 HasLongText es range = IsRunOf (map bf_span es) range × IsSomeAnd (last_bf es range.start) (λ e. 2 ^ 8 ≤ length (units_at e range.start))
 
@@ -61,22 +61,22 @@ HasLongText es range = IsRunOf (map bf_span es) range × IsSomeAnd (last_bf es r
 abbrev pub HasManyTexts : List BfEntry → Range → Type 0
 HasManyTexts es range = (range.start + 2 ^ 16 ≤ range.end) × IsRunOf (map bf_span es) range
 
--- with the five bytes before it, it has 2^32 bytes or more
+-- the payload and the five bytes before it have 2^32 bytes or more
 abbrev pub IsLongCollection : Collection → Type 0
 IsLongCollection collection = 2 ^ 32 ≤ 5 + collection_len collection
 
 abbrev pub IsLongName : List ℕ → Type 0
 IsLongName name = 2 ^ 32 ≤ 5 + length name
 
--- what names the collection, the name of the file or that of a file that it uses is too long
+-- the payload for the collection, the name of the file or the name of a used file is too long
 abbrev pub HasLongName : File → Type 0
 HasLongName file = (IsSomeAnd file.metadata.collection IsLongCollection ⊎ IsSomeAnd file.metadata.name IsLongName) ⊎ Any IsLongName file.uses
 
--- this holds of a length and of the list for codes of this length
+-- P holds for some length and the list for codes of this length
 abbrev pub InSomeList : ByLength → (ℕ → List CidEntry → Type 0) → Type 0
 InSomeList lists P = (len : ℕ) × P len (of_length lists len)
 
--- the file has this, which isn't written in the binary form
+-- the file has the obstacle, so it has no binary form
 abbrev pub IsObstacle : File → Obstacle → Type 0
 IsObstacle file (LargeCid range) = InSomeList file.lists.cids (λ len es. GivesLargeCid es range) ⊎ InSomeList file.lists.notdefs (λ len es. Any (IsLargeNotdef range) es)
 IsObstacle file (LargeCode code) = Any (λ space. IsLargeEnd code space.len space.low space.high) file.lists.spaces ⊎ InSomeList file.lists.notdefs (λ len es. Any (λ e. IsLargeEnd code len e.start e.end) es)
@@ -88,11 +88,11 @@ IsObstacle file TooLong = HasLongName file
 IsObstacle file NoWord = ⊥
 IsObstacle file NoPlace = ⊥
 
--- nothing stands in the way of the file
+-- the file has no obstacle
 abbrev pub IsSayable : File → Type 0
 IsSayable file = (obstacle : Obstacle) → IsObstacle file obstacle → ⊥
 
--- what is to be written of a file: nothing stands in its way, what it says, and where it stands
+-- the prepared form of a file: the file has no obstacle, and the prepared form has its content and arrangement
 pub record IsPreparedFor (file : File) (prepared : Prepared) : Type 0 where
   pub sayable : IsSayable file
   pub says : IsPrepared file prepared
@@ -102,28 +102,28 @@ pub record IsPreparedFor (file : File) (prepared : Prepared) : Type 0 where
 abbrev pub HasNoWord : PrefixTables → Segment → Type 0
 HasNoWord tables segment = Any (IsNoSymbol tables.delta) segment.deltas.items ⊎ Any (IsNoSymbol tables.count) segment.counts.items
 
--- what is to be written of the file has a number without a code word in these tables
+-- the prepared form of the file has a number without a code word in these tables
 abbrev pub IsUnspelled : PrefixTables → File → Type 0
 IsUnspelled tables file = (prepared : Prepared) × IsPreparedFor file prepared × Any (HasNoWord tables) prepared.segments.items
 
--- the ten bytes of a head, and the bytes of all segments, are 2^32 or more
+-- the head of ten bytes, the fields and the bytes of all segments have 2^32 bytes or more
 pub record IsLongBy (tables : PrefixTables) (prepared : Prepared) : Type 0 where
   pub bytes : List ℕ
   pub are : AreSegmentBytes tables prepared.segments.items bytes
   pub long : 2 ^ 32 ≤ 10 + (length prepared.fields.items + length bytes)
 
--- what is to be written of the file is too long
+-- the prepared form of the file is too long
 abbrev pub IsLongFile : PrefixTables → File → Type 0
 IsLongFile tables file = (prepared : Prepared) × IsPreparedFor file prepared × IsLongBy tables prepared
 
--- why a file can't be written by these tables
+-- the obstacles to writing a file with these tables
 abbrev pub IsWriteObstacle : PrefixTables → File → Obstacle → Type 0
 IsWriteObstacle tables file NoWord = IsUnspelled tables file
 IsWriteObstacle tables file TooLong = HasLongName file ⊎ IsLongFile tables file
 IsWriteObstacle tables file other = IsObstacle file other
 
 -- ---- private aid
--- what part of a file can't be said
+-- the obstacles that parts of a file have
 abbrev pub IsCodeObstacle : ℕ → ℕ → Obstacle → Type 0
 IsCodeObstacle len code (LargeCode large) = (large ≡ code) × (256 ^ len ≤ code)
 IsCodeObstacle len code other = ⊥
@@ -193,11 +193,11 @@ IsColumnObstacle table symbols NoWord = Any (IsNoSymbol table) symbols
 IsColumnObstacle table symbols TooLong = 2 ^ 30 ≤ length symbols
 IsColumnObstacle table symbols other = ⊥
 
--- it has more entries than two bytes can count
+-- the number of entries doesn't fit in two bytes
 abbrev pub HasManyEntries : Segment → Type 0
 HasManyEntries segment = (2 ^ 16 ≤ length segment.deltas.items) ⊎ (2 ^ 16 ≤ length segment.counts.items)
 
--- so large that it can't be a segment of a file that is prepared
+-- the segment is too large to be a segment of a prepared file
 abbrev pub IsLarge : Segment → Type 0
 IsLarge segment = HasManyEntries segment ⊎ (2 ^ 31 ≤ length segment.values.items)
 
@@ -211,7 +211,7 @@ IsSegmentsObstacle tables segments NoWord = Any (HasNoWord tables) segments
 IsSegmentsObstacle tables segments TooLong = Any IsLarge segments
 IsSegmentsObstacle tables segments other = ⊥
 
--- why what is prepared can't be written
+-- the obstacles to writing a prepared file
 abbrev pub IsPreparedObstacle : PrefixTables → Prepared → Obstacle → Type 0
 IsPreparedObstacle tables prepared NoWord = Any (HasNoWord tables) prepared.segments.items
 IsPreparedObstacle tables prepared TooLong = Any IsLarge prepared.segments.items ⊎ IsLongBy tables prepared

@@ -1,4 +1,4 @@
--- What is to be written of a file, before it is known how its numbers are spelled.
+-- The prepared form of a file, which leaves open by which tables its numbers are spelled.
 use Rattle.std.specs.Prelude.{ℕ, ◌+◌, ◌*◌, ◌≤◌, List, ◌++◌, flat_map, length, map}
 use Rattle.cmap_values.specs.Files.{BfEntry, CidEntry, Declaration, File}
 use Rattle.cmap_binary.specs.BinaryFiles.{Content, declares, file_of}
@@ -16,11 +16,11 @@ use Rattle.cmap_writer.specs.Written.{WritesAll}
 use Rattle.cmap_writer.specs.declared.prepared.Prepared.{Prepared}
 use Rattle.cmap_writer.specs.declared.segments.Segment.{Segment}
 
--- segments by which codes of this length have the CIDs that they have by a list come after the old ones
+-- the new segments are the old ones and segments that give codes of this length the CIDs of a list
 abbrev pub AddsSameCids : ℕ → List CidEntry → List Segment → List Segment → Type 0
 AddsSameCids len es old new = (made : List CidEntry) × AddsSegments old new (map (Declaration.cid len) made) × HaveSameCids es made × AreFew (map cid_span es) (length made)
 
--- and by which codes have the texts that they have by a list
+-- the new segments are the old ones and segments that give codes the texts of a list
 abbrev pub AddsSameTexts : List BfEntry → List Segment → List Segment → Type 0
 AddsSameTexts es old new = (made : List BfEntry) × AddsSegments old new (map Declaration.bf made) × HaveSameTexts es made × AreFew (map bf_span es) (length made)
 
@@ -28,7 +28,7 @@ AddsSameTexts es old new = (made : List BfEntry) × AddsSegments old new (map De
 abbrev pub file_weight : File → ℕ
 file_weight file = weight_of (map cid_span file.lists.cids.one) + (weight_of (map cid_span file.lists.cids.two) + (weight_of (map cid_span file.lists.cids.three) + (weight_of (map cid_span file.lists.cids.four) + weight_of (map bf_span file.lists.bfs))))
 
--- segments without columns, and others, which say together what keeps the file
+-- segments without columns and segments with columns, which together keep the content of the file
 pub record IsPrepared (file : File) (prepared : Prepared) : Type 0 where
   pub contents : List Content
   pub parts : List (List Declaration)
@@ -37,7 +37,7 @@ pub record IsPrepared (file : File) (prepared : Prepared) : Type 0 where
   pub keeps : Keeps file (file_of (contents ++ map declares parts))
   pub few : 256 * length (flat_map (λ part. part) parts) ≤ file_weight file
 
--- segments by which codes of each length have the CIDs that they have by these lists come after the old ones
+-- the new segments are the old ones and segments that give codes of each length the CIDs of these lists
 pub record AddsCidLists (lists : ByLength (Vec CidRange)) (old new : List Segment) : Type 0 where
   pub one : List CidEntry
   pub two : List CidEntry

@@ -7,7 +7,7 @@ abbrev pub IsSpelled : List CodeWord → List ℕ → List ℕ → Type 0
 IsSpelled table [] stream = stream ≡ []
 IsSpelled table (symbol ∷ symbols) stream = (len : ℕ) × (rest : List ℕ) × Decodes table stream symbol len rest × IsSpelled table symbols rest
 
--- the code words of these symbols, in order, and zeros that fill the last byte
+-- the code words of these symbols, in order, and zeros up to the end of the last byte
 pub record IsSpelledIn (table : List CodeWord) (symbols bytes : List ℕ) : Type 0 where
   pub stream : List ℕ
   pub rest : List ℕ

@@ -1,4 +1,4 @@
--- How many entries a list of declarations comes to.
+-- A bound on the number of entries for a list of declarations.
 use Rattle.std.specs.Prelude.{ℕ, ◌+◌, ◌-◌, ◌*◌, ◌≤◌, List}
 use Rattle.std.specs.List.{sum_by}
 use Rattle.cmap_runs.specs.Ranges.{Run, Span, runs_of}
@@ -12,11 +12,11 @@ run_span run = record { start = run.low; end = run.high }
 abbrev pub span_weight : Span → ℕ
 span_weight span = 256 + (span.end - span.start)
 
--- 256 for each run of codes that one declaration decides, and as many as the run has codes after its first
+-- for each run of codes that one declaration decides: 256, and the number of codes after its first
 abbrev pub weight_of : List Span → ℕ
 weight_of spans = sum_by (λ run. span_weight (run_span run)) (runs_of spans)
 
--- at most one entry for each run, and one for each 256 codes of it
+-- at most one entry for each run, and one for each 256 codes after the first of the run
 abbrev pub AreFew : List Span → ℕ → Type 0
 AreFew spans count = 256 * count ≤ weight_of spans
 

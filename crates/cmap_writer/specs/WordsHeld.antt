@@ -13,11 +13,11 @@ words_seen words = map word_seen words
 abbrev pub word_lengths : List Word → List ℕ
 word_lengths words = lengths_of (words_seen words)
 
--- each word has its value
+-- the value of each word follows from the lengths of the words before it
 abbrev pub AreWords : List Word → Type 0
 AreWords words = (i : ℕ) (w : Word) → slice_get words i ≡ Some w → (w.value ≡ number_after (take i (word_lengths words)) w.len) × (w.value < 2 ^ w.len)
 
--- words of at most last bits, after which next comes
+-- words of at most `last` bits; `next` comes after them
 pub record AreWordsTo (words : List Word) (last next : ℕ) : Type 0 where
   pub held : AreWords words
   pub most : last ≤ 32

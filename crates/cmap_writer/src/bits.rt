@@ -1,4 +1,4 @@
-//! Bits that are written one after another, the high one of each byte first.
+//! Bits written one after another, with the high bit of each byte first.
 
 ghost use Rattle.std.specs.Prelude.{◌≡◌, ℕ, ◌<◌, ◌≤◌, List, [], ◌∷◌, ◌++◌, IfOk, length, replicate};
 ghost use Rattle.cmap_binary.specs.PrefixWords.{bits, bits_of};
@@ -6,12 +6,12 @@ ghost use Rattle.cmap_binary.specs.PrefixWords.{bits, bits_of};
 use std::alloc::{AllocError, Global};
 use std::marker::Model;
 
-/// Bits that have been written. A clause sees them all, in order.
+/// The bits written so far. A clause sees all of them, in order.
 #[derive(Drop)]
 pub(crate) struct BitWriter {
-    /// The bytes that are full.
+    /// The full bytes.
     bytes: Vec<u8>,
-    /// How many bits of the next byte there are, and the number that they write.
+    /// The number of bits of the next byte, and the number that these bits form.
     count: u8,
     pending: u8,
 }
@@ -39,7 +39,7 @@ impl BitWriter {
         }
     }
 
-    /// Writes the last `len` bits of a number, the high one first.
+    /// Writes the last `len` bits of a number, with the high bit first.
     pub(crate) fn push(&mut self, value: u32, len: u8) -> Result<(), AllocError>
         requires { len ≤ 32 }
         ensures { IfOk result (λ _. self.new ≡ self.old ++ bits_of len value) }
@@ -69,7 +69,7 @@ impl BitWriter {
         Ok(())
     }
 
-    /// The bytes that the bits begin. What follows them in the last byte are zero bits.
+    /// The bytes that begin with the bits. Zero bits fill the last byte.
     pub(crate) fn finish(self) -> Result<Vec<u8>, AllocError>
         ensures { IfOk result (λ bytes. (rest : List ℕ) × (bits bytes.items ≡ self ++ rest) × (length rest < 8)
             × (rest ≡ replicate (length rest) 0)) }

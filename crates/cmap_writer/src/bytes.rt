@@ -1,11 +1,11 @@
-//! Big-endian numbers that are written one after another.
+//! Big-endian numbers, written one after another.
 
 ghost use Rattle.std.specs.Prelude.{◌≡◌, ◌<◌, ◌≤◌, ◌^◌, ◌++◌, All, IfOk, flat_map};
 ghost use Rattle.cmap_writer.specs.Written.{bytes_of};
 
 use std::alloc::AllocError;
 
-/// Writes the last `width` bytes of a number, the high one first.
+/// Writes the last `width` bytes of a number, with the high byte first.
 pub(crate) fn push_number(out: &mut Vec<u8>, number: u32, width: u8) -> Result<(), AllocError>
     requires { width ≤ 4 }
     ensures { IfOk result (λ _. out.new.items ≡ out.old.items ++ bytes_of width number) }

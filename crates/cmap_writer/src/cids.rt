@@ -29,7 +29,7 @@ use std::alloc::{AllocError, Global};
 /// The most entries of a segment.
 const MOST: usize = 65535;
 
-/// Adds segments by which each code of a length has the CID that it has by this list.
+/// Adds segments that give each code of a length the CID that this list gives.
 pub(crate) fn add_cid_list(
     alloc: Global,
     len: CodeLength,
@@ -54,7 +54,7 @@ fn type_of(len: CodeLength, entry: &CidRange) -> u8
     Shape::of(entry.range).cid_type(len)
 }
 
-/// Adds segments that declare these pieces of ranges of codes of one length, in order.
+/// Adds segments for these pieces of ranges of codes of one length, in order.
 fn add_cids(
     alloc: Global,
     len: CodeLength,
@@ -84,8 +84,8 @@ fn first_shape(entries: &[CidRange]) -> Shape
     Shape::of(entries[0].range)
 }
 
-/// How many entries the next segment holds: all have one shape, each comes after the one before, and
-/// only the first may have CID 0.
+/// The number of entries of the next segment: all entries have one shape, each comes after the one
+/// before, and only the first may have CID 0.
 fn segment_len(shape: Shape, entries: &[CidRange]) -> usize
     requires first { HasShapeOf (shape_seen shape) entries.now 0 }
     requires short { All IsShort (entries_seen entries.now) }

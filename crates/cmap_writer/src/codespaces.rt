@@ -19,7 +19,7 @@ const CODESPACES: u8 = 12;
 /// The most ranges of a segment.
 const MOST: usize = 255;
 
-/// Writes segments that declare these codespace ranges, in order.
+/// Writes segments for these codespace ranges, in order.
 pub(crate) fn push_codespaces(
     alloc: Global,
     spaces: &[Codespace],
@@ -52,7 +52,7 @@ fn codespace_payload(alloc: Global, spaces: &[Codespace]) -> Result<Vec<u8>, Fau
     Ok(payload)
 }
 
-/// Writes codespace ranges in a row.
+/// Writes codespace ranges, one after another.
 fn push_spaces(out: &mut Vec<u8>, spaces: &[Codespace]) -> Result<(), Fault<Obstacle>>
     ensures { Outcome (λ _. All SpaceFits (map codespace_seen spaces.now)
         × (out.new.items ≡ out.old.items ++ flat_map space_bytes (map codespace_seen spaces.now)))
@@ -64,7 +64,7 @@ fn push_spaces(out: &mut Vec<u8>, spaces: &[Codespace]) -> Result<(), Fault<Obst
     Ok(())
 }
 
-/// Writes a codespace range: the length of its codes, low, high.
+/// Writes a codespace range: the length of its codes, the low code, the high code.
 fn push_space(out: &mut Vec<u8>, space: Codespace) -> Result<(), Fault<Obstacle>>
     ensures { Outcome (λ _. SpaceFits (codespace_seen space) × (out.new.items ≡ out.old.items ++ space_bytes (codespace_seen space)))
         (IsSpaceObstacle (codespace_seen space)) result }

@@ -1,4 +1,4 @@
-//! Columns of a segment: which codes its entries have.
+//! The columns of a segment: the codes of its entries.
 
 ghost use Rattle.std.specs.Prelude.{◌≡◌, ◌+◌, ◌*◌, ◌≤◌, IfErr, IfOk, IsFalse, IsTrue, length, map};
 ghost use Rattle.cmap_values.specs.CodeLengths.{length_of};
@@ -21,14 +21,14 @@ use cmap_values::fault::Fault;
 use cmap_values::range::{HasRange, Range};
 use std::alloc::{AllocError, Global};
 
-/// The code words of a bundle: of deltas and of counts.
+/// The code words of a bundle, for deltas and for counts.
 #[derive(Debug, Drop)]
 pub struct Encoders {
     pub delta: Encoder,
     pub count: Encoder,
 }
 
-/// Whether the entries of a segment are ranges of two codes or more, or single codes.
+/// The shape of the entries of a segment: ranges of two codes or more, or single codes.
 #[derive(Clone, Copy)]
 pub(crate) enum Shape {
     Ranges,
@@ -80,7 +80,7 @@ impl Shape {
     }
 }
 
-/// Writes columns: of deltas, and of ranges also of counts.
+/// Writes the columns of a segment: a column of deltas, and for ranges also a column of counts.
 pub(crate) fn push_columns(
     alloc: Global,
     tables: &Encoders,
@@ -99,7 +99,7 @@ pub(crate) fn push_columns(
     }
 }
 
-/// Writes a column: the code words of these symbols, in a piece after its length.
+/// Writes a column: the code words of these symbols, as a piece after its length.
 fn push_column(
     alloc: Global,
     table: &Encoder,
@@ -117,7 +117,7 @@ fn push_column(
     Ok(())
 }
 
-/// How many codes each entry leaves out after the one before.
+/// For each entry, the number of codes between it and the entry before.
 pub(crate) fn deltas<T: HasRange>(alloc: Global, entries: &[T]) -> Result<Vec<u32>, AllocError>
     requires { AreInOrder 0 (map T.span entries.now) }
     ensures { IfOk result (λ deltas. deltas.items ≡ deltas_of 0 (map T.span entries.now)) }
@@ -132,7 +132,7 @@ pub(crate) fn deltas<T: HasRange>(alloc: Global, entries: &[T]) -> Result<Vec<u3
     Ok(deltas)
 }
 
-/// How many codes more than two each range has; nothing of single codes.
+/// For each range, the number of its codes beyond two; no numbers for single codes.
 pub(crate) fn counts<T: HasRange>(
     alloc: Global,
     shape: Shape,
@@ -147,7 +147,7 @@ pub(crate) fn counts<T: HasRange>(
     }
 }
 
-/// How many codes more than two each range has.
+/// For each range, the number of its codes beyond two.
 fn range_counts<T: HasRange>(alloc: Global, entries: &[T]) -> Result<Vec<u32>, AllocError>
     requires { AreShaped ranges (map T.span entries.now) }
     ensures { IfOk result (λ counts. counts.items ≡ counts_of (map T.span entries.now)) }

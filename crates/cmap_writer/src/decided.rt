@@ -1,5 +1,4 @@
-//! Which codes the declarations of a list decide: ranges that lie apart, so that their order doesn't
-//! matter.
+//! The codes that the declarations of a list decide, as disjoint ranges, whose order doesn't matter.
 
 ghost use Rattle.std.specs.Prelude.{◌≡◌, ◌+◌, ◌-◌, ◌<◌, ◌≤◌, ◌^◌, All, IfErr, IfNone, IfOk, IfSome, IsFalse, IsTrue, get_or, length, map};
 ghost use Rattle.cmap_values.specs.DeclarationsSeen.{cid_entry_seen, cid_range_span, entries_seen};
@@ -22,8 +21,8 @@ use std::alloc::{AllocError, Global};
 /// The largest CID.
 pub(crate) const LARGEST_CID: u32 = 65535;
 
-/// The ranges of codes for which these declarations decide a CID, in order. Ranges whose CIDs go on are
-/// one. A CID above 65535 is an obstacle.
+/// The ranges of codes for which these declarations decide a CID, in order. Adjacent ranges with
+/// consecutive CIDs are joined. A CID above 65535 is an obstacle.
 pub(crate) fn decided_cids(
     alloc: Global,
     list: &[CidRange],
@@ -37,7 +36,8 @@ pub(crate) fn decided_cids(
     ranges_of(alloc, &table)
 }
 
-/// The ranges of codes for which the declarations of a table decide a CID, as `decided_cids` has them.
+/// The ranges of codes for which the declarations of a table decide a CID, in the form of
+/// `decided_cids`.
 fn ranges_of(alloc: Global, table: &Table<CidRange>) -> Result<Vec<CidRange>, Fault<Obstacle>>
     requires { All (λ r. r.range.end < 2 ^ 32) table.now }
     ensures same { IfOk result (λ ranges. SayTheSame cid_span cid_at (entries_seen table.now) (entries_seen ranges.items) × All CanBeSplit (entries_seen ranges.items)) }
@@ -85,7 +85,7 @@ pub(crate) fn last_code(range: &Range) -> u32
     range.end
 }
 
-/// The part of a declaration for these codes; `None` where its last CID is above 65535.
+/// The part of a declaration for these codes; `None` where the last CID of the part is above 65535.
 fn part_of(declaration: &CidRange, range: Range) -> Option<CidRange>
     requires start { declaration.now.range.start ≤ range.start }
     requires end { range.start ≤ range.end }
@@ -105,7 +105,7 @@ fn part_of(declaration: &CidRange, range: Range) -> Option<CidRange>
     })
 }
 
-/// Adds a range, as one with the last range where it goes on from that.
+/// Adds a range, joined with the last range where it goes on from the last one.
 fn push_joined(ranges: &mut Vec<CidRange>, range: CidRange) -> Result<(), AllocError>
     requires all { All CanBeSplit (entries_seen ranges.now.items) }
     requires one { CanBeSplit (cid_entry_seen range) }
@@ -123,7 +123,7 @@ fn push_joined(ranges: &mut Vec<CidRange>, range: CidRange) -> Result<(), AllocE
     Ok(())
 }
 
-/// Whether a range goes on where the last one ends.
+/// Whether a range goes on from the last one.
 fn is_continued(ranges: &[CidRange], range: &CidRange) -> bool
     requires { All CanBeSplit (entries_seen ranges.now) }
     ensures some { IsTrue result → 0 < length ranges.now }
@@ -136,7 +136,7 @@ fn is_continued(ranges: &[CidRange], range: &CidRange) -> bool
     }
 }
 
-/// Whether a range goes on where another one ends, with the CIDs after its.
+/// Whether a range begins just after another one, with CIDs that go on from the CIDs of the other one.
 fn goes_on(last: &CidRange, range: &CidRange) -> bool
     requires { last.now.range.start ≤ last.now.range.end }
     ensures yes { IsTrue result → GoesOn last.now range.now }

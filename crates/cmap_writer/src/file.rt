@@ -17,10 +17,10 @@ use cmap_values::fault::Fault;
 use cmap_values::file::File;
 use std::alloc::Global;
 
-/// A binary file that keeps what a file says: its metadata, its codespace ranges, the names of the files
+/// A binary file with the content of a file: its metadata, its codespace ranges, the names of the files
 /// that it uses, the CID of each code of each length, and the text of each code.
 ///
-/// It is refused with its obstacle, as a CID of more than two bytes.
+/// A file that has an obstacle, such as a CID of more than two bytes, is refused with the obstacle.
 pub fn write_file(
     alloc: Global,
     tables: &Encoders,
@@ -30,7 +30,8 @@ pub fn write_file(
         × IsWritten (encoders_seen tables.now) (file_seen file.now) bytes.items)
         (IsWriteObstacle (encoders_seen tables.now) (file_seen file.now)) result }
 
-    // What is written has no obstacle; only where a symbol has two code words it may have another length.
+    // A written file has no obstacle, except perhaps `TooLong` where a symbol has two code words, since
+    // another spelling may be longer.
     ensures none { IfOk result (λ _. (obstacle : Obstacle) → IsWriteObstacle (encoders_seen tables.now) (file_seen file.now) obstacle
         → (obstacle ≡ TooLong) × (HaveOneWordEach (encoders_seen tables.now) → ⊥)) }
 {

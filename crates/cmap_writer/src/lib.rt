@@ -1,4 +1,5 @@
-//! Writers of CMap files in the binary form `bcmap`: what a reader of one reads is what was asked for.
+//! Writers of CMap files in the binary form `bcmap`: a reader of a written file gets the content that
+//! was given.
 #![tactic(auto)]
 
 mod bits;

@@ -1,4 +1,4 @@
-//! Segments of what a file states about itself, and of the names that it uses.
+//! Segments for the metadata of a file, and for the names of the files that it uses.
 
 ghost use Rattle.std.specs.Prelude.{◌≡◌, ◌<◌, ◌^◌, ◌++◌, All, Any, IfErr, IfNone, IfOk, IfSome, IsSomeAnd, option_map, pos};
 ghost use Rattle.cmap_values.specs.NamesSeen.{names_seen};
@@ -27,7 +27,7 @@ const NAME: u8 = 13;
 
 const COLLECTION: u8 = 14;
 
-/// Writes a segment for each part of the metadata that is there.
+/// Writes a segment for each part of the metadata that is present.
 pub(crate) fn push_metadata(
     alloc: Global,
     metadata: &Metadata,
@@ -41,7 +41,7 @@ pub(crate) fn push_metadata(
     push_mode(metadata.writing_mode, out)
 }
 
-/// Writes segments for the names of the files that are used, in order.
+/// Writes segments for the names of the used files, in order.
 pub(crate) fn push_uses(names: &[&[u8]], out: &mut Vec<u8>) -> Result<(), Fault<Obstacle>>
     ensures { Outcome (λ _. All NameFits (names_seen names.now) × (out.new.items ≡ out.old.items ++ uses_bytes (names_seen names.now)))
         (λ o. (o ≡ TooLong) × Any IsLongName (names_seen names.now)) result }
@@ -124,7 +124,7 @@ fn collection_payload(
     Ok(payload)
 }
 
-/// The number of a supplement, where two bytes can say it.
+/// The number of a supplement, if it fits in two bytes.
 fn supplement_number(collection: &CharacterCollection) -> Option<u16>
     ensures some { IfSome result (λ number. (number < 2 ^ 16) × (pos number ≡ collection.now.supplement)) }
     ensures none { IfNone result (HasWideSupplement collection.now.supplement (collection_seen collection.now)) }
@@ -132,7 +132,7 @@ fn supplement_number(collection: &CharacterCollection) -> Option<u16>
     u16::try_from(collection.supplement).ok()
 }
 
-/// Checks that a family is the one of its registry and ordering.
+/// Checks that a family is the family of its registry and ordering.
 fn check_family(alloc: Global, family: &CidFamily) -> Result<(), Fault<Obstacle>>
     ensures same { IfOk result (λ _. family_of (registry_of (family_seen family.now)) (ordering_of (family_seen family.now)) ≡ family_seen family.now) }
     ensures err { IfErr result (RefusesWith (IsFamilyObstacle (family_seen family.now))) }

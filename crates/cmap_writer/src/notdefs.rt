@@ -23,7 +23,7 @@ const NOTDEFS: u8 = 10;
 /// The most entries of a segment.
 const MOST: usize = 65535;
 
-/// Writes segments that make these notdef declarations for codes of one length, in order.
+/// Writes segments for these notdef declarations for codes of one length, in order.
 pub(crate) fn push_notdefs(
     alloc: Global,
     len: CodeLength,
@@ -62,7 +62,7 @@ fn notdef_payload(
     Ok(payload)
 }
 
-/// Writes notdef declarations in a row.
+/// Writes notdef declarations, one after another.
 fn push_entries(
     out: &mut Vec<u8>,
     len: CodeLength,
@@ -78,7 +78,7 @@ fn push_entries(
     Ok(())
 }
 
-/// Writes a notdef declaration: start, end, and a CID of two bytes.
+/// Writes a notdef declaration: the first code, the last code, and a CID of two bytes.
 fn push_notdef(out: &mut Vec<u8>, len: CodeLength, entry: &CidRange) -> Result<(), Fault<Obstacle>>
     ensures { Outcome (λ _. NotdefFits (length_of len) (cid_entry_seen entry.now)
         × (out.new.items ≡ out.old.items ++ notdef_bytes (length_of len) (cid_entry_seen entry.now)))

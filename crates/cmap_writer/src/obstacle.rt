@@ -1,30 +1,30 @@
-//! What a bundle can't say.
+//! Obstacles to the binary form of a file or a bundle.
 
 use cmap_values::range::Range;
 use std::fmt::{self, Display, Formatter, Write};
 
-/// What a binary file or a bundle can't say.
+/// Content that a binary file or a bundle can't represent.
 #[derive(Clone, Copy, Debug)]
 pub enum Obstacle {
     /// A CID above 65535, in a declaration for these codes.
     LargeCid(Range),
-    /// A code that has more bytes than the length that it is declared for.
+    /// A code that has more bytes than its declared length.
     LargeCode(u32),
-    /// A registry or an ordering that holds a zero byte.
+    /// A registry or an ordering with a zero byte.
     ZeroByte,
-    /// A `Custom` family with the registry and the ordering of a family that has a name.
+    /// A `Custom` family with the registry and the ordering of a named family.
     CustomFamily,
     /// A supplement outside 0 to 65535.
     Supplement(i32),
-    /// The texts of these codes: they have more than 255 units, or are those of more than 65536 codes
-    /// in a row.
+    /// The texts of these codes: they have more than 255 units, or they are texts of more than 65536
+    /// consecutive codes.
     Text(Range),
-    /// A table has no code word for a number that is to be spelled by it; or there are more than
-    /// 65535 different numbers to spell.
+    /// A table has no code word for a number to spell; or there are more than 65535 different numbers
+    /// to spell.
     NoWord,
-    /// Something would have 2^32 bytes or more.
+    /// A part or the whole would have 2^32 bytes or more.
     TooLong,
-    /// The name of the file is none of the known ones, so a bundle has no place for it.
+    /// The name of the file isn't a known name, so a bundle has no place for the file.
     NoPlace,
 }
 
@@ -50,7 +50,7 @@ impl Display for Obstacle {
     }
 }
 
-/// Writes what is wrong with the codes of a range, each code with as many bytes as the range needs.
+/// Writes an obstacle for the codes of a range, each code with as many bytes as the range needs.
 fn write_codes<W: Write>(f: &mut Formatter<W>, what: &str, range: &Range) -> fmt::Result {
     let Range { start, end } = range;
     match *start.max(end) {

@@ -1,4 +1,4 @@
-//! Pieces that give their own length.
+//! Pieces that state their own length.
 
 ghost use Rattle.std.specs.Prelude.{◌≡◌, ◌+◌, ◌<◌, ◌≤◌, ◌^◌, ◌∷◌, [], IfErr, IfOk, length};
 ghost use Rattle.cmap_binary.specs.Bundles.{PrefixTables};
@@ -10,10 +10,10 @@ use crate::bytes::push_number;
 use crate::obstacle::Obstacle;
 use cmap_values::fault::Fault;
 
-/// How many bytes the length of a piece has.
+/// The number of bytes of the length of a piece.
 const SIZE: usize = 4;
 
-/// Writes a piece after its length in four bytes.
+/// Writes the length of a piece in four bytes, and the piece.
 pub fn push_sized(out: &mut Vec<u8>, piece: &[u8]) -> Result<(), Fault<Obstacle>>
     ensures written { IfOk result (λ _. Appends out.old.items out.new.items (IsSized piece.now)) }
     ensures err { IfErr result (IsTooLongIf (2 ^ 32 ≤ length piece.now)) }
@@ -27,7 +27,8 @@ pub fn push_sized(out: &mut Vec<u8>, piece: &[u8]) -> Result<(), Fault<Obstacle>
     Ok(())
 }
 
-/// Writes a piece with its whole length in four bytes, which stand after its front.
+/// Writes a piece: the prefix `front`, the length of the whole piece in four bytes, and the
+/// payload.
 pub fn push_framed(out: &mut Vec<u8>, front: &[u8], payload: &[u8]) -> Result<(), Fault<Obstacle>>
     requires { length front.now < 2 ^ 32 }
     ensures written { IfOk result (λ _. Appends out.old.items out.new.items (IsFramed front.now payload.now)) }

@@ -1,4 +1,4 @@
-//! A file before it is known how its numbers are spelled.
+//! The prepared form of a file, which leaves open by which tables its numbers are spelled.
 
 ghost use Rattle.std.specs.Prelude.{◌≡◌, ◌++◌, IfErr, IfOk};
 ghost use Rattle.cmap_values.specs.Files.{File as Said};
@@ -30,15 +30,16 @@ use cmap_values::fault::Fault;
 use cmap_values::file::File;
 use std::alloc::Global;
 
-/// A file before it is known how its numbers are spelled.
+/// The prepared form of a file, which leaves open by which tables its numbers are spelled.
 #[derive(Drop)]
 pub struct Prepared {
-    /// The segments that hold no columns, as they are written.
+    /// The segments without columns, as bytes.
     pub fields: Vec<u8>,
     pub segments: Vec<Segment>,
 }
 
-/// What is to be written of a file. It is refused with its obstacle, as a CID of more than two bytes.
+/// The prepared form of a file. A file that has an obstacle, such as a CID of more than two bytes, is
+/// refused with the obstacle.
 pub fn prepare(alloc: Global, file: &File<'_>) -> Result<Prepared, Fault<Obstacle>>
     ensures { Outcome (IsPreparedFor (file_seen file.now)) (IsObstacle (file_seen file.now)) result }
 {
@@ -69,7 +70,7 @@ fn push_notdef_lists(
     push_notdefs(alloc, CodeLength::Four, &lists.four, out)
 }
 
-/// Adds segments of the CIDs of codes of each length.
+/// Adds segments for the CIDs of codes of each length.
 fn add_cid_lists(
     alloc: Global,
     lists: &ByLength<Vec<CidRange>>,
@@ -86,7 +87,7 @@ fn add_cid_lists(
 }
 
 impl Prepared {
-    /// The file, with its numbers spelled by these tables.
+    /// The bytes of the file, with its numbers spelled by these tables.
     pub fn write(&self, alloc: Global, tables: &Encoders) -> Result<Vec<u8>, Fault<Obstacle>>
         ensures encoded { IfOk result (λ bytes. IsEncoded (encoders_seen tables.now) self.now bytes.items) }
         ensures framed { IfOk result (λ bytes. IsFramedFile bytes.items) }

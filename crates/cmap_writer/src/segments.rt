@@ -1,4 +1,4 @@
-//! Segments of CIDs and of texts, before it is known how their numbers are spelled.
+//! Segments of CIDs and of texts, which leave open by which tables their numbers are spelled.
 
 ghost use Rattle.std.specs.Prelude.{◌+◌, ◌*◌, ◌≤◌, IfErr, IfOk, List, length, map};
 ghost use Rattle.cmap_values.specs.Files.{Declaration};
@@ -16,16 +16,16 @@ use crate::pieces::push_segment;
 use cmap_values::fault::Fault;
 use std::alloc::Global;
 
-/// A segment of entries: its type, the numbers that its columns spell, and what follows the columns.
+/// A segment of entries: its type, the numbers of its columns, and the bytes after the columns.
 #[derive(Drop)]
 pub struct Segment {
     pub(crate) number: u8,
     pub(crate) shape: Shape,
-    /// How many codes each entry leaves out after the one before.
+    /// For each entry, the number of codes between it and the entry before.
     pub deltas: Vec<u32>,
-    /// How many codes more than two each range has; nothing of single codes.
+    /// For each range, the number of its codes beyond two; no numbers for single codes.
     pub counts: Vec<u32>,
-    /// The CIDs or the texts of the entries, as they are written.
+    /// The CIDs or the texts of the entries, as bytes.
     pub(crate) values: Vec<u8>,
 }
 

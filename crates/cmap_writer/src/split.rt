@@ -11,7 +11,7 @@ use cmap_values::declarations::CidRange;
 use cmap_values::range::Range;
 use std::alloc::{AllocError, Global};
 
-/// How many codes the last one of a short range may be after its first.
+/// The most codes that a short range has after its first code.
 pub(crate) const MOST_AFTER: u32 = 256;
 
 /// The same ranges, in pieces of 1 to 257 codes.

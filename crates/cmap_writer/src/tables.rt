@@ -1,4 +1,4 @@
-//! The code words of a bundle that is read, so that files are written by them.
+//! The code words of the tables of a bundle, for writing files.
 
 ghost use Rattle.std.specs.Prelude.{◌≡◌, ◌≤◌, ◌⊎◌, ◌^◌, Any, IfOk, MatchOption};
 ghost use Rattle.cmap_binary.specs.BundleSeen.{tables_seen};
@@ -11,13 +11,13 @@ use cmap_binary::Tables;
 use cmap_binary::prefix::PrefixTable;
 use std::alloc::{AllocError, Global};
 
-/// No code word has more bits.
+/// The most bits of a code word.
 const MOST_BITS: usize = 32;
 
 impl Encoders {
-    /// The code words of the tables of a bundle. `None` where 2^16 words or more have one length.
+    /// The code words of the tables of a bundle; `None` where 2^16 words or more have one length.
     ///
-    /// It fails only if memory runs out.
+    /// An error means that memory ran out.
     pub fn of_tables(alloc: Global, tables: &Tables) -> Result<Option<Encoders>, AllocError>
         ensures { IfOk result (λ found. MatchOption found (HasManyWords tables.now.delta ⊎ HasManyWords tables.now.count)
             (λ encoders. encoders_seen encoders ≡ tables_seen tables.now)) }
@@ -32,7 +32,7 @@ impl Encoders {
     }
 }
 
-/// The code words of a table.
+/// The code words of a table; `None` where 2^16 words or more have one length.
 fn encoder_of(alloc: Global, table: &PrefixTable) -> Result<Option<Encoder>, AllocError>
     ensures { IfOk result (λ found. MatchOption found (HasManyWords table.now) (λ encoder. encoder ≡ table.now)) }
 {
@@ -44,7 +44,7 @@ fn encoder_of(alloc: Global, table: &PrefixTable) -> Result<Option<Encoder>, All
     Encoder::new(alloc, counts, symbols)
 }
 
-/// The numbers in two bytes each, where they have no more.
+/// The numbers as `u16`; `None` where a number doesn't fit.
 fn narrowed(alloc: Global, numbers: &[u32]) -> Result<Option<Vec<u16>>, AllocError>
     ensures { IfOk result (λ found. MatchOption found (Any (λ n. 2 ^ 16 ≤ n) numbers.now)
         (λ narrow. narrow.items ≡ numbers.now)) }

@@ -1,4 +1,4 @@
-//! Which codes the declarations of a list decide to have texts: ranges that lie apart, in pieces that a
+//! The codes for which the declarations of a list decide a text, as disjoint ranges, in pieces that a
 //! segment can hold.
 
 ghost use Rattle.std.specs.Prelude.{◌≡◌, ◌+◌, ◌-◌, ◌*◌, ◌<◌, ◌≤◌, ◌^◌, [], ◌∷◌, ◌++◌, All, IfErr, IfOk, List, length, map};
@@ -24,11 +24,11 @@ use cmap_values::range::Range;
 use cmap_values::units::Units;
 use std::alloc::{AllocError, Global};
 
-/// How many codes the last one of a range of texts may be after its first.
+/// The most codes that a range of texts has after its first code.
 const MOST_TEXTS_AFTER: u32 = 65535;
 
 /// The ranges of codes for which these declarations decide a text, in order, each with the units of its
-/// first code; without units where no code of the range has a text.
+/// first code; without units where the first code has none.
 pub(crate) fn decided_texts(
     alloc: Global,
     list: &[BfRange],
@@ -44,7 +44,8 @@ pub(crate) fn decided_texts(
     text_ranges_of(alloc, &table)
 }
 
-/// The ranges of codes for which the declarations of a table decide a text, as `decided_texts` has them.
+/// The ranges of codes for which the declarations of a table decide a text, in the form of
+/// `decided_texts`.
 fn text_ranges_of(alloc: Global, table: &Table<BfRange>) -> Result<Vec<BfRange>, Fault<Obstacle>>
     requires { All (λ r. r.range.end < 2 ^ 32) table.now }
     ensures same { IfOk result (λ ranges. SayTheSame bf_span bf_at (map bf_entry_seen table.now) (map bf_entry_seen ranges.items)) }
@@ -104,7 +105,8 @@ fn part_of_text(alloc: Global, declaration: &BfRange, range: Range) -> Result<Bf
     Ok(BfRange { range, units })
 }
 
-/// The units with the offset added to the last one; none where there is no unit, or the sum isn't one.
+/// The units with the offset added to the last one; no units where there are none, or where the sum
+/// doesn't fit in a unit.
 fn shifted(alloc: Global, units: &Units, offset: u32) -> Result<Units, AllocError>
     ensures { IfOk result (λ made. IsShifted (units_seen units.now) offset (units_seen made)) }
 {
@@ -117,7 +119,7 @@ fn shifted(alloc: Global, units: &Units, offset: u32) -> Result<Units, AllocErro
     }
 }
 
-/// The units of `front`, and a last one.
+/// The units of `front` and then `last`.
 fn with_last(alloc: Global, front: &[u16], last: u16) -> Result<Units, AllocError>
     ensures is { IfOk result (λ made. units_seen made ≡ front.now ++ last ∷ []) }
     ensures small { IfOk result (λ made. All (λ u. u < 2 ^ 16) (units_seen made)) }

@@ -29,7 +29,7 @@ const MOST: usize = 65535;
 /// The most units of a text.
 const MOST_UNITS: usize = 255;
 
-/// Adds segments by which each code has the text that it has by this list.
+/// Adds segments that give each code the text that this list gives.
 pub(crate) fn add_text_list(
     alloc: Global,
     list: &[BfRange],
@@ -60,11 +60,11 @@ fn check_units(ranges: &[BfRange]) -> Result<(), Fault<Obstacle>>
     Ok(())
 }
 
-/// How the entries of a segment of texts are written.
+/// The form of the entries of a segment of texts.
 #[derive(Clone, Copy)]
 struct TextForm {
     shape: Shape,
-    /// How many units each text has; `None` where it is said before each.
+    /// The number of units of each text; `None` where a number stands before each text.
     units: Option<u8>,
 }
 
@@ -108,7 +108,7 @@ fn type_of(entry: &BfRange) -> u8
     TextForm::of(entry).number()
 }
 
-/// Adds segments that declare these pieces of ranges, in order.
+/// Adds segments for these pieces of ranges, in order.
 fn add_texts(
     alloc: Global,
     pieces: &[BfRange],
@@ -140,7 +140,8 @@ fn first_form(entries: &[BfRange]) -> TextForm
     TextForm::of(&entries[0])
 }
 
-/// How many entries the next segment holds: all have one form, and each comes after the one before.
+/// The number of entries of the next segment: all entries have one form, and each comes after the
+/// one before.
 fn segment_len(form: TextForm, entries: &[BfRange]) -> usize
     requires fixes { CanFix (shape_seen form.shape) form.units }
     requires first { BeginsWithForm (shape_seen form.shape) form.units entries.now }
@@ -191,7 +192,7 @@ fn text_segment(alloc: Global, form: TextForm, entries: &[BfRange]) -> Result<Se
     })
 }
 
-/// Writes the texts of entries, of which each has as many units as are fixed.
+/// Writes the texts of entries. Each text has the fixed number of units, if a number is fixed.
 fn push_texts(out: &mut Vec<u8>, fixed: Option<u8>, entries: &[BfRange]) -> Result<(), AllocError>
     requires { All IsShortText (map bf_entry_seen entries.now) }
     ensures { IfOk result (λ _. out.new.items ≡ out.old.items ++ destinations fixed entries.now) }
@@ -202,7 +203,7 @@ fn push_texts(out: &mut Vec<u8>, fixed: Option<u8>, entries: &[BfRange]) -> Resu
     Ok(())
 }
 
-/// Writes the units of a text, after their number where it isn't fixed.
+/// Writes the units of a text, with their number before them where it isn't fixed.
 fn push_text(out: &mut Vec<u8>, fixed: Option<u8>, units: &[u16]) -> Result<(), AllocError>
     requires { length units.now < 2 ^ 8 }
     ensures { IfOk result (λ _. out.new.items ≡ out.old.items ++ destination fixed units.now) }

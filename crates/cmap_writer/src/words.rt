@@ -1,4 +1,4 @@
-//! The code words of symbols, and the bits that spell symbols by them.
+//! The code words of symbols, and the bits that spell symbols with them.
 
 ghost use Rattle.std.specs.Prelude.{◌↔◌, ◌≡◌, ◌+◌, ◌++◌, ◌≤◌, ◌<◌, ◌*◌, ◌-◌, ◌^◌, All, Any, IfNone, IfOk, IfSome, IsTrue, MatchOption, flat_map, length, replicate};
 ghost use Rattle.std.specs.List.Sorted.{IsNonDecreasingBy, IsPermutation};
@@ -13,11 +13,11 @@ use crate::bytes::{push_number, push_u16s};
 use std::alloc::{AllocError, Global};
 use std::marker::Model;
 
-/// The most bits that a word has.
+/// The most bits of a code word.
 const LONGEST: u8 = 32;
 
-/// What a table begins with, in two bytes: any number but 0, which says that there are no symbols
-/// and that no lengths are counted.
+/// The first two bytes of a table with symbols: any number but 0. A 0 means that there are no symbols and
+/// no counts of lengths.
 const FILLED: u32 = 1;
 
 /// The code word of a symbol: the last `len` bits of a number.
@@ -28,11 +28,11 @@ pub(crate) struct Word {
     pub(crate) value: u32,
 }
 
-/// Symbols with their code words, none of which begins another one. A clause sees the symbols in
+/// Symbols with their code words, none of which is a prefix of another one. A clause sees the symbols in
 /// the order of their words, each with the length of its word in bits.
 #[derive(Debug, Drop)]
 pub struct Encoder {
-    /// How many words there are of each length, from 1 on.
+    /// The number of words of each length, from length 1 on.
     counts: Vec<u16>,
     words: Vec<Word>,
     /// The same words in the order of their symbols.
@@ -63,9 +63,9 @@ impl Model for Encoder {
 }
 
 impl Encoder {
-    /// The symbols, with as many code words of each length, from 1 on, as are counted; `None`
-    /// where these aren't those of a table: where there isn't a word for each symbol, a word has
-    /// no bits, or there are more words than fit.
+    /// The symbols with code words of the counted lengths; `counts` has the number of words of each length,
+    /// from length 1 on. The result is `None` where the counts and symbols don't form a table: the number
+    /// of words isn't the number of symbols, a word has no bits, or there are more words than fit.
     pub fn new(
         alloc: Global,
         counts: Vec<u16>,
@@ -90,7 +90,7 @@ impl Encoder {
         }))
     }
 
-    /// Whether no symbol is above this number.
+    /// Whether all symbols are at most this number.
     pub fn fits(&self, most: u32) -> bool
         ensures { IsTrue result ↔ All (λ p. p.symbol ≤ most) self.now }
     {
@@ -102,7 +102,7 @@ impl Encoder {
         true
     }
 
-    /// Writes the table, as it stands in a bundle, with symbols of `width` bytes each.
+    /// Writes the table in its form in a bundle, with symbols of `width` bytes each.
     pub fn write(&self, out: &mut Vec<u8>, width: u8) -> Result<(), AllocError>
         requires width { (1 ≤ width) × (width ≤ 4) }
         requires symbols { All (λ p. p.symbol < 2 ^ (8 * width)) self.now }
@@ -115,8 +115,8 @@ impl Encoder {
         push_symbols(out, &self.words, width)
     }
 
-    /// The fewest bytes whose bits begin with the code words of these symbols, in order; `None` where
-    /// one of them has no word.
+    /// The fewest bytes whose bits begin with the code words of these symbols, in order; `None` where a
+    /// symbol has no word.
     pub fn spell(&self, alloc: Global, symbols: &[u32]) -> Result<Option<Vec<u8>>, AllocError>
         ensures { IfOk result (λ o. MatchOption o (Any (IsNoSymbol self.now) symbols.now)
             (λ bytes. BeginWithWordsOf self.now symbols.now (bits bytes.items)
@@ -159,7 +159,7 @@ fn sorted_words(alloc: Global, words: &[Word]) -> Result<Vec<Word>, AllocError>
     Ok(sorted)
 }
 
-/// The lengths of code words, in order. `counts` has how many there are of each length, from 1 on.
+/// The lengths of code words, in order. `counts` has the number of words of each length, from length 1 on.
 fn word_lengths(alloc: Global, counts: &[u16]) -> Result<Vec<u8>, AllocError>
     requires { length counts.now ≤ 32 }
     ensures { IfOk result (λ lens. lens.items ≡ lengths_from 1 counts.now) }
@@ -181,8 +181,8 @@ fn push_copies(numbers: &mut Vec<u8>, number: u8, count: u16) -> Result<(), Allo
     Ok(())
 }
 
-/// The symbols with code words of these lengths. `None` where the lengths don't rise from 1 to 32, or
-/// leave no room for a word.
+/// The symbols with code words of these lengths; `None` where the lengths aren't in ascending order from 1
+/// to 32, or leave no space for a word.
 fn make_words(alloc: Global, lens: &[u8], symbols: &[u32]) -> Result<Option<Vec<Word>>, AllocError>
     requires { length symbols.now ≡ length lens.now }
     ensures { IfOk result (λ o. MatchOption o (AreWordLengths lens.now → ⊥)
@@ -219,7 +219,8 @@ fn push_symbols(out: &mut Vec<u8>, words: &[Word], width: u8) -> Result<(), Allo
 }
 
 /// The value of the next code word, of `len` bits. The words before it have at most `last` bits, and `next`
-/// is the first number of `last` bits that none of them begins. `None` where no word is left.
+/// is the first number of `last` bits that has none of them as a prefix. The result is `None` where no word
+/// is left.
 fn value_after(last: u8, next: u64, len: u8) -> Option<u32>
     requires last { last ≤ 32 }
     requires next { next ≤ 2 ^ last }

@@ -1,4 +1,4 @@
-//! The table that comes next in bytes.
+//! Reading of prefix tables from bytes.
 
 ghost use Rattle.std.specs.Prelude.{IfOk};
 ghost use Rattle.cmap_binary.specs.Fronts.{FieldAt, RowOf, Then};
@@ -14,7 +14,8 @@ use crate::bits::Reader;
 use crate::pieces::{take_byte, take_field, take_u16};
 use std::alloc::{AllocError, Global};
 
-/// The table that comes next, with symbols of `width` bytes. The reader stays where none does.
+/// Reads the table that comes next, with symbols of `width` bytes. If no valid table comes next,
+/// the reader doesn't move.
 pub(super) fn parse(
     alloc: Global,
     reader: &mut Reader<'_>,
@@ -55,7 +56,7 @@ fn take_table(alloc: Global, text: &mut &[u8], width: u8) -> Result<Option<Prefi
     }))
 }
 
-/// How many words there are of each length.
+/// The number of words of each length.
 fn take_length_counts(alloc: Global, text: &mut &[u8]) -> Result<Option<Vec<u32>>, AllocError>
     ensures { IfOk result
         (Finds (Then (MostAt text.old.now) (RowOf (FieldAt 2))) (λ counts. (counts.items, text.new.now))) }
@@ -66,7 +67,7 @@ fn take_length_counts(alloc: Global, text: &mut &[u8]) -> Result<Option<Vec<u32>
     take_fields(alloc, text, most, 2)
 }
 
-/// How many lengths are counted: none where the table has no symbols.
+/// The number of lengths that are counted: none if the table has no symbols.
 fn take_most(text: &mut &[u8]) -> Option<usize>
     ensures { Finds (MostAt text.old.now) (λ most. (most, text.new.now)) result }
 {

@@ -1,4 +1,4 @@
-//! The words of a table, by how many there are of each length.
+//! The words of a table, found by the number of words of each length.
 
 ghost use Rattle.std.specs.Prelude.{◌≡◌, ◌⊎◌, ◌++◌, ◌<◌, ◌≤◌, ℕ, List, [], None, length, IfErr, IfNone, IfOk, IfSome, MatchOption};
 ghost use Rattle.cmap_binary.specs.BitQueues.{IsFilled, bits_ahead};
@@ -12,18 +12,19 @@ use std::alloc::{AllocError, Global};
 /// The most bits that a word has.
 const LONGEST: usize = 32;
 
-/// How many bytes there are.
+/// The number of values of a byte.
 const BYTES: usize = 256;
 
-/// A symbol whose word begins bits, and how many bits that word has.
+/// The symbol of the word that bits begin with, and the number of bits in that word.
 #[derive(Clone, Copy)]
 pub(super) struct Word {
     pub(super) symbol: u32,
     pub(super) len: u32,
 }
 
-/// How far the word that begins bits has been looked for: it has more than `len` bits. `rank` words
-/// have no more, and `past` is how far the first `len` bits, as a number, are past these words.
+/// The state of a search for the word that bits begin with. The word has more than `len` bits. `rank`
+/// is the number of words with at most `len` bits. `past` is the number in the first `len` bits,
+/// counted from the first number after these words.
 #[derive(Clone, Copy)]
 pub(super) struct Search {
     len: u32,
@@ -31,27 +32,27 @@ pub(super) struct Search {
     past: usize,
 }
 
-/// What is known of the word that comes next, by each byte.
+/// The results of the search for the next word, for each value of the next byte.
 #[derive(Drop)]
 pub(super) struct Known {
-    /// The word that begins the byte, or `LONGER`.
+    /// The word that the byte begins with, or `LONGER`.
     words: Vec<Word>,
-    /// How far the word has been looked for.
+    /// The state of the search for the word.
     searches: Vec<Search>,
 }
 
-/// Stands for a byte that no word of up to eight bits begins.
+/// Stands for the word of a byte that begins with no word of up to eight bits.
 const LONGER: Word = Word { symbol: 0, len: 0 };
 
-/// No bit has been looked at.
+/// The start of a search: no bit has been looked at.
 const START: Search = Search {
     len: 0,
     rank: 0,
     past: 0,
 };
 
-/// The word that comes next, which is at hand; `None` where none does. The two lists come as they are
-/// held, and aren't read for a word that is known.
+/// The next word, whose bits are all held in the queue; `None` if the bits begin with no word. The
+/// two lists are passed as `Vec`s, and aren't read for a word that is known.
 #[inline(always)]
 pub(super) fn next_word(
     counts: &Vec<u32>,
@@ -72,7 +73,7 @@ pub(super) fn next_word(
     find_ahead(counts, symbols, known, bits)
 }
 
-/// The word that comes next, if it is known by the next eight bits, or else `LONGER`.
+/// The next word if it is known by the next eight bits, or else `LONGER`.
 #[inline(always)]
 pub(super) fn look_up(known: &Known, bits: &BitQueue<'_>) -> Word
     requires { length known.now.words.items ≡ 256 }
@@ -85,7 +86,7 @@ pub(super) fn look_up(known: &Known, bits: &BitQueue<'_>) -> Word
     }
 }
 
-/// The word that comes next, as `next_word` has it, if it isn't known.
+/// The answer of `next_word` for a word that isn't known.
 #[inline(always)]
 pub(super) fn find_ahead(
     counts: &Vec<u32>,
@@ -100,13 +101,14 @@ pub(super) fn find_ahead(
     ensures at_hand { IfSome result (λ word. word.len ≤ bits.now.held) }
 {
     let (number, held) = bits.at_hand();
-    // Taken apart, so that a word that is known needn't go through memory.
+    // The answer is taken apart, so that a word that is known needn't go through memory.
     let word = find_from(counts, symbols, known, number, held)?;
     Some(word)
 }
 
-/// The word that begins the last `held` bits of a number, looked for from where it is known; `None`
-/// where none does, if these are as many as the longest word has or no bit comes after them.
+/// The word that the last `held` bits of a number begin with, searched from the state that is known.
+/// `None` means that the bits begin with no word, if at least as many bits are held as the longest
+/// word has, or if no bit comes after them.
 #[inline(never)]
 fn find_from(
     counts: &Vec<u32>,
@@ -131,9 +133,9 @@ fn find_from(
     find(counts, symbols, number, held, start).ok()
 }
 
-/// The word that begins the last `held` bits of a number, looked for from there on; or how far it has
-/// been looked for, where none does. Words of one length are numbers in a row, and after the last one
-/// comes twice its follower among the longer words.
+/// The word that the last `held` bits of a number begin with, searched from `start`; or the state of
+/// the search, if no word is found. The words of one length are numbers in a row; after the last
+/// word, the words of the next length begin at twice the number that follows it.
 fn find(
     counts: &[u32],
     symbols: &[u32],
@@ -175,7 +177,7 @@ fn find(
     })
 }
 
-/// What is known of the word that comes next by each byte.
+/// Searches for the next word, for each value of the next byte.
 pub(super) fn search_bytes(
     alloc: Global,
     counts: &[u32],
@@ -194,7 +196,7 @@ pub(super) fn search_bytes(
     Ok(Known { words, searches })
 }
 
-/// The word that begins the byte, or `LONGER`, and how far it has been looked for.
+/// The word that the byte begins with, or `LONGER`, and the state of the search for the word.
 fn search_byte(counts: &[u32], symbols: &[u32], byte: u8) -> (Word, Search)
     requires { IsTable counts.now symbols.now }
     ensures word { IsKnown counts.now symbols.now byte result.0 }
@@ -206,8 +208,8 @@ fn search_byte(counts: &[u32], symbols: &[u32], byte: u8) -> (Word, Search)
     }
 }
 
-/// How many words there are, where none is longer than `LONGEST`, and there is room for each: a word
-/// of one bit takes half of it.
+/// The number of words; `None` if a word is longer than `LONGEST` bits, or if there isn't enough
+/// space for all words: a word of one bit takes half of the space.
 pub(super) fn count_words(counts: &[u32]) -> Option<usize>
     ensures { let lens = lengths_from 1 counts.now in MatchOption result (AreWordLengths lens → ⊥)
         (λ total. (total ≡ length lens) × AreWordLengths lens) }

@@ -12,7 +12,7 @@ use cmap_values::code_length::CodeLength;
 use cmap_values::range::Range;
 use std::alloc::{AllocError, Global};
 
-/// Codes in a row, at each of which two maps give another CID.
+/// Consecutive codes, at each of which two maps give different CIDs.
 #[derive(Clone, Copy, Debug)]
 pub struct CidDifference {
     /// The codes.
@@ -23,9 +23,9 @@ pub struct CidDifference {
     pub right: Cids,
 }
 
-/// All codes of this length at which two maps differ in their CID, in order, and each stretch as
-/// long as its CIDs go on in both maps. Larger codes than this length has are among them, if a file
-/// declares some.
+/// All codes of this length at which the CIDs of two maps differ, in order. Each stretch is as long
+/// as its CIDs go on in both maps. The codes may be larger than this length allows, if a file
+/// declares such codes.
 ///
 /// It fails only if memory runs out.
 pub fn cid_differences(
@@ -56,7 +56,7 @@ pub fn cid_differences(
     Ok(differences)
 }
 
-/// Adds a difference at the end; if it and the last one are one, as that.
+/// Adds a difference at the end, joined with the last one if the two could be one.
 fn add(differences: &mut Vec<CidDifference>, next: CidDifference) -> Result<(), AllocError>
     requires filled { All (λ difference. difference.range.start ≤ difference.range.end)
         differences.old.items }
@@ -79,7 +79,7 @@ fn add(differences: &mut Vec<CidDifference>, next: CidDifference) -> Result<(), 
     Ok(())
 }
 
-/// Two differences as one, if they are one.
+/// Two differences as one, if they could be one.
 fn as_one(last: CidDifference, next: CidDifference) -> Option<CidDifference>
     requires filled { last.range.start ≤ last.range.end }
     requires filled_too { next.range.start ≤ next.range.end }

@@ -1,5 +1,5 @@
-//! CIDs of codes in a row beside those of another map: up to which code they differ at each, or at
-//! none.
+//! The comparison of the CIDs of two maps for consecutive codes: up to which code the CIDs differ,
+//! or are equal, at each code.
 
 ghost use Rattle.std.specs.Prelude.{◌≡◌, ◌≢◌, ◌+◌, ◌≤◌, ℕ, Some};
 ghost use Rattle.cmap_layers.specs.CodeStretches.{cid_after};
@@ -8,15 +8,15 @@ ghost use Rattle.cmap_edit.specs.Differences.{DiffersIf};
 use cmap_layers::stretches::Cids;
 use cmap_values::names::Cid;
 
-/// Whether codes in a row differ, at each of them or at none, and how many further codes after the
-/// first these are.
+/// Whether consecutive codes differ, all of them or none, and how many further codes follow the
+/// first.
 #[derive(Clone, Copy)]
 pub(crate) struct Comparison {
     pub(crate) differs: bool,
     pub(crate) more: u32,
 }
 
-/// How the CIDs of two maps compare from a first code on, for up to `most` further codes.
+/// Compares the CIDs of two maps from a first code on, for up to `most` further codes.
 pub(crate) fn compared(left: Cids, right: Cids, most: u32) -> Comparison
     ensures within { result.more ≤ most }
     ensures answers { (k : ℕ) → k ≤ result.more
@@ -32,7 +32,7 @@ pub(crate) fn compared(left: Cids, right: Cids, most: u32) -> Comparison
     }
 }
 
-/// How one CID compares with those that count on from another.
+/// Compares one CID with the CIDs that count on from another.
 fn until_met(same: Cid, begin: Cid, most: u32) -> Comparison
     ensures within { result.more ≤ most }
     ensures answers { (k : ℕ) → k ≤ result.more → DiffersIf result.differs same (begin + k) }

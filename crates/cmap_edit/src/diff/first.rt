@@ -8,8 +8,8 @@ use crate::diff::parts::{CODE_COUNT, cid_part};
 use cmap_layers::layers::Layers;
 use cmap_values::code_length::CodeLength;
 
-/// The first code of this length at which two maps differ in their CID; `None` if they agree at all
-/// codes of 32 bits. It takes no memory.
+/// The first code of this length at which the CIDs of two maps differ; `None` if they are equal at
+/// all codes of 32 bits. The function allocates no memory.
 pub fn first_cid_difference(left: &Layers, right: &Layers, len: CodeLength) -> Option<u32>
     ensures { IsFirstDifference (cids_of left.now (length_of len))
         (cids_of right.now (length_of len)) result }

@@ -1,4 +1,4 @@
-//! Codes in a row at which two maps differ, at each of them or at none.
+//! Consecutive codes at which two maps differ, at each code or at none.
 
 ghost use Rattle.std.specs.Prelude.{◌≡◌, ◌+◌, ◌-◌, ◌≤◌, ℕ};
 ghost use Rattle.cmap_values.specs.CodeLengths.{length_of};
@@ -9,10 +9,10 @@ use cmap_layers::layers::Layers;
 use cmap_layers::stretches::Cids;
 use cmap_values::code_length::CodeLength;
 
-/// How many codes have 32 bits.
+/// The number of codes of 32 bits.
 pub(crate) const CODE_COUNT: u64 = 1 << 32;
 
-/// Codes in a row, with their CIDs in both maps, which differ at each code or at none.
+/// Consecutive codes, with their CIDs in both maps, which differ at each code or at none.
 #[derive(Clone, Copy)]
 pub(crate) struct CidPart {
     pub(crate) left: Cids,

@@ -1,4 +1,4 @@
-//! Codes in a row at which two maps differ in their texts, at each of them or at none.
+//! Consecutive codes at which two maps differ in their texts, at each code or at none.
 
 ghost use Rattle.std.specs.Prelude.{◌≡◌, ◌↔◌, ◌+◌, ◌-◌, ◌^◌, ◌<◌, ◌≤◌, ℕ, IfOk, IfSome, IsTrue, is_some, option_and_then};
 ghost use Rattle.cmap_tokens.specs.Texts.{text_at};
@@ -12,8 +12,8 @@ use cmap_tokens::utf16::text;
 use cmap_values::declarations::BfRange;
 use std::alloc::{AllocError, Global};
 
-/// Codes in a row, with the declarations that decide their texts in both maps, which differ at each
-/// code or at none.
+/// Consecutive codes, with the declarations that decide their texts in both maps. The texts differ
+/// at each code or at none.
 #[derive(Clone, Copy)]
 pub(crate) struct TextPart<'l> {
     pub(crate) left: Option<&'l BfRange>,
@@ -51,7 +51,8 @@ pub(crate) fn text_part<'l>(
     })
 }
 
-/// The units of a declaration, and the offset of a code from its start; without one no units.
+/// The units of a declaration, and the offset of a code from its start; no units without a
+/// declaration.
 fn spelling(declaration: Option<&BfRange>, first: u32) -> (&[u16], u32)
     requires { IfSome declaration (λ declaration. declaration.now.range.start ≤ first) }
     ensures { (code : ℕ) → first ≤ code
@@ -67,8 +68,9 @@ fn spelling(declaration: Option<&BfRange>, first: u32) -> (&[u16], u32)
     }
 }
 
-/// How the texts of units compare, from an offset of each on. If their units are the same, so are
-/// their texts at each further offset; else they are the same while there is none.
+/// Compares the texts of two sequences of units, each from an offset on. If the units with their
+/// offsets are equal, the texts are equal at each further offset; otherwise the texts are equal
+/// only while there are none.
 fn compared_units(
     alloc: Global,
     left: &[u16],
@@ -94,7 +96,7 @@ fn compared_units(
     })
 }
 
-/// Whether units with an offset added to the last one are others with theirs.
+/// Whether two sequences of units are equal when each offset is added to the last unit of its side.
 fn are_alike(left: &[u16], offset: u32, right: &[u16], other_offset: u32) -> bool
     ensures { IsTrue result ↔ AreAlike left.now offset right.now other_offset }
 {
@@ -116,8 +118,9 @@ fn is_there(alloc: Global, units: &[u16], offset: u32) -> Result<bool, AllocErro
     Ok(text.is_some())
 }
 
-/// How many further offsets have a text if this one has one, and none if it has none: as far as the
-/// row of 1,024 units goes, by which surrogates lie.
+/// The number of further offsets that have a text if this offset has one, and no text if it has
+/// none. The number reaches to the end of the row of 1,024 units, since surrogates lie in such
+/// rows.
 fn further_in_row(units: &[u16], offset: u32) -> u32
     ensures { (k : ℕ) → k ≤ result
         → is_some (text_at units.now (offset + k)) ≡ is_some (text_at units.now offset) }

@@ -12,7 +12,7 @@ use cmap_values::declarations::BfRange;
 use cmap_values::range::Range;
 use std::alloc::{AllocError, Global};
 
-/// Codes in a row, at each of which two maps give another text, or only one gives a text.
+/// Consecutive codes, at each of which two maps give different texts, or only one map gives a text.
 #[derive(Clone, Copy, Debug)]
 pub struct TextDifference<'l> {
     /// The codes.
@@ -23,9 +23,9 @@ pub struct TextDifference<'l> {
     pub right: Option<&'l BfRange>,
 }
 
-/// All codes at which two maps differ in their text, in order, and each stretch as long as the same
-/// declarations decide. They are the numbers of codes: a text doesn't depend on how many bytes its
-/// code has.
+/// All codes at which the texts of two maps differ, in order. Each stretch is as long as the same
+/// declarations decide. A code is its number here: its text doesn't depend on how many bytes it
+/// has.
 ///
 /// It fails only if memory runs out.
 pub fn text_differences<'l>(
@@ -55,7 +55,7 @@ pub fn text_differences<'l>(
     Ok(differences)
 }
 
-/// Adds a difference at the end; if it and the last one are one, as that.
+/// Adds a difference at the end, joined with the last one if the two could be one.
 fn add<'l>(
     differences: &mut Vec<TextDifference<'l>>,
     next: TextDifference<'l>,
@@ -84,7 +84,7 @@ fn add<'l>(
     Ok(())
 }
 
-/// Whether two differences are one.
+/// Whether two differences could be one.
 fn are_one(last: TextDifference<'_>, next: TextDifference<'_>) -> bool
     ensures { IsTrue result ↔ CouldBeOneOfTexts last.entry next.entry }
 {
@@ -94,7 +94,7 @@ fn are_one(last: TextDifference<'_>, next: TextDifference<'_>) -> bool
         && is_same(last.right, next.right)
 }
 
-/// Whether two declarations are the same, or none is there.
+/// Whether two declarations are the same, or both are absent.
 fn is_same(left: Option<&BfRange>, right: Option<&BfRange>) -> bool
     ensures { IsTrue result ↔ (declared left.entry ≡ declared right.entry) }
 {
@@ -105,7 +105,7 @@ fn is_same(left: Option<&BfRange>, right: Option<&BfRange>) -> bool
     }
 }
 
-/// Whether two declarations are for the same codes, and of the same units.
+/// Whether two declarations have the same codes and the same units.
 fn is_same_range(left: &BfRange, right: &BfRange) -> bool
     ensures { IsTrue result ↔ (bf_entry_seen left.now ≡ bf_entry_seen right.now) }
 {

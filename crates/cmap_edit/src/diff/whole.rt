@@ -1,4 +1,4 @@
-//! CIDs of codes in a row, and of those that follow them, as CIDs of all of these codes.
+//! The CIDs of two adjacent ranges of codes as one stretch of CIDs.
 
 ghost use Rattle.std.specs.Prelude.{◌≡◌, ◌↔◌, ◌+◌, ◌-◌, ◌<◌, ◌≤◌, ℕ, IsTrue, MatchOption, Option, Some};
 ghost use Rattle.cmap_layers.specs.CodeStretches.{cid_after};
@@ -10,8 +10,8 @@ use cmap_layers::stretches::Cids;
 use cmap_values::names::Cid;
 use cmap_values::range::Range;
 
-/// The CIDs of the codes of two ranges, of which the second begins just after the first, if they
-/// are CIDs of codes in a row.
+/// The CIDs of the codes of two ranges as one stretch, if one stretch has them. The second range
+/// begins just after the first.
 pub(crate) fn whole(front: Cids, first: Range, back: Cids, then: Range) -> Option<Cids>
     requires filled { first.start ≤ first.end }
     requires filled_too { then.start ≤ then.end }
@@ -33,7 +33,7 @@ pub(crate) fn whole(front: Cids, first: Range, back: Cids, then: Range) -> Optio
         && count_from(back, back_more, next)).then_some(Cids::CountOn(begin))
 }
 
-/// Whether the first code and `more` further ones have this CID, or none has one.
+/// Whether the first code and `more` further codes all have this answer, a CID or none.
 fn are_all(cids: Cids, more: u32, cid: Option<Cid>) -> bool
     ensures { IsTrue result ↔ ((k : ℕ) → k ≤ more → cid_after cids k ≡ cid) }
 {
@@ -43,7 +43,7 @@ fn are_all(cids: Cids, more: u32, cid: Option<Cid>) -> bool
     }
 }
 
-/// Whether the first code and `more` further ones have the CIDs that count on from this one.
+/// Whether the first code and `more` further codes have the CIDs that count on from this one.
 fn count_from(cids: Cids, more: u32, cid: u64) -> bool
     ensures { IsTrue result ↔ ((k : ℕ) → k ≤ more → cid_after cids k ≡ Some (cid + k)) }
 {

@@ -1,4 +1,4 @@
-//! The codes for which no file has all answers of a map.
+//! The codes for which no file has all answers of a map of layers.
 
 ghost use Rattle.std.specs.Prelude.{◌≡◌, ◌≢◌, ℕ, ◌+◌, ◌-◌, ◌<◌, ◌≤◌, ◌^◌, IfOk, IsSome, MatchOption};
 ghost use Rattle.cmap_runs.specs.Ranges.{last_of};
@@ -21,14 +21,14 @@ use cmap_values::names::Cid;
 use cmap_values::range::Range;
 use std::alloc::{AllocError, Global};
 
-/// A code whose CID no tidy file can give beside its text and the CID that is declared for it. In the layers
-/// a text of one character stands above a declaration of a CID, a text of several characters above one of
-/// one character, or a CID that is declared passes 32 bits.
+/// A code whose CID no tidy file can give together with its text and its declared CID. In the layers a text
+/// of one character stands above a declaration of a CID, a text of several characters above a text of one
+/// character, or a declared CID passes 32 bits.
 #[derive(Clone, Copy, Debug, PartialEq, Eq)]
 pub struct Contradiction {
-    /// How many bytes the code has.
+    /// The number of bytes of the code.
     pub len: CodeLength,
-    /// Its number.
+    /// The number of the code.
     pub code: u32,
 }
 
@@ -177,8 +177,8 @@ fn first_difference(one: Cids, other: Cids, first: u32, last: u32) -> Option<u32
     }
 }
 
-/// The first of the codes from `first` to `last` that doesn't have the one CID, where the CIDs count on
-/// from the other.
+/// The first of the codes from `first` to `last` whose CID isn't `same`, where the CIDs count on from
+/// `begin`.
 fn first_apart(same: Cid, begin: Cid, first: u32, last: u32) -> Option<u32>
     requires { first ≤ last }
     ensures { MatchOption result

@@ -54,7 +54,8 @@ impl Declared {
         Ok(())
     }
 
-    /// Adds codes with these CIDs, after all others: those that count on as CIDs, and one for all as a notdef.
+    /// Adds codes with these CIDs after all others: as CIDs if they count on, and as a notdef if all codes
+    /// have the same CID.
     fn add(&mut self, cids: Cids, range: Range) -> Result<(), AllocError>
         requires room { IsRoom (entries_seen self.now.cids.items)
             (entries_seen self.now.notdefs.items) range.start }
@@ -72,8 +73,8 @@ impl Declared {
     }
 }
 
-/// The declarations for the chosen codes of this length: they give to each what the layers declare, a CID
-/// or a notdef.
+/// The declarations for the chosen codes of this length: each code gets the CID or the notdef that the layers
+/// declare.
 pub(crate) fn declared_of(
     alloc: Global,
     layers: &Layers,

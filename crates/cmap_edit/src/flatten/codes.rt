@@ -1,4 +1,4 @@
-//! The codes that are chosen.
+//! The chosen codes.
 
 ghost use Rattle.std.specs.Prelude.{◌↔◌, ℕ, ◌<◌, ◌^◌, IfOk, IsSome};
 ghost use Rattle.cmap_runs.specs.Ranges.{last_of};
@@ -10,12 +10,13 @@ use cmap_values::code_length::CodeLength;
 use cmap_values::range::{HasRange, Range};
 use std::alloc::{AllocError, Global};
 
-/// Codes of one length, from a first to a last one.
+/// Codes of one length, from a first code to a last one.
 #[derive(Clone, Copy, Debug)]
 pub struct Codes {
-    /// How many bytes they have.
+    /// The number of bytes of each code.
     pub len: CodeLength,
-    /// The codes as numbers, the first byte high; none where the range is empty.
+    /// The codes as numbers, with the first byte as the high byte; no codes where the range is
+    /// empty.
     pub range: Range,
 }
 

@@ -14,8 +14,8 @@ use cmap_values::code_length::CodeLength;
 use cmap_values::declarations::{ByLength, Codespace, Lists};
 use std::alloc::{AllocError, Global};
 
-/// The declarations of one file: for the chosen codes those of all layers as one, and all codespace
-/// ranges.
+/// The declarations of one file: the declarations of all layers for the chosen codes as one, and
+/// all codespace ranges.
 pub(crate) fn lists_of(alloc: Global, layers: &Layers, codes: &[Codes]) -> Result<Lists, AllocError>
     ensures { IfOk result (λ lists. AreLists layers.now codes.now (lists_seen lists)) }
 {
@@ -45,7 +45,7 @@ pub(crate) fn lists_of(alloc: Global, layers: &Layers, codes: &[Codes]) -> Resul
     })
 }
 
-/// The codespace ranges of all layers, each once, those with the fewest bytes first.
+/// The codespace ranges of all layers, each once, in ascending order of their number of bytes.
 fn spaces_of(alloc: Global, layers: &Layers) -> Result<Vec<Codespace>, AllocError>
     ensures { IfOk result (λ spaces. AreEachOnce (ranges_of layers.now) (map codespace_seen spaces.items)) }
 {
@@ -55,7 +55,7 @@ fn spaces_of(alloc: Global, layers: &Layers) -> Result<Vec<Codespace>, AllocErro
     Ok(spaces)
 }
 
-/// By what codespace ranges are put in order.
+/// The key by which codespace ranges are sorted.
 fn order_of(space: &Codespace) -> (u8, u32, u32)
     ensures { result ≡ (length_of space.now.len, space.now.low, space.now.high) }
 {

@@ -15,15 +15,16 @@ use cmap_values::fault::Fault;
 use cmap_values::file::File;
 use std::alloc::{AllocError, Global};
 
-/// One file with the answers of a map: the CID and the text of each code, and how strings are cut into
-/// codes. What the map says of itself is what the top layer says. Adobe Technical Note 5014.
+/// One file with the answers of a map: the CID and the text of each code, and the way in which strings are
+/// cut into codes. The metadata is the metadata of the top layer. Adobe Technical Note 5014.
 ///
-/// Lists of declarations are tidy: they ascend, each declaration has codes of one row of 256, and no two
-/// could be one. So a declaration of many codes is written as many, up to 2^24 of them.
+/// The lists of declarations are tidy: they ascend, each declaration has codes of one row of 256, and no
+/// two declarations could be one. So one declaration of many codes may become many declarations, up to
+/// 2^24.
 ///
-/// It is refused with a code that has a contradiction, and only where no file has all answers: one file
-/// gives the character of a text as a CID only where it declares none. Else it fails only if memory runs
-/// out.
+/// The map is refused with a code that has a contradiction, and only where no file has all answers: one
+/// file gives the character of a text as a CID only where the file declares no CID. Otherwise the function
+/// fails only if memory runs out.
 pub fn flatten<'d>(alloc: Global, layers: &Layers) -> Result<File<'d>, Fault<Contradiction>>
     ensures file { Outcome (λ file. IsFlat layers.now (file_seen file)) (Contradicts layers.now) result }
     ensures none { IfErr result (RefusesWith (λ at. HoldsOfNone (IsFlat layers.now))) }
@@ -31,12 +32,13 @@ pub fn flatten<'d>(alloc: Global, layers: &Layers) -> Result<File<'d>, Fault<Con
     subset(alloc, layers, &all_codes())
 }
 
-/// One file with the answers of a map for the chosen codes, and with no others: a CID for a chosen code,
-/// by its length and its number, and a text for each number of a chosen code. Strings are cut into codes
-/// as by the map: all codespace ranges stay.
+/// One file with the answers of a map for the chosen codes, and with no others: a CID for each chosen code,
+/// by its length and its number, and a text for each number of a chosen code. Strings are cut into codes as
+/// the map cuts them, since all codespace ranges stay.
 ///
-/// The ranges come in any order, and may overlap. The file is as `flatten` has it, and it is refused with a
-/// chosen code that has a contradiction. Else it fails only if memory runs out.
+/// The ranges come in any order, and may overlap. The file has the form that `flatten` gives. The map is
+/// refused with a chosen code that has a contradiction. Otherwise the function fails only if memory runs
+/// out.
 pub fn subset<'d>(
     alloc: Global,
     layers: &Layers,

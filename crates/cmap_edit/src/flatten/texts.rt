@@ -14,7 +14,7 @@ use cmap_values::declarations::BfRange;
 use cmap_values::range::Range;
 use std::alloc::{AllocError, Global};
 
-/// The declarations for the numbers of the chosen codes: they give to each the text that the layers give.
+/// The declarations for the numbers of the chosen codes: each number gets the text that the layers give.
 pub(crate) fn texts_of(
     alloc: Global,
     layers: &Layers,
@@ -117,7 +117,7 @@ fn add_declared(
     }
 }
 
-/// Adds texts that count on from those of these units, up to where the last unit passes 16 bits.
+/// Adds the texts that count on from these units, up to the code at which the last unit passes 16 bits.
 fn add_units(
     alloc: Global,
     texts: &mut Vec<BfRange>,
@@ -138,8 +138,8 @@ fn add_units(
     push_texts(alloc, texts, Range { start, end }, units)
 }
 
-/// The units with the offset added to the last one; `None` where there is none, and where it passes 16
-/// bits.
+/// The units with the offset added to the last one; `None` without units, or where the last unit passes
+/// 16 bits.
 fn units_at(alloc: Global, units: &[u16], offset: u32) -> Result<Option<Vec<u16>>, AllocError>
     ensures { IfOk result (λ made. option_map (λ units. units.items) made ≡ shifted units.now offset) }
 {

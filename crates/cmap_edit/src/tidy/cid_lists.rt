@@ -15,7 +15,7 @@ use cmap_values::names::Cid;
 use cmap_values::range::Range;
 use std::alloc::{AllocError, Global};
 
-/// The tidy list that says the same; or, where a CID passes 32 bits, the list as it is.
+/// The tidy list with the same answers; or, where a CID passes 32 bits, a copy of the list.
 pub(crate) fn tidied_cids(alloc: Global, list: &[CidRange]) -> Result<Vec<CidRange>, AllocError>
     ensures { IfOk result (λ tidied. AreTidiedCids (entries_seen list.now) (entries_seen tidied.items)) }
 {
@@ -26,7 +26,7 @@ pub(crate) fn tidied_cids(alloc: Global, list: &[CidRange]) -> Result<Vec<CidRan
     }
 }
 
-/// The tidy list that says the same, run by run; `None` where a CID passes 32 bits.
+/// The tidy list with the same answers, run by run; `None` where a CID passes 32 bits.
 fn cids_by_runs(alloc: Global, table: &Table<CidRange>) -> Result<Option<Vec<CidRange>>, AllocError>
     ensures { IfOk result (λ tidied. MatchOption tidied (SaysNone (cid_said (entries_seen table.now)))
         (λ list. AreTidyCids (entries_seen list.items)
@@ -52,8 +52,8 @@ fn cids_by_runs(alloc: Global, table: &Table<CidRange>) -> Result<Option<Vec<Cid
     Ok(Some(list))
 }
 
-/// The CID of the first code of a range, which the declaration contains; `None` where that of the last one
-/// passes 32 bits.
+/// The CID of the first code of a range, which the declaration contains; `None` where the CID of the last
+/// code passes 32 bits.
 fn first_cid(declaration: &CidRange, range: &Range) -> Option<Cid>
     requires starts { declaration.now.range.start ≤ range.now.start }
     requires filled { range.now.start ≤ range.now.end }

@@ -14,18 +14,18 @@ use cmap_values::file::File;
 use cmap_values::memory::both;
 use std::alloc::{AllocError, Global};
 
-/// A file that says the same of each code, in the fewest declarations that don't overlap. Each is for codes
-/// that differ in their last byte alone (Adobe Technical Note 5014), and within each the last byte of a text
-/// doesn't pass 255 (Adobe Technical Note 5411; ISO 32000-1, 9.10.3).
+/// A file with the same answers for each code, in the fewest declarations that don't overlap. The codes of a
+/// declaration differ in their last byte alone (Adobe Technical Note 5014), and within a declaration the
+/// last byte of a text doesn't pass 255 (Adobe Technical Note 5411; ISO 32000-1, 9.10.3).
 ///
-/// A list stays as it is where it says of some code that it stands for nothing: its CID would pass 32 bits,
-/// its text has no units, or the last one would pass 16 bits. Metadata, codespace ranges and the names of
-/// files that are used stay.
+/// A list stays as it is where a declaration gives nothing to some code: the CID would pass 32 bits, the
+/// text has no units, or the last unit would pass 16 bits. Metadata, codespace ranges and the names of used
+/// files stay.
 ///
 /// A declaration for many codes becomes one for each row of 256 codes, so a list may grow to 2^24
 /// declarations.
 ///
-/// It fails only if memory runs out.
+/// The function fails only if memory runs out.
 pub fn tidy<'d>(alloc: Global, file: &File<'d>) -> Result<File<'d>, AllocError>
     ensures { IfOk result (λ tidied. IsTidied (file_seen file.now) (file_seen tidied)) }
 {
@@ -40,7 +40,7 @@ pub fn tidy<'d>(alloc: Global, file: &File<'d>) -> Result<File<'d>, AllocError>
     })
 }
 
-/// The lists anew. Codespace ranges stay.
+/// The lists, written anew. Codespace ranges stay.
 fn tidied_lists(alloc: Global, lists: &Lists) -> Result<Lists, AllocError>
     ensures { IfOk result (λ tidied. AreTidiedLists (lists_seen lists.now) (lists_seen tidied)) }
 {
@@ -57,7 +57,7 @@ fn tidied_lists(alloc: Global, lists: &Lists) -> Result<Lists, AllocError>
     })
 }
 
-/// The lists of CIDs for codes of each length, anew.
+/// The lists of CIDs for codes of each length, written anew.
 fn cids_anew(
     alloc: Global,
     lists: &ByLength<Vec<CidRange>>,
@@ -73,7 +73,7 @@ fn cids_anew(
     })
 }
 
-/// The lists of notdef declarations for codes of each length, anew.
+/// The lists of notdef declarations for codes of each length, written anew.
 fn notdefs_anew(
     alloc: Global,
     lists: &ByLength<Vec<CidRange>>,

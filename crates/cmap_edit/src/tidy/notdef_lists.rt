@@ -11,7 +11,7 @@ use cmap_values::declarations::CidRange;
 use cmap_values::range::Range;
 use std::alloc::{AllocError, Global};
 
-/// The tidy list that says the same.
+/// The tidy list with the same answers.
 pub(crate) fn tidied_notdefs(alloc: Global, list: &[CidRange]) -> Result<Vec<CidRange>, AllocError>
     ensures { IfOk result (λ tidied. AreTidiedNotdefs (entries_seen list.now) (entries_seen tidied.items)) }
 {
@@ -19,7 +19,7 @@ pub(crate) fn tidied_notdefs(alloc: Global, list: &[CidRange]) -> Result<Vec<Cid
     notdefs_by_runs(alloc, &table)
 }
 
-/// The tidy list that says the same, run by run.
+/// The tidy list with the same answers, run by run.
 fn notdefs_by_runs(alloc: Global, table: &Table<CidRange>) -> Result<Vec<CidRange>, AllocError>
     ensures { IfOk result (λ tidied. AreTidiedNotdefs (entries_seen table.now) (entries_seen tidied.items)) }
 {

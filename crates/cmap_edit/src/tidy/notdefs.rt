@@ -1,4 +1,4 @@
-//! CIDs of codes of characters that are not defined, put into tidy lists.
+//! Notdef CIDs of codes, added to tidy lists.
 
 ghost use Rattle.std.specs.Prelude.{◌≡◌, ◌↔◌, ℕ, ◌+◌, ◌-◌, ◌<◌, ◌≤◌, ◌^◌, All, IsTrue, OnErr, OnOk, Some};
 ghost use Rattle.cmap_values.specs.DeclarationsSeen.{cid_entry_seen, entries_seen};
@@ -11,12 +11,13 @@ use cmap_values::names::Cid;
 use cmap_values::range::Range;
 use std::alloc::AllocError;
 
-/// Adds codes that all have the CID to a tidy list all of whose codes come before them.
+/// Adds codes that all have the CID to a tidy list. All codes of the list come before the new codes.
 ///
-/// A declaration is added for each row of 256 codes, so for up to 2^24 rows. Where the first row goes on
-/// from the last declaration of the list, and has its CID, the two are one.
+/// The function adds a declaration for each row of 256 codes, for up to 2^24 rows. Where the first row
+/// goes on from the last declaration of the list and has the same CID, the two become one.
 ///
-/// It fails only if memory runs out. The list is tidy then, too, and may have the first of the codes.
+/// The function fails only if memory runs out. After a failure the list is still tidy, and may have the
+/// first of the codes.
 pub fn push_notdefs(list: &mut Vec<CidRange>, range: Range, cid: Cid) -> Result<(), AllocError>
     requires tidy { AreTidyNotdefs (entries_seen list.now.items) }
     requires after { All (λ e. e.end < range.start) (entries_seen list.now.items) }
@@ -43,7 +44,8 @@ pub fn push_notdefs(list: &mut Vec<CidRange>, range: Range, cid: Cid) -> Result<
     Ok(())
 }
 
-/// Adds a declaration for codes of a row. Where it goes on from the last one, the two are one.
+/// Adds a declaration for codes of a row. Where it goes on from the last declaration, the two become
+/// one.
 fn add_row(list: &mut Vec<CidRange>, row: CidRange) -> Result<(), AllocError>
     requires tidy { AreTidyNotdefs (entries_seen list.now.items) }
     requires after { All (λ e. e.end < row.range.start) (entries_seen list.now.items) }
@@ -61,7 +63,7 @@ fn add_row(list: &mut Vec<CidRange>, row: CidRange) -> Result<(), AllocError>
     Ok(())
 }
 
-/// Whether one declaration could say what two say, of which one comes later.
+/// Whether one declaration could replace two, the second of which comes later.
 fn could_be_one(entry: &CidRange, later: &CidRange) -> bool
     requires { entry.now.range.end < later.now.range.start }
     ensures { IsTrue result ↔ CouldBeOneNotdef (cid_entry_seen entry.now) (cid_entry_seen later.now) }

@@ -1,8 +1,8 @@
-//! Rows of codes: those of a row differ in their last byte alone.
+//! Rows of codes: the codes of a row differ in their last byte alone.
 
 ghost use Rattle.std.specs.Prelude.{◌≡◌, ◌/◌, ◌≤◌};
 
-/// The last code, up to `last`, of the row of `first`.
+/// The last code, at most `last`, in the row of `first`.
 pub(crate) fn row_end(first: u32, last: u32) -> u32
     requires { first ≤ last }
     ensures within { (first ≤ result) × (result ≤ last) }

@@ -15,8 +15,8 @@ use cmap_values::range::Range;
 use cmap_values::units::Units;
 use std::alloc::{AllocError, Global};
 
-/// The tidy list that says the same; or, where a text has no units or its last one passes 16 bits, the list
-/// as it is.
+/// The tidy list with the same answers; or, where a text has no units or its last unit passes 16 bits, a
+/// copy of the list.
 pub(crate) fn tidied_texts(alloc: Global, list: &[BfRange]) -> Result<Vec<BfRange>, AllocError>
     ensures { IfOk result (λ tidied. AreTidiedTexts (map bf_entry_seen list.now) (map bf_entry_seen tidied.items)) }
 {
@@ -27,8 +27,8 @@ pub(crate) fn tidied_texts(alloc: Global, list: &[BfRange]) -> Result<Vec<BfRang
     }
 }
 
-/// The tidy list that says the same, run by run; `None` where a text has no units or its last one passes
-/// 16 bits.
+/// The tidy list with the same answers, run by run; `None` where a text has no units or its last unit
+/// passes 16 bits.
 fn texts_by_runs(alloc: Global, table: &Table<BfRange>) -> Result<Option<Vec<BfRange>>, AllocError>
     ensures { IfOk result (λ tidied. MatchOption tidied (SaysNone (units_said (map bf_entry_seen table.now)))
         (λ list. AreTidyTexts (map bf_entry_seen list.items)
@@ -54,7 +54,7 @@ fn texts_by_runs(alloc: Global, table: &Table<BfRange>) -> Result<Option<Vec<BfR
     Ok(Some(list))
 }
 
-/// Adds codes with the text of these units, and the texts that count on from it, as `push_texts` does.
+/// Adds codes with texts that count on from these units, as `push_texts` does.
 fn push_units(
     alloc: Global,
     list: &mut Vec<BfRange>,
@@ -70,8 +70,8 @@ fn push_units(
     push_texts(alloc, list, range, units.as_slice())
 }
 
-/// The units of the first code of a range, which the declaration contains; `None` where it has none, or
-/// where the last unit of the last code passes 16 bits.
+/// The units of the first code of a range, which the declaration contains; `None` without units, or where
+/// the last unit of the last code passes 16 bits.
 fn first_units(
     alloc: Global,
     declaration: &BfRange,
@@ -90,7 +90,7 @@ fn first_units(
     Ok(Some(first))
 }
 
-/// Whether there are units, and the last one counts on by the offset within 16 bits.
+/// Whether there are units, and the last unit plus the offset fits in 16 bits.
 fn fits(units: &[u16], offset: u32) -> bool
     ensures { IsTrue result ↔ ((0 < length units.now) × (last_unit units.now + offset < 2 ^ 16)) }
 {

@@ -1,4 +1,4 @@
-//! Texts of codes, put into tidy lists.
+//! Texts of codes, added to tidy lists.
 
 ghost use Rattle.std.specs.Prelude.{◌≡◌, ◌↔◌, ℕ, ◌+◌, ◌-◌, ◌/◌, ◌<◌, ◌≤◌, ◌^◌, All, IfOk, IsTrue, OnErr, OnOk, Some, length, map};
 ghost use Rattle.cmap_tokens.specs.Texts.{shifted};
@@ -13,13 +13,14 @@ use cmap_values::range::Range;
 use cmap_values::units::Units;
 use std::alloc::{AllocError, Global};
 
-/// Adds codes to a tidy list all of whose codes come before them. The first code has the text of these
-/// units, and the last unit counts on from code to code.
+/// Adds codes to a tidy list. All codes of the list come before the new codes. The first code has the text
+/// of these units, and the last unit counts on from code to code.
 ///
-/// A declaration is added for each row of 256 codes, and of those for each row of 256 last units. Where the
-/// first one goes on from the last declaration of the list, the two are one.
+/// The function adds a declaration for each row of 256 codes, cut at each row of 256 last units. Where the
+/// first declaration goes on from the last declaration of the list, the two become one.
 ///
-/// It fails only if memory runs out. The list is tidy then, too, and may have the first of the codes.
+/// The function fails only if memory runs out. After a failure the list is still tidy, and may have the
+/// first of the codes.
 pub fn push_texts(
     alloc: Global,
     list: &mut Vec<BfRange>,
@@ -53,7 +54,7 @@ pub fn push_texts(
     Ok(())
 }
 
-/// Units whose last one counts on by the offset.
+/// The units with the offset added to the last one.
 pub(crate) fn counted_on(alloc: Global, units: &[u16], offset: u32) -> Result<Units, AllocError>
     requires some { 0 < length units.now }
     requires fits { last_unit units.now + offset < 2 ^ 16 }
@@ -69,8 +70,7 @@ pub(crate) fn counted_on(alloc: Global, units: &[u16], offset: u32) -> Result<Un
     Units::from_slice(alloc, copy.as_slice())
 }
 
-/// The last code, up to `last`, of the row of `first`, up to which the last unit counts on within the row of
-/// its last byte.
+/// The last code, at most `last`, in the row of `first` whose last unit stays in the same row of 256 units.
 fn text_row_end(first: u32, last: u32, units: &[u16]) -> u32
     requires within { first ≤ last }
     requires some { 0 < length units.now }
@@ -84,7 +84,7 @@ fn text_row_end(first: u32, last: u32, units: &[u16]) -> u32
     }
 }
 
-/// Adds a declaration for codes of a row. Where it goes on from the last one, the two are one.
+/// Adds a declaration for codes of a row. Where it goes on from the last declaration, the two become one.
 fn add_row(list: &mut Vec<BfRange>, row: BfRange) -> Result<(), AllocError>
     requires tidy { AreTidyTexts (map bf_entry_seen list.now.items) }
     requires after { All (λ e. e.end < row.range.start) (map bf_entry_seen list.now.items) }
@@ -102,7 +102,7 @@ fn add_row(list: &mut Vec<BfRange>, row: BfRange) -> Result<(), AllocError>
     Ok(())
 }
 
-/// Whether one declaration could say what two say, of which one comes later.
+/// Whether one declaration could replace two, the second of which comes later.
 fn could_be_one(entry: &BfRange, later: &BfRange) -> bool
     requires row { IsTextRow (bf_entry_seen entry.now) }
     requires after { entry.now.range.end < later.now.range.start }
@@ -117,8 +117,8 @@ fn could_be_one(entry: &BfRange, later: &BfRange) -> bool
         )
 }
 
-/// Whether the last unit counts on to that of the later ones by the offset, in its last byte alone, after
-/// the same units.
+/// Whether the last of the later units is the last unit plus the offset, with a change in the last byte
+/// alone, after the same units.
 fn count_on(units: &[u16], offset: u32, later: &[u16]) -> bool
     ensures { IsTrue result ↔ ((shifted units.now offset ≡ Some later.now)
         × (last_unit units.now / 256 ≡ last_unit later.now / 256)) }

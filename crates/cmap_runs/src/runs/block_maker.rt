@@ -1,11 +1,11 @@
-//! Blocks that are made while runs come in the order of their codes.
+//! The making of blocks from runs, which come in the order of their codes.
 
 ghost use Rattle.std.specs.Prelude.{◌+◌, ◌*◌, ◌<◌, ◌≤◌, vec_capacity, vec_len};
 
 use super::blocks::{BLOCK_LEN, Block, NO_RUN, bit_of};
 use std::alloc::{AllocError, Global};
 
-/// The blocks of the runs so far, and the one after them, which is open.
+/// The blocks of the runs so far, and the open block after them.
 #[derive(Drop)]
 pub(super) struct BlockMaker {
     pub(super) list: Vec<Block>,
@@ -13,10 +13,10 @@ pub(super) struct BlockMaker {
     most: usize,
     /// How many runs begin before the open block.
     pub(super) begun: usize,
-    /// A bit for each code of the open block at which a run begins, that of the first code high.
+    /// A bit for each code of the open block at which a run begins. The first code has the high bit.
     pub(super) starts: u32,
-    /// The code after those of the open block. Where no more blocks may be made it is one above all codes,
-    /// from the first `end_before` on.
+    /// The code after the last code of the open block. If no more blocks may be made, the first
+    /// `end_before` sets it above all codes.
     pub(super) end: u64,
     ghost ends: { vec_len list < most → end ≤ 32 * vec_len list + 32 },
     ghost room: { (most ≤ 2048) × (vec_len list ≤ most) × (most ≤ vec_capacity list) × (begun ≤ 65536) },
@@ -29,7 +29,7 @@ impl BlockMaker {
     ghost use Rattle.cmap_runs.specs.Order.{IsInOrder};
     ghost use Rattle.cmap_runs.specs.Ranges.{Run};
 
-    /// No blocks so far, and room for this many.
+    /// A maker without blocks, with capacity for this many.
     pub(super) fn with_room(alloc: Global, most: usize) -> Result<BlockMaker, AllocError>
         requires { most ≤ 2048 }
         ensures made { IfOk result (λ maker. (runs : List Run) → AreMadeBy runs 0 maker) }
@@ -61,7 +61,8 @@ impl BlockMaker {
         u64::from(BLOCK_LEN) * self.list.len() as u64
     }
 
-    /// Where the open block ends.
+    /// The code after the last code of the open block; a number above all codes if no more blocks may be
+    /// made.
     fn open_end(&self) -> u64
         ensures { length self.now.list.items < self.now.most
             → result ≡ 32 * length self.now.list.items + 32 }
@@ -73,8 +74,8 @@ impl BlockMaker {
         }
     }
 
-    /// Ends the blocks whose codes come before `low`. The first `count` runs begin before it, and
-    /// `next` is a code after theirs.
+    /// Ends the blocks whose codes come before `low`. The first `count` runs begin before `low`, and
+    /// `next` is a code after all codes of these runs.
     pub(super) fn end_before(&mut self, low: u64, count: usize, next: u64)
         requires { length self.old.list.items < self.old.most
             → count ≤ 32 * length self.old.list.items + 32 }

@@ -1,4 +1,4 @@
-//! For blocks of codes, which runs begin in them.
+//! Blocks of codes, and the runs that begin in each block.
 
 ghost use Rattle.std.specs.Prelude.{◌≡◌, ◌*◌, ◌-◌, ◌%◌, ◌^◌, ◌≤◌};
 ghost use Rattle.cmap_runs.specs.Blocks.{begun_by};
@@ -6,13 +6,13 @@ ghost use Rattle.cmap_runs.specs.Blocks.{begun_by};
 /// How many codes a block has.
 pub(super) const BLOCK_LEN: u32 = 32;
 
-/// The blocks of the codes of two bytes.
+/// The number of blocks of the codes of two bytes.
 pub(super) const MOST_BLOCKS: usize = 2048;
 
-/// A shorter list of runs has hardly any blocks.
+/// A shorter list of runs has at most one block.
 pub(super) const FEWEST_RUNS: usize = 512;
 
-/// What stands in place of a number of runs where no run holds a code of a block.
+/// The value of `begun` in a block of which no run holds a code.
 pub(super) const NO_RUN: u32 = 0x1_0000;
 
 /// Where runs begin among the codes of a block.
@@ -20,13 +20,13 @@ pub(super) const NO_RUN: u32 = 0x1_0000;
 pub(super) struct Block {
     /// How many runs begin before the block, or `NO_RUN`.
     pub(super) begun: u32,
-    /// A bit for each code at which a run begins, that of the first code high.
+    /// A bit for each code at which a run begins. The first code has the high bit.
     pub(super) starts: u32,
 }
 
 impl Block {
-    /// How many runs begin up to and including a code of the block, and 0 where no run holds a code of
-    /// it.
+    /// How many runs begin up to and including a code of the block, or 0 if no run holds a code of the
+    /// block.
     #[inline(always)]
     pub(super) fn begun_by(&self, code: u32) -> usize
         ensures { result ≡ begun_by self.now (code % 32) }
@@ -39,7 +39,7 @@ impl Block {
     }
 }
 
-/// The bit of a code in its block, that of the first code high.
+/// The bit of a code in its block. The first code has the high bit.
 #[inline(always)]
 pub(super) fn bit_of(code: u32) -> u32
     ensures { result ≡ 1 * 2 ^ (31 - code % 32) % 2 ^ 32 }
@@ -47,8 +47,8 @@ pub(super) fn bit_of(code: u32) -> u32
     1 << (BLOCK_LEN - 1 - code % BLOCK_LEN)
 }
 
-/// How many blocks may be made of this many runs, the first of which begins at `first`. Few runs need
-/// none but that of the first codes, where the notdefs of most files lie.
+/// How many blocks may be made of this many runs, where the first run begins at `first`. Few runs need
+/// only the block of the first codes, where the notdef ranges of most files lie.
 pub(super) fn most_blocks(run_count: usize, first: u64) -> usize
     ensures { result ≤ 2048 }
 {

@@ -1,5 +1,5 @@
-//! What a table holds: runs, their blocks, and declarations. Outside of this module each look at one is
-//! counted.
+//! The contents of a table: runs, their blocks, and declarations. Each look at them from outside of this
+//! module is counted.
 
 ghost use Rattle.std.specs.Prelude.{◌≡◌, ℕ, ◌+◌, ◌-◌, ◌*◌, ◌/◌, ◌^◌, ◌<◌, ◌≤◌, true, [], All, Some, IfNone, IfOk, IfSome, MatchOption, OnOk, OnErr, if◌then◌else◌, get_or, is_some, length, map, slice_get};
 ghost use Rattle.std.specs.List.{AllWithin};
@@ -58,7 +58,7 @@ impl Model for Runs {
 }
 
 impl Runs {
-    /// No runs, and room for this many.
+    /// A list without runs, with capacity for this many.
     pub(super) fn with_capacity(alloc: Global, capacity: usize) -> Result<Runs, AllocError>
         ensures { IfOk result (λ runs. runs ≡ []) }
     {
@@ -67,14 +67,15 @@ impl Runs {
         })
     }
 
-    /// Gives back the room that isn't used.
+    /// Frees the capacity that isn't used.
     pub(super) fn shrink_to_fit(&mut self)
         ensures { self.new ≡ self.old }
     {
         self.list.shrink_to_fit();
     }
 
-    /// Adds a run at the end. Where it goes on from the last one, with its index, the two are one.
+    /// Adds a run at the end. If the run begins just after the last run and has the same index, the two
+    /// become one run.
     pub(super) fn add(&mut self, low: u32, high: u32, index: usize) -> Result<(), AllocError>
         ensures added { OnOk result
             (self.new ≡ joined self.old (record { low = low; high = high; index = index })) }
@@ -90,7 +91,8 @@ impl Runs {
         Ok(())
     }
 
-    /// Whether a run that begins at `low`, with the index, begins just after the last one, with its index.
+    /// Whether a run that begins at `low` with the index begins just after the last run and has the same
+    /// index.
     fn is_continued_by(&self, low: u32, index: usize) -> bool
         ensures answer { (high : ℕ) → result ≡ goes_on (slice_get self.now (length self.now - 1))
             (record { low = low; high = high; index = index }) }
@@ -117,12 +119,12 @@ pub(super) struct Blocks {
     list: Vec<Block>,
     /// How many runs don't end before the first code after the blocks.
     pub(super) left: usize,
-    /// The code after those of all runs.
+    /// The code after all codes of the runs.
     pub(super) end: u64,
 }
 
 impl Blocks {
-    /// The block of the code; `None` where the code comes after all blocks.
+    /// The block of the code; `None` if the code comes after all blocks.
     fn block(&self, code: u32) -> Option<&Block>
         ensures { MatchOption result
             (32 * length self.now.list.items ≤ code)
@@ -204,8 +206,8 @@ impl<T: HasRange> Held<T> {
         }
     }
 
-    /// The last declaration that contains `code`, by its block; `None` where it comes after all blocks.
-    /// A look at a block, and at the run that it leads to, counts as one at a run.
+    /// The last declaration that contains `code`, by the block of the code; `None` if the code comes after
+    /// all blocks. A look at a block and at the run that the block leads to counts as one look at a run.
     #[inline(always)]
     pub(super) fn find_in_block(
         &self,
@@ -229,7 +231,7 @@ impl<T: HasRange> Held<T> {
         Some(self.reaching(begun - 1, code, looks))
     }
 
-    /// The declaration of the run at `i`, unless the run ends before `code`. Its caller counts the look at
+    /// The declaration of the run at `i`, unless the run ends before `code`. The caller counts the look at
     /// the run.
     #[inline(always)]
     fn reaching(&self, i: usize, code: u32, looks: &mut Looks) -> Option<&T>
@@ -261,8 +263,8 @@ impl<T: HasRange> Held<T> {
         Some(declaration)
     }
 
-    /// The blocks of the first codes, which are made of all runs. It counts no look, and takes `&mut self`
-    /// so that no search, which has `&self`, can call it.
+    /// The blocks of the first codes, which are made from all runs. The call counts no look. It takes `&mut
+    /// self`, so that a search, which has only `&self`, can't call it.
     pub(super) fn made(&mut self, alloc: Global) -> Result<BlockMaker, AllocError>
         requires { IsInOrder self.old.runs }
         ensures made { IfOk result (AreMadeBy self.old.runs (length self.old.runs)) }
@@ -282,8 +284,8 @@ impl<T: HasRange> Held<T> {
         Ok(maker)
     }
 
-    /// The blocks that were made of all runs, up to the end of the last one; none where there is no run. It
-    /// counts no look, as `made` doesn't.
+    /// The blocks that were made from all runs, up to the end of the last run; no blocks if there are no
+    /// runs. The call counts no look, just as `made` counts none.
     pub(super) fn finished(&mut self, maker: BlockMaker) -> Blocks
         requires order { IsInOrder self.old.runs }
         requires made { AreMadeBy self.old.runs (length self.old.runs) maker }
@@ -302,7 +304,7 @@ impl<T: HasRange> Held<T> {
         Blocks { list, left, end }
     }
 
-    /// The code after those of the first `count` runs.
+    /// The code after all codes of the first `count` runs.
     fn end_of(&self, count: usize) -> u64
         requires order { IsInOrder self.now.runs }
         requires within { count ≤ length self.now.runs }
@@ -325,7 +327,7 @@ impl<T: HasRange> Held<T> {
         }
     }
 
-    /// How many runs end before the code, of which the first `begun` begin before it.
+    /// How many of the first `begun` runs end before the code. All these runs begin before the code.
     fn ended_before(&self, begun: usize, code: u64) -> usize
         requires order { IsInOrder self.now.runs }
         requires within { begun ≤ length self.now.runs }

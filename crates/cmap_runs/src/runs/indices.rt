@@ -15,17 +15,17 @@ use super::blocks::{bit_of, most_blocks};
 use super::ranges::{range_at, start_at};
 use std::alloc::{AllocError, Global};
 
-/// Indices of declarations, in an order in which their ranges lie apart, with the blocks of these.
+/// Indices of declarations, in an order in which their ranges lie apart, with the blocks of the ranges.
 #[derive(Drop)]
 pub(super) struct Apart {
     pub(super) indices: Vec<u32>,
-    /// A code after those of their ranges.
+    /// A code after all codes of the ranges.
     next: u64,
     pub(super) blocks: BlockMaker,
 }
 
 impl Apart {
-    /// No indices, and room for none.
+    /// No indices, and no capacity for any.
     fn none(alloc: Global) -> Result<Apart, AllocError>
         ensures { IfOk result (AreAllMerged []) }
     {
@@ -51,8 +51,8 @@ impl Apart {
         }
     }
 
-    /// Adds the indices of a part, up to one whose range begins at `limit` or later, and answers where it
-    /// came to; `None` where not all ranges lie apart.
+    /// Adds the indices of a part, up to an index whose range begins at `limit` or later. The answer is
+    /// the index after the last index that was added; `None` if not all ranges lie apart.
     #[inline(always)]
     fn add_part<T: HasRange>(&mut self, declarations: &[T], part: &Part, limit: u64) -> Option<u32>
         requires first { part.now.next ≤ part.now.end }
@@ -86,8 +86,9 @@ impl Apart {
         Some(index)
     }
 
-    /// Adds the indices from `first` on and before `end`, up to one whose range begins at `limit` or
-    /// later, and answers where it came to; `None` where not all ranges lie apart.
+    /// Adds the indices from `first` on and before `end`, up to an index whose range begins at `limit` or
+    /// later. The answer is the index after the last index that was added; `None` if not all ranges lie
+    /// apart.
     fn add_to_block<T: HasRange>(
         &mut self,
         declarations: &[T],
@@ -128,29 +129,29 @@ impl Apart {
     }
 }
 
-/// The most parts that are merged without a sort.
+/// The greatest number of parts that are merged without a sort.
 const MOST_PARTS: usize = 8;
 
 /// How many declarations are passed over at once in search of the end of a part.
 const LONG_STEP: u32 = 16;
 
-/// What is left of a part of a list of declarations, in which the first codes ascend.
+/// The rest of a part of a list of declarations. The first codes of a part ascend.
 #[derive(Clone, Copy)]
 struct Part {
     /// The index of the next declaration.
     next: u32,
-    /// The index after that of the last one.
+    /// The index after the last declaration.
     end: u32,
-    /// The first code of the next one; one above all codes where none is left.
+    /// The first code of the next declaration; a number above all codes if no declaration is left.
     start: u64,
 }
 
 /// The parts that are left of a list of declarations.
 #[derive(Drop)]
 struct Parts {
-    /// The one whose first code is the least.
+    /// The part with the least first code.
     first: Part,
-    /// The others, in the order of their first codes.
+    /// The other parts, in the order of their first codes.
     others: Vec<Part>,
 }
 
@@ -164,7 +165,7 @@ impl Parts {
         Ok(())
     }
 
-    /// Puts what is left of the first part in its place.
+    /// Replaces the first part by its rest, and puts the rest in its place in the order.
     #[inline(always)]
     fn go_on(&mut self, part: Part)
         ensures { IsPermutation (part ∷ self.old.others.items) (all_parts self.new) }
@@ -173,7 +174,7 @@ impl Parts {
         self.order();
     }
 
-    /// Puts the first two parts in their places, where only these may be out of order.
+    /// Puts the first two parts in their places in the order. Only these two may be out of order.
     #[inline(always)]
     fn order(&mut self)
         ensures { IsPermutation (all_parts self.old) (all_parts self.new) }
@@ -189,7 +190,8 @@ impl Parts {
         move_first(&mut self.others);
     }
 
-    /// The first code of all parts but the first; one above all codes where there are none.
+    /// The least first code of the parts after the first part; a number above all codes if there are
+    /// none.
     #[inline(always)]
     fn limit(&self) -> u64 {
         match self.others.first() {
@@ -199,8 +201,9 @@ impl Parts {
     }
 }
 
-/// The indices of the declarations, in the order of their codes, with the blocks of their ranges, where
-/// they are a few parts that ascend, as single codes and then ranges do, and all ranges lie apart.
+/// The indices of the declarations, in the order of their codes, with the blocks of their ranges. `None`
+/// unless the declarations are a few ascending parts, such as single codes and then ranges, and all
+/// ranges lie apart.
 pub(super) fn merged_parts<T: HasRange>(
     alloc: Global,
     declarations: &[T],
@@ -218,8 +221,8 @@ pub(super) fn merged_parts<T: HasRange>(
     }
 }
 
-/// The same, where a part is seen to end only at each `step`th declaration. Where ends stay unseen
-/// there may be no answer.
+/// The answer of `merged_parts`, where the end of a part is seen only at each `step`th declaration. If
+/// ends stay unseen, there may be no answer.
 fn merged_by_steps<T: HasRange>(
     alloc: Global,
     declarations: &[T],
@@ -237,7 +240,8 @@ fn merged_by_steps<T: HasRange>(
     }
 }
 
-/// The declarations of parts, in the order of their codes; `None` where not all ranges lie apart.
+/// The indices of the declarations of parts, in the order of their codes; `None` if not all ranges lie
+/// apart.
 fn merged<T: HasRange>(
     alloc: Global,
     declarations: &[T],
@@ -278,8 +282,8 @@ fn merged<T: HasRange>(
     Ok(Some(apart))
 }
 
-/// The parts in which the first codes ascend, in the order of their first codes; `None` where they are
-/// too many.
+/// The parts in which the first codes ascend, in the order of their first codes; `None` if there are too
+/// many parts.
 fn ascending_parts<T: HasRange>(
     alloc: Global,
     declarations: &[T],
@@ -312,7 +316,7 @@ fn ascending_parts<T: HasRange>(
     Ok(Some(parts))
 }
 
-/// Moves the first part behind all those whose first codes are less.
+/// Moves the first part behind all parts with lesser first codes.
 #[inline(always)]
 fn move_first(parts: &mut Vec<Part>)
     ensures { IsPermutation parts.old.items parts.new.items }
@@ -332,7 +336,7 @@ fn move_first_of(parts: &mut [Part])
     }
 }
 
-/// Where the part that begins at `first` ends, in which the first codes are seen to ascend.
+/// The index after the part that begins at `first`, as far as its first codes are seen to ascend.
 fn part_end<T: HasRange>(declarations: &[T], first: u32, count: u32, step: u32) -> u32
     requires step { 0 < step }
     requires first { first < count }
@@ -346,7 +350,7 @@ fn part_end<T: HasRange>(declarations: &[T], first: u32, count: u32, step: u32) 
     end
 }
 
-/// How far first codes are seen to ascend, where only each `step`th one is looked at.
+/// How far first codes are seen to ascend, if only each `step`th code is looked at.
 fn end_by_steps<T: HasRange>(declarations: &[T], from: u32, count: u32, step: u32) -> u32
     requires step { 0 < step }
     requires from { (0 < from) × (from ≤ count) }
@@ -360,7 +364,7 @@ fn end_by_steps<T: HasRange>(declarations: &[T], from: u32, count: u32, step: u3
     end
 }
 
-/// Whether the range at `index` begins no later than the one at `later`.
+/// Whether the range at `index` begins no later than the range at `later`.
 fn ascends<T: HasRange>(declarations: &[T], index: u32, later: u32) -> bool
     requires index { index < length declarations.now }
     requires later { later < length declarations.now }
@@ -368,7 +372,8 @@ fn ascends<T: HasRange>(declarations: &[T], index: u32, later: u32) -> bool
     range_at(declarations, index).low <= range_at(declarations, later).low
 }
 
-/// The first code of the range at `index`, where this is before `end`, else one above all codes.
+/// The first code of the range at `index`, if `index` is before `end`; otherwise a number above all
+/// codes.
 fn start_before<T: HasRange>(declarations: &[T], index: u32, end: u32) -> u64
     requires { end ≤ length declarations.now }
 {
@@ -396,7 +401,7 @@ pub(super) fn indices_in_order<T: HasRange>(
     Ok(indices)
 }
 
-/// Whether no range is empty, and each ends before the next one begins.
+/// Whether no range is empty, and each range ends before the next range begins.
 pub(super) fn are_apart<T: HasRange>(declarations: &[T], indices: &[u32]) -> bool
     requires { All (λ index. index < length declarations.now) indices.now }
     ensures { result ≡ true

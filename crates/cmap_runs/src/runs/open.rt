@@ -1,4 +1,4 @@
-//! The open ranges of a sweep: those that have begun, and aren't closed.
+//! The open ranges of a sweep: ranges that have begun and aren't closed.
 
 ghost use Rattle.std.specs.Prelude.{◌≡◌, ℕ, ◌+◌, ◌-◌, ◌<◌, ◌≤◌, true, false, [], All, OnOk, get_or, length};
 ghost use Rattle.std.specs.BinaryHeap.{heap_items};
@@ -9,16 +9,16 @@ use std::alloc::{AllocError, Global};
 use std::collections::BinaryHeap;
 use std::marker::Model;
 
-/// The index of the declaration of each open range, with its last code. One whose index is no less
-/// than those on the stack comes on top of it, without a search for its place; any other goes into
-/// the heap.
+/// The index of the declaration of each open range, with the last code of the range. A range whose index
+/// is no less than all indices on the stack goes on top of the stack, without a search for its place.
+/// Any other range goes into the heap.
 #[derive(Drop)]
 pub(super) struct OpenRanges {
     stack: Vec<(usize, u32)>,
     heap: BinaryHeap<(usize, u32)>,
 }
 
-// A clause sees all of them.
+// Contracts see all open ranges.
 impl Model for OpenRanges {
     ghost use Rattle.std.specs.Prelude.{ℕ, List, ◌++◌};
     ghost use Rattle.std.specs.BinaryHeap.{heap_items};
@@ -42,8 +42,8 @@ impl OpenRanges {
         }
     }
 
-    /// Opens the range, unless one with a greater index that ends no earlier is seen to be open, so that
-    /// this one decides no code.
+    /// Opens the range, unless an open range with a greater index that ends no earlier is seen. Then the
+    /// range decides no code.
     pub(super) fn open(&mut self, range: &Run) -> Result<(), AllocError>
         ensures opens { OnOk result (Opens self.old self.new range.now) }
         ensures few { OnOk result (length self.new ≤ length self.old + 1) }
@@ -59,7 +59,7 @@ impl OpenRanges {
         Ok(())
     }
 
-    /// Whether the last one on the stack or the first one of the heap covers the range.
+    /// Whether the last range on the stack or the first range of the heap covers the range.
     fn is_seen_to_cover(&self, range: &Run) -> bool
         ensures { result ≡ true → IsCovered self.now range.now }
     {
@@ -74,7 +74,8 @@ impl OpenRanges {
         }
     }
 
-    /// An open range with the greatest index, which is closed where it ends before `to`.
+    /// An open range with the greatest index. The range is closed if it ends before `to`. `None` if no
+    /// range is open.
     pub(super) fn close_before(&mut self, to: u64) -> Option<(usize, u32)>
         ensures { ClosesTop self.old self.new to result }
     {
@@ -85,8 +86,8 @@ impl OpenRanges {
     }
 }
 
-/// Whether the other one, the index of a declaration with its last code, has a greater index, and ends
-/// no earlier.
+/// Whether the other range, the index of a declaration with a last code, has a greater index and ends no
+/// earlier.
 fn is_covered_by(range: &Run, other: &(usize, u32)) -> bool
     ensures { result ≡ true → (range.now.index ≤ other.now.0) × (range.now.high ≤ other.now.1) }
 {
@@ -104,7 +105,7 @@ fn comes_last(stack: &[(usize, u32)], index: usize) -> bool
     }
 }
 
-/// Whether the greatest index is one of the heap.
+/// Whether the greatest index is in the heap.
 fn is_in_heap(stack: &[(usize, u32)], heap: &BinaryHeap<(usize, u32)>) -> bool
     requires stack { Ascend stack.now }
     requires heap { HasGreatestOnTop (heap_items heap.now) }
@@ -124,7 +125,7 @@ fn is_in_heap(stack: &[(usize, u32)], heap: &BinaryHeap<(usize, u32)>) -> bool
     }
 }
 
-/// The range with the greatest index, which leaves the heap where it ends before `to`.
+/// The range with the greatest index. The range leaves the heap if it ends before `to`.
 fn close_in_heap(heap: &mut BinaryHeap<(usize, u32)>, to: u64) -> Option<(usize, u32)>
     requires { HasGreatestOnTop (heap_items heap.old) }
     ensures closes { ClosesTop (heap_items heap.old) (heap_items heap.new) to result }
@@ -137,7 +138,7 @@ fn close_in_heap(heap: &mut BinaryHeap<(usize, u32)>, to: u64) -> Option<(usize,
     Some(range)
 }
 
-/// The range with the greatest index, which leaves the stack where it ends before `to`.
+/// The range with the greatest index. The range leaves the stack if it ends before `to`.
 fn close_on_stack(stack: &mut Vec<(usize, u32)>, to: u64) -> Option<(usize, u32)>
     requires { Ascend stack.old.items }
     ensures closes { ClosesTop stack.old.items stack.new.items to result }

@@ -27,7 +27,7 @@ pub(super) fn ranges_of<T: HasRange>(
     Ok(ranges)
 }
 
-/// The ranges of the declarations at the indices, in this order, but for empty ones.
+/// The ranges of the declarations at the indices, in this order, without empty ranges.
 pub(super) fn ranges_at<T: HasRange>(
     alloc: Global,
     declarations: &[T],
@@ -60,7 +60,8 @@ pub(super) fn range_at<T: HasRange>(declarations: &[T], index: u32) -> Run
     Run::new(range.start, range.end, index)
 }
 
-/// The first code of the range of the declaration at the index, and 1 where there is none.
+/// The first code of the range of the declaration at the index, or 1 if there is no such
+/// declaration.
 pub(super) fn start_at<T: HasRange>(declarations: &[T], index: u32) -> u32
     ensures { result ≡ (range_at (map T.span declarations.now) index).low }
 {

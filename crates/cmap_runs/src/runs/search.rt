@@ -12,8 +12,8 @@ use super::HasRange;
 use super::held::{Blocks, Held};
 use super::looks::Looks;
 
-/// The last declaration that contains `code`, which comes after all blocks. It is called last, so that who
-/// calls it needs no registers afterwards.
+/// The last declaration that contains `code`, which comes after all blocks. A caller calls this last, and
+/// so needs no registers afterwards.
 #[cold]
 #[inline(never)]
 pub(super) fn find_after_blocks<'h, T: HasRange>(
@@ -37,8 +37,8 @@ pub(super) fn find_after_blocks<'h, T: HasRange>(
     Some(held.declaration(index, looks))
 }
 
-/// The index of the declaration of the run that holds `code`, by halving. Only the runs that are left
-/// after the blocks may.
+/// The index of the declaration of the run that holds `code`, by binary search. Only the runs that are
+/// left after the blocks can hold the code.
 fn find_among_last<T: HasRange>(
     held: &Held<T>,
     blocks: &Blocks,

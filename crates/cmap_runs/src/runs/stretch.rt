@@ -1,4 +1,4 @@
-//! Codes in a row, taken by stretches that one declaration decides, or none.
+//! Stretches of consecutive codes that one declaration decides, or that no declaration contains.
 
 ghost use Rattle.std.specs.Prelude.{◌≡◌, ◌+◌, ◌<◌, ◌≤◌, ◌^◌, IfNone, IfSome, IsTrue, OnSome, length, map};
 ghost use Rattle.std.specs.Option.{option_copied};
@@ -11,17 +11,17 @@ use super::held::Held;
 use super::looks::Looks;
 use std::marker::Model;
 
-/// Codes in a row: for all of them the same declaration is the last one that contains them, or none
-/// contains any.
+/// Consecutive codes: the same declaration is the last declaration that contains each of them, or no
+/// declaration contains any of them.
 #[derive(Drop)]
 pub struct Stretch<'t, T> {
-    /// The declaration.
+    /// The declaration that decides the codes; `None` if no declaration contains them.
     pub declaration: Option<&'t T>,
     /// The last of the codes.
     pub last: u32,
 }
 
-/// The codes of 32 bits from one on, which are taken stretch by stretch.
+/// The stretches of the 32-bit codes from a first code on, in order.
 #[derive(Drop)]
 pub struct Stretches<'t, T: HasRange> {
     held: &'t Held<T>,
@@ -30,7 +30,7 @@ pub struct Stretches<'t, T: HasRange> {
     next: u64,
 }
 
-// A clause sees the declarations, and the next code.
+// Contracts see the declarations, and the next code.
 impl<'t, T: HasRange> Model for Stretches<'t, T> {
     ghost use Rattle.std.specs.Prelude.{◌≡◌, map};
     ghost use Rattle.cmap_runs.specs.Ranges.{runs_of};
@@ -64,8 +64,8 @@ impl<'t, T: HasRange> Stretches<'t, T> {
         Stretches { held, ended, next }
     }
 
-    /// The stretch that begins with the next code; `None` after the last code. It looks at one run at
-    /// most.
+    /// The stretch that begins with the next code; `None` after the last code. The call looks at one
+    /// run at most.
     pub fn next(&mut self, looks: &mut Looks) -> Option<Stretch<'t, T>>
         ensures same { IfSome result (λ stretch. IsStretch T.span self.old.declarations self.old.next
             stretch.last (option_copied stretch.declaration)) }
@@ -83,7 +83,7 @@ impl<'t, T: HasRange> Stretches<'t, T> {
         ensures grows { (looks.old.runs ≤ looks.new.runs)
             × (looks.old.declarations ≤ looks.new.declarations) }
 
-        // A declaration is one that was looked at.
+        // The declaration of the answer was looked at.
         ensures looked { IfSome result (λ stretch. OnSome stretch.declaration
             ((looks.old.runs + 1 ≤ looks.new.runs)
             × (looks.old.declarations + 1 ≤ looks.new.declarations))) }
@@ -95,8 +95,8 @@ impl<'t, T: HasRange> Stretches<'t, T> {
     }
 }
 
-/// The stretch that begins with the code, before which as many runs end as `ended` says; then how many
-/// end before the code after the stretch.
+/// The stretch that begins with the code. `ended` is the number of runs that end before the code;
+/// afterwards it is the number of runs that end before the code after the stretch.
 fn stretch_at<'t, T: HasRange>(
     held: &'t Held<T>,
     ended: &mut usize,

@@ -20,7 +20,7 @@ use std::alloc::{AllocError, Global};
 /// How many codes there are.
 const CODE_COUNT: u64 = 1 << 32;
 
-/// The runs of declarations, and their blocks where some are made already.
+/// The runs of declarations, and their blocks if blocks are made already.
 #[derive(Drop)]
 pub(super) struct Found {
     pub(super) runs: RunList,
@@ -41,7 +41,7 @@ pub(super) fn runs_of<T: HasRange>(alloc: Global, declarations: &[T]) -> Result<
     }
 }
 
-/// The runs of the declarations, which are put in order by their indices.
+/// The runs of the declarations. Only the indices of the declarations are put in order.
 fn runs_by_index<T: HasRange>(
     alloc: Global,
     declarations: &[T],
@@ -101,7 +101,8 @@ fn sorted_and_swept(alloc: Global, ranges: Vec<Run>) -> Result<RunList, AllocErr
     sweep(alloc, ranges.as_slice())
 }
 
-/// The runs, where the ranges come in order.
+/// The runs of the declarations that the ranges belong to. The ranges come in the order of their
+/// first codes.
 fn sweep(alloc: Global, ranges: &[Run]) -> Result<RunList, AllocError>
     requires { IsNonDecreasingBy (λ range. range.low) ranges.now }
     ensures { IfOk result (λ runs. (spans : List Span)
@@ -126,8 +127,8 @@ fn add_all_runs(runs: &mut Runs, alloc: Global, ranges: &[Run]) -> Result<(), Al
     add_runs(runs, &mut ends, from, CODE_COUNT)
 }
 
-/// Adds the runs of the codes before the last first code of a range, and opens all ranges up to that
-/// code, which is the result; 0 where there is no range.
+/// Opens all ranges, and adds the runs of the codes before the first code of the last range. The
+/// result is that code; 0 if there are no ranges.
 fn open_ranges(runs: &mut Runs, ends: &mut OpenRanges, ranges: &[Run]) -> Result<u64, AllocError>
     requires runs { runs.old ≡ [] }
     requires ends { ends.old ≡ [] }
@@ -147,9 +148,9 @@ fn open_ranges(runs: &mut Runs, ends: &mut OpenRanges, ranges: &[Run]) -> Result
     Ok(from)
 }
 
-/// Adds the runs of the codes from `from` on and before `to`. The greatest index of an open range
-/// decides a code. `ends` has each with its last code, and those that have ended are closed on the
-/// way.
+/// Adds the runs of the codes from `from` on and before `to`. The open range with the greatest index
+/// decides a code, if the range doesn't end before the code. `ends` contains the open ranges; ranges
+/// that have ended are closed on the way.
 fn add_runs(runs: &mut Runs, ends: &mut OpenRanges, from: u64, to: u64) -> Result<(), AllocError>
     requires order { from ≤ to }
     requires codes { to ≤ 2 ^ 32 }

@@ -16,13 +16,13 @@ use std::alloc::{AllocError, Global};
 use std::fmt;
 use std::marker::Model;
 
-/// A list of declarations, in which the last one that contains a code is found in a list of runs: by a
-/// count of bits for the first codes, and by halving for others. A run is a row of codes that one
-/// declaration decides, as long as can be. Indices count from 0, and codes are numbers of 32 bits.
+/// A list of declarations with a search for the last declaration that contains a code. The search in a
+/// list of runs counts bits for the first codes, and is a binary search for the other codes. A run is
+/// a maximal row of consecutive codes that one declaration decides. Indices count from 0, and codes
+/// are numbers of 32 bits.
 ///
-/// Where the ranges lie apart, they are the runs, and nothing but their order is held beside the
-/// declarations. A look at such a run reads the range of its declaration, and counts as a look at
-/// a run alone.
+/// If the ranges lie apart, the ranges are the runs, and the list of runs consists only of their
+/// order. A look at such a run reads the range of its declaration, and counts only as a look at a run.
 pub struct Table<T: HasRange> {
     held: Held<T>,
     blocks: Blocks,
@@ -35,7 +35,7 @@ impl<T: HasRange> Drop for Table<T> {
     }
 }
 
-// A clause sees the list.
+// Contracts see the list.
 impl<T: HasRange> Model for Table<T> {
     ghost use Rattle.std.specs.Prelude.{◌≡◌, ◌-◌, ◌*◌, ◌≤◌, List, length, map};
     ghost use Rattle.cmap_runs.specs.Blocks.{AreBlocks};
@@ -50,7 +50,7 @@ impl<T: HasRange> Model for Table<T> {
         × (length table.held.runs ≤ 2 * length table.held.declarations - 1) };
 }
 
-/// The list of the declarations.
+/// Shows the list of the declarations.
 impl<T: HasRange + fmt::Debug> fmt::Debug for Table<T> {
     fn fmt<W: fmt::Write>(&self, f: &mut fmt::Formatter<W>) -> fmt::Result {
         fmt::Debug::fmt(&self.held, f)
@@ -60,8 +60,7 @@ impl<T: HasRange + fmt::Debug> fmt::Debug for Table<T> {
 impl<T: HasRange> Table<T> {
     /// The table of the declarations of `list`, in this order.
     ///
-    /// It fails only if memory runs out, and `list` is dropped then. No other call takes
-    /// some.
+    /// It fails only if memory runs out, and then drops `list`. No other call allocates memory.
     pub fn build(alloc: Global, list: Vec<T>) -> Result<Table<T>, AllocError>
         ensures { IfOk result (λ table. table ≡ list.items) }
     {
@@ -78,15 +77,15 @@ impl<T: HasRange> Table<T> {
         Ok(Table { held, blocks })
     }
 
-    /// The last declaration of the list that contains `code`; `None` where there is none.
+    /// The last declaration of the list that contains `code`; `None` if no declaration contains it.
     #[inline(always)]
     pub fn find(&self, code: u32, looks: &mut Looks) -> Option<&T>
         ensures found { option_copied result ≡ last_of T.span self.now code }
         ensures contains { IfSome result
             (λ declaration. IsTrue (contains (T.span declaration.now) code)) }
 
-        // It looks at no more runs than their number has binary digits, and at a declaration only
-        // to answer it.
+        // The call looks at no more runs than the number of runs has binary digits, and looks at a
+        // declaration only to answer it.
         ensures looks { LooksAtMost looks.old looks.new
             (digits (length (runs_of (map T.span self.now)))) 1 (is_some result) }
         ensures no_declaration { IfNone result
@@ -101,7 +100,7 @@ impl<T: HasRange> Table<T> {
         found
     }
 
-    /// A code after those of all declarations: none of them contains it, or a later one.
+    /// A code after all codes of the declarations: no declaration contains this code or a later code.
     #[inline(always)]
     pub fn end(&self) -> u64
         ensures { (code : ℕ) → code < 2 ^ 32 → result ≤ code
@@ -110,8 +109,7 @@ impl<T: HasRange> Table<T> {
         self.blocks.end
     }
 
-    /// The stretches of the codes from `first` on. The first of them is searched for, and the rest of
-    /// them are not.
+    /// The stretches of the codes from `first` on. Only the first stretch needs a search.
     pub fn stretches(&self, first: u32, looks: &mut Looks) -> Stretches<'_, T>
         ensures declarations { result.declarations ≡ self.now }
         ensures next { result.next ≡ first }
@@ -145,22 +143,22 @@ impl<T: HasRange> Table<T> {
         self.held.declaration_count()
     }
 
-    /// How many runs the table has. They come in the order of their codes.
+    /// How many runs the table has. The runs come in the order of their codes.
     pub fn run_count(&self) -> usize
         ensures count { result ≡ length (runs_of (map T.span self.now)) }
         ensures runs { AreTheRuns (map T.span self.now) (runs_of (map T.span self.now)) }
 
-        // Fewer than two for each declaration.
+        // There are fewer than two runs for each declaration.
         ensures few { result ≤ 2 * length self.now - 1 }
 
-        // What `find` is bounded by.
+        // `find` looks at no more runs than this number of binary digits.
         ensures digits { HasDigits result (digits result) }
     {
         self.held.run_count()
     }
 
-    /// The first code of the run at `i`, its last code and the index of the declaration that
-    /// decides them. `i` is below `run_count`; a larger one panics.
+    /// The first code of the run at `i`, its last code and the index of the declaration that decides
+    /// the codes. `i` is below `run_count`; a larger `i` panics.
     pub fn run(&self, i: usize, looks: &mut Looks) -> (u32, u32, usize)
         requires { i < length (runs_of (map T.span self.now)) }
         ensures run { slice_get (runs_of (map T.span self.now)) i
@@ -172,7 +170,7 @@ impl<T: HasRange> Table<T> {
         (run.low, run.high, run.index)
     }
 
-    /// The declaration at index `i`, which is below `decl_count`; a larger one panics.
+    /// The declaration at index `i`. `i` is below `decl_count`; a larger `i` panics.
     pub fn decl(&self, i: usize, looks: &mut Looks) -> &T
         requires { i < length self.now }
         ensures declaration { slice_get self.now i ≡ Some result.now }

@@ -28,7 +28,7 @@ use cmap_values::units::Units;
 use std::alloc::AllocError;
 
 impl<'d> Found<'d> {
-    /// Takes a piece of an entry, in the place that is to be filled next.
+    /// Takes a piece of an entry, in the next place of the entry.
     pub(super) fn take_in_entry(
         &mut self,
         piece: &Piece<'d>,
@@ -43,7 +43,7 @@ impl<'d> Found<'d> {
         self.take_part(piece, entry.with_piece(piece))
     }
 
-    /// Takes a piece in the place of an entry that is to be filled next, or passes over it.
+    /// Takes a piece in the next place of an entry, or passes over the piece.
     fn take_part(&mut self, piece: &Piece<'d>, entry: Entry) -> Result<State, AllocError>
         ensures { IfOk result (λ state. (state_seen state, found_seen self.new)
             ≡ salvage.take_part (found_seen self.old) (entry_seen entry) (piece_seen piece.now)) }
@@ -61,7 +61,7 @@ impl<'d> Found<'d> {
         }
     }
 
-    /// Adds the fault of a piece of an entry, which may fill its place all the same.
+    /// Adds the fault of a piece of an entry. The piece may fill its place all the same.
     fn add_entry_fault(
         &mut self,
         piece: &Piece<'d>,
@@ -78,7 +78,7 @@ impl<'d> Found<'d> {
         }
     }
 
-    /// Passes over a piece of an entry. One that is alone leaves the place to be filled.
+    /// Passes over a piece of an entry. A piece that is alone takes no place.
     fn pass_over(&mut self, piece: &Piece<'d>, entry: Entry) -> Result<State, AllocError>
         ensures { IfOk result (λ state. (state_seen state, found_seen self.new)
             ≡ salvage.passed_over (found_seen self.old) (entry_seen entry) (piece_seen piece.now)) }
@@ -89,8 +89,8 @@ impl<'d> Found<'d> {
         }
     }
 
-    /// Fills the last place of an entry with a piece at fault that shows what was meant: an empty text,
-    /// or the end of a codespace range that is longer than its first code.
+    /// Fills the last place of an entry with a piece at fault that shows the intended part: an empty
+    /// text, or an end of a codespace range that is longer than its first code.
     fn mend(&mut self, piece: &Piece<'_>, entry: Entry) -> Result<Option<State>, AllocError>
         ensures { IfOk result (MendsPlace (salvage.mend (lists_seen self.old.said.lists) (entry_seen entry) (piece_seen piece.now))
             self.old self.new) }
@@ -143,7 +143,7 @@ impl<'d> Found<'d> {
         }
     }
 
-    /// Fills the next place of an entry, and adds what it declares after the last one.
+    /// Fills the next place of an entry. After the last place, adds what the entry declares.
     fn fill(&mut self, token: &Token<'_>, entry: Entry) -> Result<State, Fault<Reason>>
         ensures { FillsPlace (salvage.fill (lists_seen self.old.said.lists) (entry_seen entry) (token_seen token.now))
             self.old self.new result }
@@ -353,7 +353,8 @@ impl<'d> Found<'d> {
         }
     }
 
-    /// Adds the text of the code `start`, of a range that ends with the code `end`.
+    /// Adds a declaration of texts for the codes from `start` to `end`, with the units of the text of
+    /// the code `start`.
     pub(super) fn add_texts(&mut self, start: u32, end: u32, units: Units) -> Result<(), AllocError>
         ensures { OnOk result (AddsLists (text_of start end (units_seen units)) self.old self.new) }
     {
@@ -362,7 +363,8 @@ impl<'d> Found<'d> {
     }
 }
 
-/// The range from a code, with bytes 0 before it, to a longer one.
+/// The codespace range from a code, with bytes 0 before it, to a longer code; `None` if the other code
+/// isn't longer.
 fn widened(low: Code, high: Code) -> Option<Codespace>
     ensures { option_map (λ space. Declaration.codespace (codespace_seen space) ∷ []) result
         ≡ salvage.widened (code_seen low) (code_seen high) }

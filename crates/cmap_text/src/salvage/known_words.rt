@@ -42,7 +42,7 @@ const WORDS: &[&[u8]] = &[
     b"endobj",
 ];
 
-/// What an executable name is in a section.
+/// The class of an executable name in a section.
 pub(super) fn class_of_name(name: &[u8]) -> Class
     ensures { class_seen result ≡ salvage.class_of_name name.now }
 {

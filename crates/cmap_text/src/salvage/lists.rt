@@ -31,7 +31,7 @@ impl<'d> Found<'d> {
         }
     }
 
-    /// Takes a piece where the text of this code has to stand.
+    /// Takes a piece in the place of the text of this code.
     fn take_text(
         &mut self,
         piece: &Piece<'d>,
@@ -54,7 +54,7 @@ impl<'d> Found<'d> {
         }
     }
 
-    /// Passes over a piece where the text of this code has to stand.
+    /// Passes over a piece in the place of the text of this code.
     fn pass_text(
         &mut self,
         piece: &Piece<'d>,
@@ -92,7 +92,7 @@ impl<'d> Found<'d> {
         }
     }
 
-    /// Takes away the texts of a list that is too short, unless its range is nominal.
+    /// Removes the texts of a list that is too short, unless the range of the list is nominal.
     fn end_short_list(&mut self, list: TextList)
         ensures { found_seen self.new ≡ salvage.short_list (found_seen self.old) (texts_seen list) }
     {
@@ -101,7 +101,7 @@ impl<'d> Found<'d> {
         }
     }
 
-    /// Takes a piece where the `]` of a list has to stand.
+    /// Takes a piece in the place of the `]` of a list.
     fn take_after_texts(&mut self, piece: &Piece<'d>, list: TextList) -> Result<State, AllocError>
         ensures { IfOk result (λ state. (state_seen state, found_seen self.new)
             ≡ salvage.take_after_texts (found_seen self.old) (texts_seen list) (piece_seen piece.now)) }
@@ -115,7 +115,7 @@ impl<'d> Found<'d> {
         }
     }
 
-    /// Passes over a piece where the `]` of a list has to stand.
+    /// Passes over a piece in the place of the `]` of a list.
     fn pass_after_texts(&mut self, piece: &Piece<'d>, list: TextList) -> Result<State, AllocError>
         ensures { IfOk result (λ state. (state_seen state, found_seen self.new)
             ≡ salvage.past_texts (found_seen self.old) (texts_seen list) (piece_seen piece.now)) }
@@ -127,7 +127,7 @@ impl<'d> Found<'d> {
         }
     }
 
-    /// Takes a part where the `]` of a list has to stand.
+    /// Takes a part in the place of the `]` of a list.
     fn end_list(&mut self, piece: &Piece<'d>, list: TextList) -> Result<State, AllocError>
         ensures { IfOk result (λ state. (state_seen state, found_seen self.new)
             ≡ salvage.end_list (found_seen self.old) (texts_seen list) (piece_seen piece.now)) }
@@ -139,7 +139,7 @@ impl<'d> Found<'d> {
         Ok(State::PassingList(list.at_fault()))
     }
 
-    /// Takes away the texts of a list.
+    /// Removes the texts of a list.
     fn lose(&mut self, list: TextList)
         ensures { found_seen self.new ≡ salvage.losing (found_seen self.old) (texts_seen list) }
     {

@@ -1,4 +1,4 @@
-//! What single pieces are in a section, and their faults.
+//! The classes of single pieces in a section, and the faults of pieces.
 
 ghost use Rattle.std.specs.Prelude.{◌≡◌};
 ghost use Rattle.cmap_tokens.specs.TokenSeen.{malformed_seen, piece_seen, wrong_seen};
@@ -10,16 +10,16 @@ use crate::tokens::malformed_reason;
 use cmap_tokens::token::{Malformed, MalformedPiece, Piece, Token};
 use cmap_values::fault::{Reason, Stop};
 
-/// What a piece is in a section.
+/// The class of a piece in a section.
 #[derive(Clone, Copy, PartialEq, Eq)]
 pub(super) enum Class {
     /// An executable name that ends a section.
     Word,
-    /// It takes no place of an entry.
+    /// A piece that takes no place of an entry.
     Alone,
     OpenBracket,
     CloseBracket,
-    /// It may be a part of an entry.
+    /// A piece that may be a part of an entry.
     Part,
 }
 
@@ -33,7 +33,7 @@ pub(super) fn class_of(piece: &Piece<'_>) -> Class
     }
 }
 
-/// What a piece that is no token is in a section.
+/// The class of a malformed piece in a section.
 fn class_of_malformed(kind: Malformed) -> Class
     ensures { class_seen result ≡ salvage.class_of_malformed (malformed_seen kind) }
 {
@@ -67,7 +67,7 @@ pub(super) fn is_stray(piece: &Piece<'_>) -> bool
     is_name(piece) && class_of(piece) == Class::Part
 }
 
-/// The fault of a piece that is no token.
+/// The fault of a malformed piece.
 pub(super) fn own_fault(malformed: MalformedPiece) -> Stop
     ensures { result ≡ salvage.own_fault (wrong_seen malformed) }
 {
@@ -77,7 +77,8 @@ pub(super) fn own_fault(malformed: MalformedPiece) -> Stop
     }
 }
 
-/// The fault of a piece: its own, or for this reason that of a token, at its end.
+/// The fault of a piece: the own fault of a malformed piece, or for a token a fault at its end with
+/// this reason.
 pub(super) fn fault_of(piece: &Piece<'_>, reason: Reason) -> Stop
     ensures { result ≡ salvage.fault_of reason (piece_seen piece.now) }
 {
@@ -90,7 +91,7 @@ pub(super) fn fault_of(piece: &Piece<'_>, reason: Reason) -> Stop
     }
 }
 
-/// Where a piece is at fault: a token at its end.
+/// The offset of the fault of a piece; for a token this is its end.
 pub(super) fn fault_offset(piece: &Piece<'_>) -> usize
     ensures { result ≡ salvage.fault_offset (piece_seen piece.now) }
 {

@@ -1,4 +1,4 @@
-//! The lines of sections, and how many parts each holds.
+//! The lines of sections, and how many parts each line has.
 
 ghost use Rattle.std.specs.Prelude.{◌≡◌, ◌∷◌, [], option_map, IfOk, OnOk};
 ghost use Rattle.cmap_tokens.specs.TokenSeen.{piece_seen};
@@ -12,17 +12,17 @@ use crate::sections::Section;
 use cmap_tokens::token::{Piece, PieceReader};
 use std::alloc::{AllocError, Global};
 
-/// What stands on a line of a section.
+/// The parts on a line of a section.
 #[derive(Clone, Copy)]
 pub(super) struct Row {
-    /// How many parts; 255 stands for more, too.
+    /// The number of parts; 255 stands for 255 or more.
     pub(super) parts: u8,
-    /// How many places an entry of the section has; 0 without parts.
+    /// How many places an entry of the section has; 0 for a line without parts.
     pub(super) places: u8,
 }
 
 impl Row {
-    /// One without parts.
+    /// A line without parts.
     fn empty() -> Row
         ensures { result ≡ lines.empty_row }
     {
@@ -32,7 +32,7 @@ impl Row {
         }
     }
 
-    /// The same with a part more, in this section.
+    /// The line with one more part, in this section.
     fn with_part(self, section: Section) -> Row
         ensures { result ≡ lines.with_part self (section_seen section) }
     {
@@ -42,14 +42,14 @@ impl Row {
         }
     }
 
-    /// Whether it holds as many parts as an entry.
+    /// Whether the line has as many parts as an entry has places.
     fn is_whole(&self) -> bool
         ensures { result ≡ lines.is_whole self.now }
     {
         self.parts != 0 && self.parts == self.places
     }
 
-    /// Whether it holds parts, but more or fewer.
+    /// Whether the line has parts, but more or fewer than an entry has places.
     fn is_other(&self) -> bool
         ensures { result ≡ lines.is_other self.now }
     {
@@ -60,11 +60,11 @@ impl Row {
 /// The lines of a text, as far as its pieces are read.
 #[derive(Drop)]
 struct Lines {
-    /// Those before the last one.
+    /// The lines before the last line.
     rows: Vec<Row>,
-    /// The last one.
+    /// The last line.
     row: Row,
-    /// One without parts for each line end in a list of the last one.
+    /// A line without parts for each line end in a list on the last line.
     inner: Vec<Row>,
     /// The section that the last known word opens.
     section: Option<Section>,
@@ -95,7 +95,8 @@ impl Lines {
         Ok(())
     }
 
-    /// Begins a line with a piece. A line end in a list, which is a part of its line, is none.
+    /// Begins a line with a piece. A line end in a list begins no line, because the list is a part
+    /// of its line.
     fn begin_row(&mut self, piece: &Piece<'_>) -> Result<(), AllocError>
         ensures { OnOk result (lines_seen self.new ≡ lines.row_begun (lines_seen self.old) (piece_seen piece.now)) }
     {
@@ -152,7 +153,8 @@ impl Lines {
     }
 }
 
-/// What stands on each line of a text, before the first one nothing.
+/// The parts on each line of a text, after an empty row for the part of the text before the first
+/// line.
 pub(super) fn rows_of(alloc: Global, text: &[u8]) -> Result<Vec<Row>, AllocError>
     ensures { IfOk result (λ rows. rows.items ≡ lines.rows_of text.now) }
 {
@@ -165,7 +167,7 @@ pub(super) fn rows_of(alloc: Global, text: &[u8]) -> Result<Vec<Row>, AllocError
     Ok(lines.rows)
 }
 
-/// Whether more than half of the lines with parts hold as many as an entry.
+/// Whether more than half of the lines with parts have as many parts as an entry has places.
 pub(super) fn are_rows(rows: &[Row]) -> bool
     ensures { result ≡ lines.are_rows rows.now }
 {
@@ -182,7 +184,7 @@ pub(super) fn are_rows(rows: &[Row]) -> bool
     others < whole
 }
 
-/// The rows from the line of a piece on, where the first one is that of the piece before it.
+/// The rows from the line of a piece on. The first of `rows` is the row of the piece before it.
 pub(super) fn rows_at<'r>(rows: &'r [Row], piece: &Piece<'_>) -> &'r [Row]
     ensures { result.now ≡ lines.rows_at rows.now (piece_seen piece.now) }
 {
@@ -203,7 +205,7 @@ fn after_line(rows: &[Row]) -> &[Row]
     }
 }
 
-/// How many parts the first line holds.
+/// How many parts the first line has.
 pub(super) fn parts_on(rows: &[Row]) -> u8
     ensures { result ≡ lines.parts_on rows.now }
 {
@@ -213,7 +215,8 @@ pub(super) fn parts_on(rows: &[Row]) -> u8
     }
 }
 
-/// Whether a line of a section begins with a piece: an opener begins the first one.
+/// Whether a line begins with a piece. The opener of a section begins the first line of the
+/// section.
 fn begins_row(piece: &Piece<'_>) -> bool
     ensures { result ≡ lines.begins_row (piece_seen piece.now) }
 {

@@ -1,4 +1,4 @@
-//! What comes next, while a text is read past its faults.
+//! The states of the reading of a text past its faults.
 
 ghost use Rattle.std.specs.Prelude.{◌≡◌, ◌+◌, nat_le, false, true, MatchOption};
 ghost use Rattle.cmap_tokens.specs.TokenSeen.{piece_seen};
@@ -56,12 +56,13 @@ pub(super) enum Parts {
 pub(super) struct Entry {
     pub(super) section: Section,
     pub(super) parts: Parts,
-    /// Whether one of its pieces begins a line, up to and including the one in its first place.
+    /// Whether a piece of the entry begins a line, up to and including the piece in its first
+    /// place.
     pub(super) begins_line: bool,
 }
 
 impl Entry {
-    /// One without parts.
+    /// An entry without parts.
     pub(super) fn new(section: Section) -> Entry
         ensures { entry_seen result ≡ salvage.new_entry (section_seen section) }
     {
@@ -72,14 +73,14 @@ impl Entry {
         }
     }
 
-    /// Whether it has no parts.
+    /// Whether the entry has no parts.
     pub(super) fn is_empty(&self) -> bool
         ensures { result ≡ salvage.no_parts (entry_seen self.now).parts }
     {
         matches!(self.parts, Parts::None)
     }
 
-    /// The same with a piece that comes next.
+    /// The entry with `begins_line` set for the piece that comes next.
     pub(super) fn with_piece(self, piece: &Piece<'_>) -> Entry
         ensures { entry_seen result ≡ salvage.with_piece (entry_seen self) (piece_seen piece.now) }
     {
@@ -89,7 +90,7 @@ impl Entry {
         }
     }
 
-    /// The state after its first code.
+    /// The state after the first code of the entry.
     pub(super) fn after_one(self, code: Code) -> State
         ensures { state_seen result
             ≡ salvage.in_entry (salvage.with_parts (entry_seen self) (salvage.one (code_seen code))) }
@@ -111,7 +112,7 @@ impl Entry {
         })
     }
 
-    /// What is left of it from the place that isn't filled on.
+    /// The rest of the entry, from its next place on.
     pub(super) fn at_fault(self) -> AtFault
         ensures { rest_seen result ≡ salvage.rest_of (entry_seen self) }
     {
@@ -122,7 +123,7 @@ impl Entry {
         }
     }
 
-    /// Why its next place isn't filled.
+    /// Why the next place of the entry isn't filled.
     pub(super) fn missing(&self) -> Reason
         ensures { result ≡ salvage.missing (entry_seen self.now) }
     {
@@ -166,7 +167,7 @@ pub(super) fn places_of(section: Section) -> u8
     }
 }
 
-/// What is left of an entry at fault.
+/// The rest of an entry at fault.
 #[derive(Clone, Copy)]
 pub(super) struct AtFault {
     pub(super) section: Section,
@@ -177,7 +178,7 @@ pub(super) struct AtFault {
 }
 
 impl AtFault {
-    /// In a line of which no entry is read any more.
+    /// The rest of a line from which no further entry is read.
     pub(super) fn in_line(section: Section) -> AtFault
         ensures { rest_seen result ≡ salvage.rest_in_line (section_seen section) }
     {
@@ -188,7 +189,7 @@ impl AtFault {
         }
     }
 
-    /// The state after a part more.
+    /// The state after one more part.
     pub(super) fn after_part(self) -> State
         ensures { state_seen result ≡ salvage.after_part (rest_seen self) }
     {
@@ -219,7 +220,7 @@ impl AtFault {
 pub(super) struct TextList {
     /// The first code.
     first: u32,
-    /// The code of its next place.
+    /// The code of the next place.
     next: u64,
     /// The last code.
     last: u32,
@@ -227,7 +228,7 @@ pub(super) struct TextList {
     pub(super) kept: usize,
     /// Whether its entry begins a line.
     begins_line: bool,
-    /// Whether its entry does and none of its own pieces.
+    /// Whether the entry begins a line, and no piece of the list does.
     is_one_line: bool,
 }
 
@@ -253,7 +254,7 @@ impl TextList {
         }
     }
 
-    /// The code whose text comes next; `None` if all have theirs.
+    /// The code whose text comes next; `None` if the places of all codes are filled.
     pub(super) fn next_code(&self) -> Option<u32>
         ensures { MatchOption result (nat_le self.now.next self.now.last ≡ false)
             (λ code. (nat_le self.now.next self.now.last ≡ true) × (code ≡ self.now.next)) }
@@ -295,14 +296,15 @@ impl TextList {
         filled < left
     }
 
-    /// Whether its `]` is missing before this piece, which comes after all its texts.
+    /// Whether the `]` of the list is missing before this piece, which comes after all texts of the
+    /// list.
     pub(super) fn lacks_bracket(&self, piece: &Piece<'_>) -> bool
         ensures { result ≡ salvage.lacks_bracket (texts_seen self.now) (piece_seen piece.now) }
     {
         self.is_one_line && piece.begins_line && is_string(piece)
     }
 
-    /// What is left of its entry, if it is lost.
+    /// The rest of the entry of the list, if the list is lost.
     pub(super) fn at_fault(self) -> AtFault
         ensures { rest_seen result ≡ salvage.rest_of_list (texts_seen self) }
     {

@@ -40,10 +40,10 @@ static DIGITS: [u8; 256] = [
     36, 36, 36, 36, 36, 36, 36, 36, 36, 36, 36, 36, 36, 36,
 ];
 
-/// What a byte counts that is no digit: more than any number of eight digits.
+/// The weight of a byte that is no digit: more than any number of eight digits.
 pub(super) const NO_DIGIT: u64 = 0x1_0000_0000;
 
-/// What each byte counts as a hexadecimal digit.
+/// The weight of each byte as a hexadecimal digit.
 static HEX_DIGITS: [u64; 256] = [
     NO_DIGIT, NO_DIGIT, NO_DIGIT, NO_DIGIT, NO_DIGIT, NO_DIGIT, NO_DIGIT, NO_DIGIT, NO_DIGIT,
     NO_DIGIT, NO_DIGIT, NO_DIGIT, NO_DIGIT, NO_DIGIT, NO_DIGIT, NO_DIGIT, NO_DIGIT, NO_DIGIT,
@@ -74,7 +74,7 @@ static HEX_DIGITS: [u64; 256] = [
     NO_DIGIT, NO_DIGIT, NO_DIGIT, NO_DIGIT, NO_DIGIT, NO_DIGIT, NO_DIGIT,
 ];
 
-/// What each byte counts as a decimal digit.
+/// The weight of each byte as a decimal digit.
 static DECIMAL_DIGITS: [u64; 256] = [
     NO_DIGIT, NO_DIGIT, NO_DIGIT, NO_DIGIT, NO_DIGIT, NO_DIGIT, NO_DIGIT, NO_DIGIT, NO_DIGIT,
     NO_DIGIT, NO_DIGIT, NO_DIGIT, NO_DIGIT, NO_DIGIT, NO_DIGIT, NO_DIGIT, NO_DIGIT, NO_DIGIT,
@@ -106,10 +106,10 @@ static DECIMAL_DIGITS: [u64; 256] = [
     NO_DIGIT, NO_DIGIT, NO_DIGIT, NO_DIGIT, NO_DIGIT, NO_DIGIT,
 ];
 
-/// What a byte that is no digit counts as the first of two hexadecimal digits.
+/// The weight of a byte that is no digit, as the first of two hexadecimal digits.
 const NO_HIGH: u64 = 0x10_0000_0000;
 
-/// What each byte counts as the first of two hexadecimal digits.
+/// The weight of each byte as the first of two hexadecimal digits.
 static HIGH_HEX_DIGITS: [u64; 256] = [
     NO_HIGH, NO_HIGH, NO_HIGH, NO_HIGH, NO_HIGH, NO_HIGH, NO_HIGH, NO_HIGH, NO_HIGH, NO_HIGH,
     NO_HIGH, NO_HIGH, NO_HIGH, NO_HIGH, NO_HIGH, NO_HIGH, NO_HIGH, NO_HIGH, NO_HIGH, NO_HIGH,
@@ -138,10 +138,10 @@ static HIGH_HEX_DIGITS: [u64; 256] = [
     NO_HIGH, NO_HIGH, NO_HIGH, NO_HIGH,
 ];
 
-/// What a byte that is no digit counts as the first of two decimal digits.
+/// The weight of a byte that is no digit, as the first of two decimal digits.
 const NO_TEN: u64 = 0xA_0000_0000;
 
-/// What each byte counts as the first of two decimal digits.
+/// The weight of each byte as the first of two decimal digits.
 static DECIMAL_TENS: [u64; 256] = [
     NO_TEN, NO_TEN, NO_TEN, NO_TEN, NO_TEN, NO_TEN, NO_TEN, NO_TEN, NO_TEN, NO_TEN, NO_TEN, NO_TEN,
     NO_TEN, NO_TEN, NO_TEN, NO_TEN, NO_TEN, NO_TEN, NO_TEN, NO_TEN, NO_TEN, NO_TEN, NO_TEN, NO_TEN,
@@ -222,7 +222,7 @@ fn decimal_ten(byte: u8) -> u64
     DECIMAL_TENS[byte as usize]
 }
 
-/// The number of two hexadecimal digits, and 2^32 or more where one of the bytes is none.
+/// The number of two hexadecimal digits, and 2^32 or more if one of the bytes is no digit.
 #[inline(always)]
 pub(super) fn hex_pair(first: u8, second: u8) -> u64
     ensures { result ≡ 16 * reading.weight 16 first + reading.weight 16 second }
@@ -230,7 +230,7 @@ pub(super) fn hex_pair(first: u8, second: u8) -> u64
     high_hex_weight(first) + hex_weight(second)
 }
 
-/// The number of two decimal digits, and 2^32 or more where one of the bytes is none.
+/// The number of two decimal digits, and 2^32 or more if one of the bytes is no digit.
 #[inline(always)]
 pub(super) fn decimal_pair(first: u8, second: u8) -> u64
     ensures { result ≡ 10 * reading.weight 10 first + reading.weight 10 second }

@@ -30,7 +30,7 @@ pub(super) fn gap_len(text: &[u8]) -> usize
     i
 }
 
-/// How many bytes are left of a comment, with the byte that ends it.
+/// How many bytes are left of a comment, including the byte that ends the comment.
 fn comment_len(text: &[u8]) -> usize
     ensures exact { reading.gap_len true text.now
         ≡ result + reading.gap_len false (drop result text.now) }
@@ -40,13 +40,14 @@ fn comment_len(text: &[u8]) -> usize
     plain + line_len(&text[plain..])
 }
 
-/// How many bytes are passed at once where none of them ends a comment.
+/// How many bytes are passed at once if none of them ends a comment.
 const AT_ONCE: usize = 16;
 
-/// How many bytes are passed at once after these.
+/// How many bytes are passed at once after the steps of `AT_ONCE` bytes.
 const FEWER: usize = 8;
 
-/// How many bytes of a comment are passed, by sixteens and then by eight, before one that may end it.
+/// How many bytes of a comment are passed in steps of sixteen and then of eight, before a byte that
+/// may end the comment.
 fn plain_len(text: &[u8]) -> usize
     ensures exact { reading.gap_len true text.now
         ≡ result + reading.gap_len true (drop result text.now) }
@@ -62,7 +63,7 @@ fn plain_len(text: &[u8]) -> usize
     i
 }
 
-/// Whether all these bytes lie above those that end a line.
+/// Whether all these bytes lie above all bytes that end a line.
 #[inline(always)]
 fn are_plain(bytes: &[u8]) -> bool
     ensures { result ≡ list_all reading.is_plain bytes.now }
@@ -74,7 +75,8 @@ fn are_plain(bytes: &[u8]) -> bool
     !ends
 }
 
-/// How many bytes are left of a comment, with the byte that ends it, by one byte after another.
+/// How many bytes are left of a comment, including the byte that ends the comment, in steps of one
+/// byte.
 fn line_len(text: &[u8]) -> usize
     ensures exact { reading.gap_len true text.now
         ≡ result + reading.gap_len false (drop result text.now) }

@@ -1,4 +1,4 @@
-//! How far runs and strings reach, in bytes.
+//! The lengths of runs and strings, in bytes.
 
 ghost use Rattle.std.specs.Prelude.{◌≡◌, ◌+◌, ◌≤◌, length, IfSome};
 ghost use Rattle.std.specs.List.{prefix_len};
@@ -22,7 +22,8 @@ pub(super) fn run_len(text: &[u8]) -> usize
     text.len()
 }
 
-/// How many bytes the string takes that a text begins with, `None` where it begins with none.
+/// The length of the string at the start of a text, in bytes; `None` if the text begins with no
+/// string.
 pub(super) fn string_len(text: &[u8]) -> Option<usize>
     ensures exact { result ≡ reading.string_len text.now }
     ensures within { IfSome result (λ len. len ≤ length text.now) }
@@ -34,8 +35,8 @@ pub(super) fn string_len(text: &[u8]) -> Option<usize>
     }
 }
 
-/// How many bytes stand before the first one that shows that no token comes, where a text begins with
-/// none.
+/// The number of bytes before the first byte that rules out a token, for a text that begins with no
+/// token.
 pub(super) fn malformed_len(text: &[u8]) -> usize
     ensures exact { result ≡ reading.malformed_len text.now }
     ensures within { result ≤ length text.now }
@@ -61,7 +62,7 @@ pub(super) fn hex_body_len(text: &[u8]) -> usize
     text.len()
 }
 
-/// How many bytes a hexadecimal string takes, by the bytes after its `<`.
+/// The length of a hexadecimal string with its brackets, in bytes. `text` is the part after the `<`.
 fn hex_len(text: &[u8]) -> Option<usize>
     ensures exact { result ≡ reading.one_more (reading.hex_len text.now) }
     ensures within { IfSome result (λ len. len ≤ 1 + length text.now) }
@@ -73,7 +74,8 @@ fn hex_len(text: &[u8]) -> Option<usize>
     }
 }
 
-/// How many bytes a string in parentheses takes, by the bytes after its `(`.
+/// The length of a string in parentheses with its brackets, in bytes. `text` is the part after the
+/// `(`.
 fn text_len(text: &[u8]) -> Option<usize>
     ensures exact { result ≡ reading.one_more (reading.text_len opened text.now) }
     ensures within { IfSome result (λ len. len ≤ 1 + length text.now) }

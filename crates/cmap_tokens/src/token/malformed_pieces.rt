@@ -1,4 +1,4 @@
-//! What stands in a text where no token does.
+//! Malformed pieces of a text, where no token stands.
 
 ghost use Rattle.std.specs.Prelude.{◌≡◌, ◌+◌, ◌≤◌, length, true};
 ghost use Rattle.std.specs.List.{list_any};
@@ -11,7 +11,7 @@ use super::byte_class::{digit_value, is_regular};
 use super::gaps::FORM_FEED;
 use super::lengths::hex_body_len;
 
-/// Why a text begins with no token, where it doesn't.
+/// Why a text begins with no token, for a text that begins with none.
 pub(super) fn malformed_kind(text: &[u8]) -> Malformed
     ensures { malformed_seen result ≡ malformed.malformed_kind text.now }
 {
@@ -22,7 +22,7 @@ pub(super) fn malformed_kind(text: &[u8]) -> Malformed
     }
 }
 
-/// Why a hexadecimal string is none, by the bytes after its `<`.
+/// Why a malformed hexadecimal string is no string, from the bytes after its `<`.
 fn hexadecimal_kind(text: &[u8]) -> Malformed
     ensures { malformed_seen result ≡ malformed.hexadecimal_kind text.now }
 {
@@ -33,8 +33,7 @@ fn hexadecimal_kind(text: &[u8]) -> Malformed
     }
 }
 
-/// How many bytes stand before the offset of the fault of a piece that is no token, which a text begins
-/// with.
+/// The offset of the fault in the malformed piece that a text begins with.
 pub(super) fn fault_len(text: &[u8]) -> usize
     ensures exact { result ≡ malformed.fault_len text.now }
     ensures within { result ≤ length text.now }
@@ -46,7 +45,8 @@ pub(super) fn fault_len(text: &[u8]) -> usize
     }
 }
 
-/// The same of a hexadecimal string, by the bytes after its `<`.
+/// The offset of the fault in a malformed hexadecimal string with its `<`. `text` is the part after the
+/// `<`.
 fn hexadecimal_fault_len(text: &[u8]) -> usize
     ensures exact { result ≡ malformed.hexadecimal_fault_len text.now }
     ensures within { result ≤ 1 + length text.now }
@@ -55,7 +55,7 @@ fn hexadecimal_fault_len(text: &[u8]) -> usize
     if len == text.len() { 0 } else { 1 + len }
 }
 
-/// How many bytes a piece has that is no token, which a text begins with.
+/// The length of the malformed piece that a text begins with, in bytes.
 pub(super) fn malformed_piece_len(text: &[u8]) -> usize
     ensures exact { result ≡ malformed.malformed_piece_len text.now }
     ensures within { result ≤ length text.now }
@@ -67,8 +67,9 @@ pub(super) fn malformed_piece_len(text: &[u8]) -> usize
     }
 }
 
-/// How many bytes a hexadecimal string has after which the text ends or a wrong byte stands, at the offset
-/// `wrong`. Where the word with the wrong byte stands on another line, the string ends before it.
+/// The length of a malformed hexadecimal string, in bytes. The wrong byte, or the end of the text, is at
+/// the offset `wrong`. If the word with the wrong byte stands on another line, the string ends before the
+/// word.
 fn hexadecimal_piece_len(text: &[u8], wrong: usize) -> usize
     requires { wrong ≤ length text.now }
     ensures exact { result ≡ malformed.hexadecimal_piece_len wrong text.now }
@@ -82,8 +83,8 @@ fn hexadecimal_piece_len(text: &[u8], wrong: usize) -> usize
     }
 }
 
-/// The offset of the word with the wrong byte, whose offset is `wrong`: where this is regular, of the
-/// digits right before it.
+/// The offset of the word with the wrong byte at the offset `wrong`. If the wrong byte is regular, the
+/// word begins with the digits right before it.
 fn wrong_word(text: &[u8], wrong: usize) -> usize
     requires { wrong ≤ length text.now }
     ensures exact { result ≡ malformed.wrong_word wrong text.now }
@@ -95,7 +96,7 @@ fn wrong_word(text: &[u8], wrong: usize) -> usize
     }
 }
 
-/// With how many digits a text ends.
+/// How many hexadecimal digits a text ends with.
 fn last_digits(text: &[u8]) -> usize
     ensures exact { result ≡ last_digits 0 text.now }
     ensures within { result ≤ length text.now }
@@ -129,7 +130,7 @@ fn is_line_end(byte: u8) -> bool
 }
 
 /// How many bytes of a hexadecimal string are left from its first wrong byte on: up to and including a
-/// `>`, or up to a `<`, the end of the line or that of the text.
+/// `>`, or up to a `<`, the end of the line or the end of the text.
 fn hex_left(text: &[u8]) -> usize
     ensures exact { result ≡ malformed.hex_left text.now }
     ensures within { result ≤ length text.now }
@@ -145,15 +146,15 @@ fn hex_left(text: &[u8]) -> usize
     text.len()
 }
 
-/// Whether it is a white byte that ends no line.
+/// Whether a byte is white and ends no line.
 fn is_line_blank(byte: u8) -> bool
     ensures { result ≡ is_line_blank byte }
 {
     matches!(byte, 0 | b'\t' | FORM_FEED | b' ')
 }
 
-/// Whether what comes after this text begins a line: only blanks stand between it and the end of the
-/// line before it, or the beginning of the text.
+/// Whether the byte after this text begins a line: only blanks stand between the byte and the last line
+/// end, or the start of the text.
 pub(super) fn ends_blank_line(text: &[u8]) -> bool
     ensures { result ≡ blank_after true text.now }
 {

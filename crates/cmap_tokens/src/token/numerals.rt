@@ -1,4 +1,4 @@
-//! The numbers that runs of regular bytes are spelled as.
+//! The numbers that runs of regular bytes spell.
 
 ghost use Rattle.std.specs.Prelude.{◌≡◌, ℕ, ◌+◌, ◌-◌, ◌<◌, ◌≤◌, ◌^◌, ◌%◌, false, List, ◌∷◌, ◌++◌, min, length, get_or, drop, take, true, IfSome, IsSome, IsTrue, MatchOption, Some, option_map, pos, neg_ℤ, if◌then◌else◌};
 ghost use Rattle.std.specs.List.{prefix_len};
@@ -39,9 +39,9 @@ pub(super) fn padded_decimal(text: &[u8]) -> Option<(u64, usize)>
     }
 }
 
-/// The decimal number of three to five digits that a text begins with, and how many bytes it takes with
-/// the white bytes before it. One stands before it, or two before three digits, and one after it. Where
-/// fewer bytes are left, some aren't found.
+/// The decimal number of three to five digits at the start of a text, and the number of bytes that it takes
+/// with the white bytes before it. One white byte stands before the number, or two before three digits, and
+/// one white byte after it. If few bytes are left in the text, the number may not be found.
 #[inline(always)]
 pub(super) fn plain_decimal(text: &[u8]) -> Option<(u64, usize)>
     ensures token { IfSome result (λ first. FirstToken text.now (Numeral (numbers.Integer (pos first.0))) first.1) }
@@ -54,7 +54,7 @@ pub(super) fn plain_decimal(text: &[u8]) -> Option<(u64, usize)>
     other_decimal(text)
 }
 
-/// The same, of three digits, as few numbers have.
+/// The answer of `plain_decimal` for a number of three digits. Few numbers have three digits.
 #[inline(always)]
 fn other_decimal(text: &[u8]) -> Option<(u64, usize)>
     ensures token { IfSome result (λ first. FirstToken text.now (Numeral (numbers.Integer (pos first.0))) first.1) }
@@ -73,11 +73,11 @@ fn other_decimal(text: &[u8]) -> Option<(u64, usize)>
     }
 }
 
-/// Where fewer bytes are left, no number of three digits is looked for.
+/// The least number of bytes in which `three_digits` looks for a number.
 const THREE_DIGITS_LEN: usize = 5;
 
-/// The decimal number of three digits that stands between two white bytes at the head of a text, and how
-/// many digits it has.
+/// The decimal number of three digits between two white bytes at the start of a text, and the number of its
+/// digits.
 #[cold]
 #[inline(never)]
 fn three_digits(text: &[u8]) -> Option<(u64, usize)>
@@ -92,11 +92,11 @@ fn three_digits(text: &[u8]) -> Option<(u64, usize)>
     if_digits(number, 3)
 }
 
-/// Where fewer bytes are left, a short decimal number isn't looked for.
+/// The least number of bytes in which `short_decimal` looks for a number.
 const SHORT_LEN: usize = 7;
 
-/// The decimal number of four or five digits that stands between two white bytes at the head of a text,
-/// and how many digits it has. `None` of any other text, and where fewer bytes are left.
+/// The decimal number of four or five digits between two white bytes at the start of a text, and the number
+/// of its digits. `None` for any other text, and for a text of fewer than `SHORT_LEN` bytes.
 #[inline(always)]
 pub(super) fn short_decimal(text: &[u8]) -> Option<(u64, usize)>
     ensures front { IfSome result (λ first. spaced_decimal text.now ≡ Some first) }
@@ -116,7 +116,8 @@ pub(super) fn short_decimal(text: &[u8]) -> Option<(u64, usize)>
     None
 }
 
-/// The number of decimal digits, and how many they are; `None` where a byte among them is no digit.
+/// A sum of weights of decimal digits as a number, and the number of the digits. `None` if a byte among
+/// them is no digit.
 #[inline(always)]
 fn if_digits(number: u64, len: usize) -> Option<(u64, usize)>
     ensures { MatchOption result (2 ^ 32 ≤ number) (λ first. (first ≡ (number, len)) × (number < 2 ^ 32)) }
@@ -128,8 +129,8 @@ fn if_digits(number: u64, len: usize) -> Option<(u64, usize)>
     }
 }
 
-/// The number of one to 18 decimal digits that a text begins with, and how many these are. `None`
-/// where more digits come, or a regular byte, or nothing.
+/// The number that one to 18 decimal digits at the start of a text write, and the number of the digits.
+/// `None` if there are more digits, or if a regular byte or nothing follows the digits.
 #[inline(always)]
 fn decimal(text: &[u8]) -> Option<(u64, usize)>
     ensures front { result ≡ numbers.decimal_front text.now }
@@ -142,14 +143,14 @@ fn decimal(text: &[u8]) -> Option<(u64, usize)>
     Some((number, len))
 }
 
-/// Most numbers have fewer digits.
+/// Most numbers have fewer digits than this.
 const FEW_DIGITS: usize = 8;
 
-/// No number of more digits is read.
+/// The greatest number of digits that `leading_digits` reads.
 const MOST_DIGITS: usize = 18;
 
-/// The number that the digits write that a text begins with, and how many these are. `None` where
-/// there are more than 18 of them, and where nothing follows them.
+/// The number that the digits at the start of a text write, and the number of the digits. `None` if there
+/// are more than 18 digits, or if nothing follows the digits.
 #[inline(always)]
 fn leading_digits(text: &[u8]) -> Option<(u64, usize)>
     ensures { result ≡ numbers.leading_decimal text.now }
@@ -162,8 +163,8 @@ fn leading_digits(text: &[u8]) -> Option<(u64, usize)>
     ended_digits(&text[..text.len().min(MOST_DIGITS + 1)])
 }
 
-/// The number that the digits write that a text begins with, and how many these are. `None` where
-/// nothing follows them.
+/// The number that the digits at the start of a text write, and the number of the digits. `None` if nothing
+/// follows the digits.
 #[inline(always)]
 fn ended_digits(text: &[u8]) -> Option<(u64, usize)>
     requires { length text.now ≤ 19 }
@@ -180,7 +181,7 @@ fn ended_digits(text: &[u8]) -> Option<(u64, usize)>
     None
 }
 
-/// The number that a run of regular bytes is spelled as. Most runs are names, which their first byte shows.
+/// The number that a run of regular bytes spells. The first byte of most runs shows that the run is a name.
 pub(super) fn number_of(run: &[u8]) -> Option<Number>
     ensures { option_map number_seen result ≡ numbers.numeral run.now }
 {
@@ -190,7 +191,7 @@ pub(super) fn number_of(run: &[u8]) -> Option<Number>
     }
 }
 
-/// The same, by all bytes of the run.
+/// The number that a run of regular bytes spells, by all bytes of the run.
 #[tactic(auto, unfolding(crate::specs::Numbers::numeral))]
 fn spelled_number(run: &[u8]) -> Option<Number>
     ensures { option_map number_seen result ≡ numbers.numeral run.now }
@@ -252,7 +253,7 @@ fn is_real(run: &[u8]) -> bool
     ends_real(len, &unsigned[len..])
 }
 
-/// Whether a real may end so after `len` digits.
+/// Whether a text is the rest of a real after its first `len` digits.
 #[tactic(auto, using(std::proofs::lemmas::List::take_rest))]
 fn ends_real(len: usize, text: &[u8]) -> bool
     requires { len + length text.now < 2 ^ 64 }
@@ -300,7 +301,7 @@ fn without_sign(text: &[u8]) -> &[u8]
     }
 }
 
-/// The number that one or more digits of a base write, or `u64::MAX` where it is larger.
+/// The number that one or more digits of a base write, or `u64::MAX` if the number is larger.
 pub(super) fn digits_number(base: u64, text: &[u8]) -> Option<u64>
     requires low { 2 ≤ base }
     requires high { base ≤ 36 }

@@ -1,4 +1,4 @@
-//! Pieces of a text, one after another: tokens, and what stands where no token does.
+//! The pieces of a text in order: tokens and malformed pieces.
 
 ghost use Rattle.std.specs.Prelude.{◌≡◌, ◌+◌, ◌<◌, ◌≤◌, length, drop, IfOk};
 ghost use Rattle.std.specs.List.{All};
@@ -16,25 +16,25 @@ use std::marker::Model;
 /// A piece of a text.
 #[derive(Clone, Copy)]
 pub struct Piece<'a> {
-    /// The token that it is, or why it is none.
+    /// The token of the piece, or the fault of a malformed piece.
     pub token: Result<Token<'a>, MalformedPiece>,
-    /// The offset of the byte after it.
+    /// The offset of the byte after the piece.
     pub end: usize,
-    /// Whether only blanks stand before it in its line.
+    /// Whether only blanks stand before the piece in its line.
     pub begins_line: bool,
 }
 
-/// What is wrong with a piece that is no token.
+/// The fault of a malformed piece, which is no token.
 #[derive(Clone, Copy, Debug, PartialEq, Eq)]
 pub struct MalformedPiece {
     pub kind: Malformed,
-    /// The offset of its fault: of a string that isn't closed its own, of a wrong digit that of the digit,
-    /// of a `)` its own, of a `>` that of the byte after it.
+    /// The offset of the fault: for an unclosed string the start of the string, for a wrong digit the
+    /// digit, for a `)` the `)` itself, and for a `>` the byte after the `>`.
     pub offset: usize,
 }
 
-/// Reads the pieces of a text in order, with white space and comments between them. All pieces together
-/// take time in proportion to the length of the text.
+/// Reads the pieces of a text in order. White space and comments stand between the pieces. The time for
+/// all pieces is proportional to the length of the text.
 #[derive(Drop)]
 pub struct PieceReader<'a> {
     alloc: Global,
@@ -43,7 +43,7 @@ pub struct PieceReader<'a> {
     unclosed: Unclosed,
 }
 
-// A clause sees the pieces that are left.
+// Contracts see the pieces that are left.
 impl<'a> Model for PieceReader<'a> {
     ghost use Rattle.std.specs.Prelude.{◌≤◌, List, length};
     ghost use Rattle.std.specs.List.{All};
@@ -77,7 +77,7 @@ impl<'a> PieceReader<'a> {
         }
     }
 
-    /// The next piece; `None` where only white space and comments are left.
+    /// The next piece; `None` if only white space and comments are left.
     ///
     /// It fails only if memory runs out, and then leaves the reader in place.
     pub fn next_piece(&mut self) -> Result<Option<Piece<'a>>, AllocError>
@@ -122,7 +122,8 @@ fn piece_at<'a>(
     Ok(malformed_piece(text, start))
 }
 
-/// Finds all that isn't closed from an offset of a text on, where no token begins, if it is the first `(`.
+/// Finds all unclosed `(` of a text from the offset `start` on, if a `(` stands there. No token begins at
+/// `start`.
 fn learn(
     alloc: Global,
     text: &[u8],
@@ -139,7 +140,7 @@ fn learn(
     Ok(())
 }
 
-/// The piece that begins at an offset of a text and is no token, and how many bytes it has.
+/// The malformed piece that begins at an offset of a text, and its length in bytes.
 fn malformed_piece<'a>(text: &[u8], start: usize) -> (Result<Token<'a>, MalformedPiece>, usize)
     requires { start ≤ length text.now }
     ensures piece { (piece_token_seen result.0, result.1) ≡ malformed_at start (drop start text.now) }

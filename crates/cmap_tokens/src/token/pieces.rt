@@ -80,7 +80,8 @@ fn literal_name(text: &[u8]) -> (Token<'_>, usize)
     (Token::Name(name), 1 + len)
 }
 
-/// The number or the name that a run is, which a text begins with, and how many bytes it takes.
+/// The number or the name of the run of regular bytes at the start of a text, and the length of the run in
+/// bytes.
 fn run_piece(text: &[u8]) -> (Token<'_>, usize)
     ensures token { token_seen result.0
         ≡ name_or_number (take (prefix_len is_regular text.now) text.now) }
@@ -103,10 +104,10 @@ fn executable_name(bytes: &[u8]) -> Token<'_>
     })
 }
 
-/// How many bytes one white byte and a string of two bytes take, whose digits stand in pairs.
+/// The length of one white byte and a string such as `<8140>`, in bytes.
 pub(super) const TWO_BYTES_LEN: usize = 7;
 
-/// The number that two bytes write, whose string, such as `<8140>`, a text begins with after one white
+/// The big-endian number of a string of two bytes, such as `<8140>`, at the start of a text after one white
 /// byte.
 #[inline(always)]
 pub(super) fn two_bytes(text: &[u8]) -> Option<u16>
@@ -121,8 +122,7 @@ pub(super) fn two_bytes(text: &[u8]) -> Option<u16>
     }
 }
 
-/// The numbers that the two bytes of each of two strings write, which a text begins with after one white
-/// byte each.
+/// The big-endian numbers of two strings of two bytes at the start of a text, each after one white byte.
 #[inline(always)]
 pub(super) fn two_strings(text: &[u8]) -> Option<(u16, u16)>
     ensures first { IfSome result (λ found. spaced_two_bytes text.now ≡ Some found.0) }
@@ -137,11 +137,12 @@ pub(super) fn two_strings(text: &[u8]) -> Option<(u16, u16)>
     Some((first, second))
 }
 
-/// Where fewer bytes are left, no string of two bytes and a decimal number after it are looked for.
+/// The least number of bytes in which `two_bytes_and_decimal` looks for a string and a number.
 const TWO_BYTES_AND_DECIMAL_LEN: usize = 14;
 
-/// The number that two bytes write, the decimal number after it, and how many bytes that takes with the
-/// white bytes before it, where a text begins with such a string after one white byte.
+/// The number of a string of two bytes, the decimal number after the string, and the number of bytes that
+/// the decimal number takes with the white bytes before it. The string stands at the start of the text
+/// after one white byte.
 #[inline(always)]
 pub(super) fn two_bytes_and_decimal(text: &[u8]) -> Option<(u16, u64, usize)>
     ensures string { IfSome result (λ first. spaced_two_bytes text.now ≡ Some first.0) }
@@ -158,12 +159,12 @@ pub(super) fn two_bytes_and_decimal(text: &[u8]) -> Option<(u16, u64, usize)>
     Some((number, decimal, len))
 }
 
-/// Where fewer bytes are left, no two strings of two bytes and a decimal number are looked for.
+/// The least number of bytes in which `two_strings_and_decimal` looks for two strings and a number.
 const TWO_STRINGS_AND_DECIMAL_LEN: usize = TWO_BYTES_LEN + TWO_BYTES_AND_DECIMAL_LEN;
 
-/// The numbers that the two bytes of each of two strings write, the decimal number after them, and how many
-/// bytes that takes with the white bytes before it, where a text begins with such strings after one white
-/// byte each.
+/// The numbers of two strings of two bytes, the decimal number after the strings, and the number of bytes
+/// that the decimal number takes with the white bytes before it. The strings stand at the start of the
+/// text, each after one white byte.
 #[inline(always)]
 pub(super) fn two_strings_and_decimal(text: &[u8]) -> Option<(u16, u16, u64, usize)>
     ensures first { IfSome result (λ found. spaced_two_bytes text.now ≡ Some found.0) }
@@ -181,8 +182,8 @@ pub(super) fn two_strings_and_decimal(text: &[u8]) -> Option<(u16, u16, u64, usi
     Some((first, second, decimal, len))
 }
 
-/// How many bytes a string writes in pairs of digits, one to four, and their number, where a text
-/// begins with such a string after one white byte.
+/// The number of bytes of a string of one to four pairs of digits, and the big-endian number of these
+/// bytes. The string stands at the start of the text after one white byte.
 #[inline(always)]
 pub(super) fn spaced_pairs(text: &[u8]) -> Option<(u8, u32)>
     ensures front { result ≡ spaced_pairs text.now }
@@ -195,7 +196,7 @@ pub(super) fn spaced_pairs(text: &[u8]) -> Option<(u8, u32)>
     }
 }
 
-/// The same, by the bytes after `<`.
+/// The answer of `spaced_pairs`, from the bytes after the `<`.
 #[inline(always)]
 fn short_pairs(text: &[u8]) -> Option<(u8, u32)>
     ensures exact { result ≡ short_pairs text.now }
@@ -213,8 +214,8 @@ fn short_pairs(text: &[u8]) -> Option<(u8, u32)>
     }
 }
 
-/// How many bytes a string writes in pairs of digits, six or eight, and the numbers of the first four
-/// and of the others, where a text begins with such a string after one white byte.
+/// The number of bytes of a string of six or eight pairs of digits, the number of the first four bytes, and
+/// the number of the other bytes. The string stands at the start of the text after one white byte.
 #[inline(always)]
 pub(super) fn spaced_parts(text: &[u8]) -> Option<(u8, u32, u32)>
     ensures front { result ≡ spaced_parts text.now }
@@ -233,7 +234,8 @@ pub(super) fn spaced_parts(text: &[u8]) -> Option<(u8, u32, u32)>
     }
 }
 
-/// Four pairs of digits and `count` more, where `>` follows them.
+/// The number of bytes of four pairs of digits and `count` more, the number of the first four bytes, and
+/// the number of the other bytes, if a `>` follows the digits.
 #[inline(always)]
 fn closed_parts(text: &[u8], count: u8) -> Option<(u8, u32, u32)>
     requires some { 1 ≤ count }
@@ -249,7 +251,7 @@ fn closed_parts(text: &[u8], count: u8) -> Option<(u8, u32, u32)>
     Some((4 + count, high, low))
 }
 
-/// The number of the digits that are the first `len` bytes of a text, where `>` follows them.
+/// The number that the first `len` bytes of a text write, if they are digits and a `>` follows them.
 #[inline(always)]
 fn closed_number(text: &[u8], len: usize) -> Option<u32>
     requires some { 1 ≤ len }

@@ -1,4 +1,4 @@
-//! The parentheses of a text that aren't closed.
+//! The unclosed parentheses of a text.
 
 ghost use Rattle.std.specs.Prelude.{◌⊎◌, ◌≡◌, ◌+◌, ◌++◌, ◌<◌, ◌≤◌, ℕ, List, [], true, get_or, length, IfOk};
 ghost use Rattle.std.specs.List.{All};
@@ -11,21 +11,21 @@ use std::alloc::{AllocError, Global};
 #[derive(Clone, Copy)]
 struct Open {
     offset: usize,
-    /// Whether it stands after a backslash. Then no `)` is its own, and it is closed with the one around
-    /// it.
+    /// Whether a backslash stands before the `(`. Then no `)` belongs to it, and it is closed together
+    /// with the `(` around it.
     escaped: bool,
 }
 
-/// From the first `(` of a text on that isn't closed, all that aren't, in order.
+/// All unclosed `(` of a text from a first one on, in order.
 #[derive(Drop)]
 pub(super) struct Unclosed {
     open: Vec<Open>,
-    /// How many of them have been passed.
+    /// The number of entries of `open` that have been passed.
     passed: usize,
 }
 
 impl Unclosed {
-    /// None.
+    /// No unclosed `(`.
     pub(super) fn none(alloc: Global) -> Self
         ensures { result.open.items ≡ [] }
     {
@@ -35,7 +35,7 @@ impl Unclosed {
         }
     }
 
-    /// All from this offset on, at which the first one stands.
+    /// All unclosed `(` from the offset `first` on, at which the first one stands.
     pub(super) fn from(alloc: Global, text: &[u8], first: usize) -> Result<Self, AllocError>
         requires { first ≤ length text.now }
         ensures { IfOk result (λ made. All (λ one. IsUnclosed text.now one.offset) made.open.items) }
@@ -51,8 +51,7 @@ impl Unclosed {
         })
     }
 
-    /// Whether the `(` at this offset isn't closed, as far as it is known. No later call asks for one
-    /// before it.
+    /// Whether the `(` at this offset is known to be unclosed. No later call has a smaller offset.
     pub(super) fn has(&mut self, offset: usize) -> bool
         ensures has { (text : List ℕ) → All (λ one. IsUnclosed text one.offset) self.old.open.items
             → result ≡ true → IsUnclosed text offset }
@@ -65,8 +64,8 @@ impl Unclosed {
     }
 }
 
-/// Opens or closes what a byte at this offset opens or closes, after a backslash that escapes it or not,
-/// and gives whether it escapes the next one.
+/// Updates the open parentheses for the byte at this offset. `escaped` states whether a backslash
+/// escapes the byte. The answer is whether the byte escapes the next byte.
 fn pass_byte(
     byte: u8,
     offset: usize,
@@ -84,7 +83,7 @@ fn pass_byte(
     Ok(false)
 }
 
-/// Closes the innermost `(`, with all in it that stand after backslashes.
+/// Closes the innermost `(` that isn't escaped, and all escaped `(` inside it.
 fn close(opened: &mut Vec<Open>)
     ensures { (dropped : List Open) × (opened.old.items ≡ opened.new.items ++ dropped)
         × ((opened.new.items ≡ []) ⊎ (plain_count dropped ≡ 1)) }

@@ -10,8 +10,8 @@ use super::byte_class::{BACKSPACE, digit_value};
 use super::gaps::FORM_FEED;
 use super::numerals::{digits_len, digits_number};
 
-/// How many bytes digits in pairs stand for, one to four, and the number that the bytes write, the
-/// high one first.
+/// The number of bytes that one to four pairs of digits stand for, and the big-endian number of
+/// these bytes. `None` for any other text.
 pub(super) fn pairs_number(digits: &[u8]) -> Option<(u8, u32)>
     ensures value { MatchOption result (ArePairs digits.now → ⊥)
         (λ first. ArePairs digits.now × (first.0 ≡ length (hex_value digits.now))
@@ -27,7 +27,7 @@ pub(super) fn pairs_number(digits: &[u8]) -> Option<(u8, u32)>
     Some((len as u8 / 2, number as u32))
 }
 
-/// Appends the bytes of hexadecimal digits, white space among them.
+/// Appends the bytes of hexadecimal digits. White space may stand among the digits.
 pub(super) fn decode_hex(digits: &[u8], out: &mut Vec<u8>)
     requires { vec_len out.old + length digits.now ≤ vec_capacity out.old }
     ensures { out.new.items ≡ out.old.items ++ hex_value digits.now }
@@ -86,7 +86,8 @@ fn first_part(body: &[u8]) -> (Option<u8>, usize)
     }
 }
 
-/// The byte that is meant after a backslash, if any, and how many bytes it takes.
+/// The byte that an escape means, if any, and the number of bytes that the escape takes after its
+/// backslash.
 #[tactic(auto, unfolding(crate::specs::TokenReading::escape))]
 fn escape(text: &[u8]) -> (Option<u8>, usize)
     ensures exact { result ≡ reading.escape text.now }
@@ -106,7 +107,8 @@ fn escape(text: &[u8]) -> (Option<u8>, usize)
     }
 }
 
-/// How many bytes the end of a line takes, by what follows its carriage return.
+/// The length of a line end that begins with a carriage return, in bytes. `text` is the part after
+/// the carriage return.
 fn return_len(text: &[u8]) -> usize
     ensures exact { result ≡ reading.return_len text.now }
     ensures within { result ≤ 1 + length text.now }
@@ -131,7 +133,7 @@ fn escaped_byte(byte: u8) -> u8
     }
 }
 
-/// The value of up to three octal digits, modulo 256, and how many there are.
+/// The value of up to three octal digits, modulo 256, and the number of the digits.
 fn octal(text: &[u8]) -> (u8, usize)
     ensures exact { result ≡ reading.octal text.now }
     ensures within { result.1 ≤ length text.now }
