@@ -350,8 +350,8 @@ static void texts_are_folded() {
     CHECK(hayro::fold("o\uFB03ce\u2002\u8FBB\U000E0100 \uFE35\uFFE8") == "office \u8FBB \uFF08|");
     CHECK(hayro::fold("") == "" && !hayro::fold("a\xFF"s));
     auto font = hayro::Extractor::simple(map_of("beginbfchar <41> <FB01> <42> <2002> endbfchar"));
-    CHECK(font.text("ABC") == "\uFB01\u2002\uFFFD" && font.folded_text("ABC") == "fi \uFFFD");
-    CHECK(font.folded_text("AC", "\uFB02") == "fifl" && font.folded_text("C", "\xFF") == "\xFF");
+    CHECK(font.text("ABC"s) == "\uFB01\u2002\uFFFD" && font.folded_text("ABC"s) == "fi \uFFFD");
+    CHECK(font.folded_text("AC"s, "\uFB02") == "fifl" && font.folded_text("C"s, "\xFF") == "\xFF");
 }
 
 static void pieces_have_grades() {
