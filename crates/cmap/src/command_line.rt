@@ -54,14 +54,14 @@ const CMAP_FILE: FileArgument = FileArgument {
 const OTHER_FILE: FileArgument = FileArgument {
     id: OTHER,
     value_name: "OTHER",
-    help: "The CMap file that it is compared with",
+    help: "The CMap file with which FILE is compared",
 };
 
 /// The table from which `make` makes a file.
 const TABLE: FileArgument = FileArgument {
     id: FILE,
     value_name: "TABLE",
-    help: "The lines that cmap list prints of one layer; - is the standard input",
+    help: "The lines that cmap list prints for one layer; - is the standard input",
 };
 
 /// Arguments of a subcommand, at least one.
@@ -126,7 +126,7 @@ const TEXTS: Arguments = Arguments {
 const OF_FILES: &[Form] = &[
     Form {
         name: "info",
-        about: "Prints what files say: their names, codespace ranges, declarations and layers",
+        about: "Prints the content of files: names, codespace ranges, declarations and layers",
         flags: &[BASE, BUNDLE, NO_PREDEFINED, JSON, BUDGET, LENIENT],
         files: &[],
         arguments: Some(Arguments {
@@ -138,7 +138,7 @@ const OF_FILES: &[Form] = &[
     },
     Form {
         name: "list",
-        about: "Prints each declaration of a file and of those that it is based on",
+        about: "Prints each declaration of a file and of its bases",
         flags: &[
             BASE,
             BUNDLE,
@@ -175,14 +175,14 @@ const OF_FILES: &[Form] = &[
     },
     Form {
         name: "diff",
-        about: "Prints what two files state and what codes have in them, where they differ",
+        about: "Prints the differences between two files: their metadata, and the answers for codes",
         flags: &[BASE, BUNDLE, NO_PREDEFINED, JSON, BUDGET, LENIENT],
         files: &[CMAP_FILE, OTHER_FILE],
         arguments: None,
     },
     Form {
         name: "check",
-        about: "Prints for each file that it is ok, or where it is wrong and why",
+        about: "Prints for each file that it is ok, or the places and the reasons of its faults",
         flags: &[
             BASE,
             BUNDLE,
@@ -261,7 +261,7 @@ const OF_STRINGS: &[Form] = &[
 const WRITING: &[Form] = &[
     Form {
         name: "bundle",
-        about: "Makes a bundle of the files that have known names",
+        about: "Makes a bundle of the files with known names",
         flags: &[OUTPUT, NAME, VERIFY],
         files: &[],
         arguments: Some(Arguments {
@@ -273,7 +273,7 @@ const WRITING: &[Form] = &[
     },
     Form {
         name: "write",
-        about: "Writes anew what a file says, as text",
+        about: "Writes the content of a file anew, as text",
         flags: &[
             BASE,
             BUNDLE,
@@ -291,14 +291,14 @@ const WRITING: &[Form] = &[
     },
     Form {
         name: "repair",
-        about: "Writes anew what a file says apart from its faults, which are reported",
+        about: "Writes a file anew without its faults, and reports these",
         flags: &[BASE, BUNDLE, NO_PREDEFINED, TEXT_OUTPUT],
         files: &[CMAP_FILE],
         arguments: None,
     },
     Form {
         name: "make",
-        about: "Makes a file of the lines that list prints",
+        about: "Makes a file from the lines that list prints",
         flags: &[CMAP_NAME, COLLECTION, VERTICAL, USE, TEXT_OUTPUT],
         files: &[TABLE],
         arguments: None,

@@ -90,7 +90,7 @@ pub(crate) const BASE: Flag = Flag {
     short: None,
     long: "base",
     value: Value::Texts("FOLDER"),
-    help: "A folder with the files that CMap files use by their names, also in its subfolders",
+    help: "A folder in which, and in whose subfolders, used files are found by name",
 };
 
 pub(crate) const BUNDLE: Flag = Flag {
@@ -98,7 +98,7 @@ pub(crate) const BUNDLE: Flag = Flag {
     short: None,
     long: "bundle",
     value: Value::Text("FILE"),
-    help: "A bundle: its tables are for binary files, its files for names that no folder has",
+    help: "A bundle: its tables decode binary files, and it has files for names that no folder has",
 };
 
 pub(crate) const NO_PREDEFINED: Flag = Flag {
@@ -106,7 +106,7 @@ pub(crate) const NO_PREDEFINED: Flag = Flag {
     short: None,
     long: "no-predefined",
     value: Value::Nothing,
-    help: "Looks up names in --base folders and the bundle alone, and not where CMAP_PATH says",
+    help: "Looks up names only in --base folders and the bundle, not in the folders of CMAP_PATH",
 };
 
 pub(crate) const JSON: Flag = Flag {
@@ -122,7 +122,7 @@ pub(crate) const BUDGET: Flag = Flag {
     short: None,
     long: "budget",
     value: Value::Number("N"),
-    help: "The most bytes that a file and the files that it uses may have together",
+    help: "The greatest number of bytes of a file and the files that it uses together",
 };
 
 pub(crate) const LENIENT: Flag = Flag {
@@ -130,7 +130,7 @@ pub(crate) const LENIENT: Flag = Flag {
     short: None,
     long: "lenient",
     value: Value::Nothing,
-    help: "Reads files past their faults, which are reported",
+    help: "Reads files past their faults, and reports these",
 };
 
 pub(crate) const EFFECTIVE: Flag = Flag {
@@ -138,7 +138,7 @@ pub(crate) const EFFECTIVE: Flag = Flag {
     short: None,
     long: "effective",
     value: Value::Nothing,
-    help: "What codes have over all layers, in place of what each layer declares",
+    help: "Prints the answers for codes over all layers, instead of the declarations of each layer",
 };
 
 /// An option of `find`, `decode`, `text` and `encode`; `check` has an option of this name too.
@@ -155,7 +155,7 @@ pub(crate) const MISSING: Flag = Flag {
     short: None,
     long: "missing",
     value: Value::Text("HEX"),
-    help: "The code that stands for each character that no string shows",
+    help: "The code for each character without a string",
 };
 
 /// An option of `find`, `decode`, `text` and `encode`.
@@ -164,7 +164,7 @@ pub(crate) const OF_COLLECTION: Flag = Flag {
     short: None,
     long: "collection",
     value: Value::Text("NAME"),
-    help: "The character collection of the font's CIDs, as Adobe-Japan1",
+    help: "The character collection of the font's CIDs, such as Adobe-Japan1",
 };
 
 /// An option of `find`, `decode`, `text` and `encode`.
@@ -181,7 +181,7 @@ pub(crate) const EXACT: Flag = Flag {
     short: None,
     long: "exact",
     value: Value::Nothing,
-    help: "Only codes that are read as the very piece for which they stand",
+    help: "Uses only codes that are read back as the same text",
 };
 
 pub(crate) const FOLD: Flag = Flag {
@@ -189,7 +189,7 @@ pub(crate) const FOLD: Flag = Flag {
     short: None,
     long: "fold",
     value: Value::Nothing,
-    help: "Texts without variation selectors and presentation forms, with usual spaces and punctuation",
+    help: "Prints texts without variation selectors and presentation forms, with usual spaces and punctuation",
 };
 
 pub(crate) const PIECES: Flag = Flag {
@@ -197,7 +197,7 @@ pub(crate) const PIECES: Flag = Flag {
     short: None,
     long: "pieces",
     value: Value::Nothing,
-    help: "Also the pieces of each text, with their codes and how well these stand for them",
+    help: "Also prints the pieces of each text, with their codes and grades",
 };
 
 pub(crate) const FILES_FROM: Flag = Flag {
@@ -205,7 +205,7 @@ pub(crate) const FILES_FROM: Flag = Flag {
     short: None,
     long: "files-from",
     value: Value::Text("LIST"),
-    help: "A list of further files and folders, one per line; - is the standard input",
+    help: "A list of more files and folders, one per line; - is the standard input",
 };
 
 pub(crate) const NULL: Flag = Flag {
@@ -213,7 +213,7 @@ pub(crate) const NULL: Flag = Flag {
     short: Some('0'),
     long: "null",
     value: Value::Nothing,
-    help: "A zero byte ends each path of the list, and not a line feed",
+    help: "A zero byte, instead of a line feed, ends each path of the list",
 };
 
 pub(crate) const FIRST: Flag = Flag {
@@ -221,7 +221,7 @@ pub(crate) const FIRST: Flag = Flag {
     short: None,
     long: "first",
     value: Value::Nothing,
-    help: "Only the first fault of each file",
+    help: "Prints only the first fault of each file",
 };
 
 pub(crate) const MAX_FAULTS: Flag = Flag {
@@ -229,7 +229,7 @@ pub(crate) const MAX_FAULTS: Flag = Flag {
     short: None,
     long: "max-faults",
     value: Value::Number("N"),
-    help: "The most faults of a file that are printed: 100, and with --json all",
+    help: "The greatest number of printed faults of a file: 100 by default, with --json all",
 };
 
 pub(crate) const QUIET: Flag = Flag {
@@ -237,7 +237,7 @@ pub(crate) const QUIET: Flag = Flag {
     short: Some('q'),
     long: "quiet",
     value: Value::Nothing,
-    help: "Doesn't report how many files were checked",
+    help: "Doesn't report the number of checked files",
 };
 
 pub(crate) const LINT: Flag = Flag {
@@ -245,7 +245,7 @@ pub(crate) const LINT: Flag = Flag {
     short: None,
     long: "lint",
     value: Value::Nothing,
-    help: "Also what looks wrong in files that are accepted",
+    help: "Also prints warnings about accepted files",
 };
 
 pub(crate) const LINT_TO_UNICODE: Flag = Flag {
@@ -253,7 +253,7 @@ pub(crate) const LINT_TO_UNICODE: Flag = Flag {
     short: None,
     long: "to-unicode",
     value: Value::Nothing,
-    help: "As --lint, and what looks wrong in maps to Unicode; name-differs and no-mapping only with --deny NAME",
+    help: "Like --lint, with the warnings for maps to Unicode; name-differs and no-mapping only with --deny NAME",
 };
 
 pub(crate) const DENY: Flag = Flag {
@@ -261,7 +261,7 @@ pub(crate) const DENY: Flag = Flag {
     short: None,
     long: "deny",
     value: Value::Texts("NAME"),
-    help: "As --lint, with status 1 where there is a warning of this name; all is each name",
+    help: "Like --lint, with status 1 if there is a warning of this name; all stands for each name",
 };
 
 pub(crate) const OUTPUT: Flag = Flag {
@@ -285,7 +285,7 @@ pub(crate) const NAME: Flag = Flag {
     short: None,
     long: "name",
     value: Value::Texts("NAME=FILE"),
-    help: "A file by the name that it is to have; it comes before those of the arguments",
+    help: "A file and its name in the bundle; it precedes the files of the arguments",
 };
 
 pub(crate) const VERIFY: Flag = Flag {
@@ -293,7 +293,7 @@ pub(crate) const VERIFY: Flag = Flag {
     short: None,
     long: "verify",
     value: Value::Nothing,
-    help: "Compares what the bundle says with the files, code by code, before it is put in place",
+    help: "Compares the bundle with the files, code by code, before the bundle is put in place",
 };
 
 pub(crate) const CMAP_NAME: Flag = Flag {
@@ -309,7 +309,7 @@ pub(crate) const COLLECTION: Flag = Flag {
     short: None,
     long: "collection",
     value: Value::Text("COLLECTION"),
-    help: "The character collection, as Adobe-Japan1-6",
+    help: "The character collection, such as Adobe-Japan1-6",
 };
 
 pub(crate) const VERTICAL: Flag = Flag {
@@ -333,7 +333,7 @@ pub(crate) const FLATTEN: Flag = Flag {
     short: None,
     long: "flatten",
     value: Value::Nothing,
-    help: "Makes one file of FILE and those that it is based on, with the same answers",
+    help: "Makes one file of FILE and its bases, with the same answers",
 };
 
 pub(crate) const CODES: Flag = Flag {
@@ -341,7 +341,7 @@ pub(crate) const CODES: Flag = Flag {
     short: None,
     long: "codes",
     value: Value::Texts("HEX|@LIST"),
-    help: "As --flatten, with answers for the codes of these strings alone; @LIST is a file of strings, and @- the standard input",
+    help: "Like --flatten, with answers only for the codes of these strings; @LIST is a file of strings, and @- the standard input",
 };
 
 pub(crate) const TIDY: Flag = Flag {
