@@ -45,7 +45,7 @@ complete -c cmap -n '__fish_seen_subcommand_from check' -l files-from -r -d 'A l
 complete -c cmap -n '__fish_seen_subcommand_from check' -s 0 -l null -d 'A zero byte ends each path'
 complete -c cmap -n '__fish_seen_subcommand_from check' -l first -d 'Only the first fault of a file'
 complete -c cmap -n '__fish_seen_subcommand_from check' -l max-faults -x -d 'The most faults of a file'
-complete -c cmap -n '__fish_seen_subcommand_from check' -l lint -d 'Also what looks wrong'
+complete -c cmap -n '__fish_seen_subcommand_from check' -l lint -d 'Also warnings'
 complete -c cmap -n '__fish_seen_subcommand_from check' -l to-unicode -d 'As --lint, for maps to Unicode'
 complete -c cmap -n '__fish_seen_subcommand_from check' -l deny -x -a "$warnings" -d 'Status 1 for a warning'
 complete -c cmap -n '__fish_seen_subcommand_from check' -s q -l quiet -d 'No number of files'
