@@ -3,6 +3,7 @@ use Rattle.std.proofs.Common.{◌≡◌, refl, sym, subst, ℕ, ◌+◌, ◌≤�
 use Rattle.std.proofs.lemmas.List.Sums.{sum_by-append}
 use Rattle.cmap_load.specs.Budgets.{IsOver, PassesAt}
 use Rattle.cmap_load.specs.BytesSpent.{Leaves}
+use Rattle.cmap_load.specs.Loading.{IsCost, IsLeft}
 
 pub sum-append : (front back : List ℕ) → sum (front ++ back) ≡ sum front + sum back
 sum-append front back = sum_by-append (λ x. x) front back
@@ -64,3 +65,28 @@ pub not_over : (budget left : Option ℕ) (count : ℕ) → Leaves budget count 
 not_over None left count h k = k
 not_over (Some budget) None count h k = h
 not_over (Some budget) (Some left) count h k = omega arith
+
+-- ---- costs
+pub IsCost-left : (budget left : Option ℕ) (before count cost : ℕ) → Leaves budget before left → IsCost left count cost → IsCost budget count cost
+IsCost-left None left before count cost leaves h = tt
+IsCost-left (Some budget) None before count cost leaves h = absurd leaves
+IsCost-left (Some budget) (Some left) before count cost leaves h = h
+
+pub Leaves-cost : (budget left after : Option ℕ) (count cost : ℕ) → IsLeft budget left → IsCost budget count cost → Leaves left cost after → Leaves left count after
+Leaves-cost None None after count cost is costs h = h
+Leaves-cost None (Some left) after count cost (before, is) costs h = absurd (cc)
+Leaves-cost (Some budget) None after count cost (before, is) costs h = absurd is
+Leaves-cost (Some budget) (Some left) after count cost is costs h = subst (λ n. Leaves (Some left) n after) (sym costs) h
+
+pub IsOver-cost : (budget left : Option ℕ) (count cost : ℕ) → IsLeft budget left → IsCost budget count cost → IsOver left cost → IsOver left count
+IsOver-cost None None count cost is costs h = h
+IsOver-cost None (Some left) count cost (before, is) costs h = absurd (cc)
+IsOver-cost (Some budget) None count cost (before, is) costs h = absurd is
+IsOver-cost (Some budget) (Some left) count cost is costs h = subst (λ n. IsOver (Some left) n) (sym costs) h
+
+pub IsLeft-less : (budget left after : Option ℕ) (count : ℕ) → IsLeft budget left → Leaves left count after → IsLeft budget after
+IsLeft-less None None after count (before, is) h = (0, h)
+IsLeft-less None (Some left) after count (before, is) h = absurd (cc)
+IsLeft-less (Some budget) None after count (before, is) h = absurd is
+IsLeft-less (Some budget) (Some left) None count (before, is) h = absurd h
+IsLeft-less (Some budget) (Some left) (Some after) count (before, is) h = (before + count, omega arith)

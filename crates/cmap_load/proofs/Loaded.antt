@@ -25,7 +25,7 @@ use Rattle.cmap_load.specs.Loading.{Agrees, Answer, AreLoaded, IsAnswered, IsFau
 use Rattle.cmap_load.specs.Loads.{FitsGiven, IsRefused, Loads, answers_of, budget_of, tables_in, wanted_of}
 use Rattle.cmap_load.specs.declared.loader.Loader.{Loader}
 use Rattle.cmap_load.proofs.Agreed.{IsFault-as, IsMap-agreed, no_map}
-use Rattle.cmap_load.proofs.Begun.{first_answer_pushed}
+use Rattle.cmap_load.proofs.Growing.{first_answer_pushed}
 use Rattle.cmap_load.proofs.Growing.{bytes_at_front}
 use Rattle.cmap_load.proofs.Trails.{files_front, first_as, first_means, opens_only}
 
@@ -159,10 +159,10 @@ module _ {tables : Option PrefixTables} {budget : Option ℕ} {answer : List ℕ
 
 -- a loader with one answer more
 pub one_longer : (old new : Loader) (name : List ℕ) (found : Option (List ℕ)) → wanted_of old ≡ Some name → IfSome (wanted_of old) (λ name. answers_of new ≡ answers_of old ++ record { name = Some name; bytes = found } ∷ [])
-    → length new.table.answers.items ≡ length old.table.answers.items + 1
+    → length new.answers.items ≡ length old.answers.items + 1
 one_longer old new name found is more =
     let pushed : answers_of new ≡ answers_of old ++ record { name = Some name; bytes = found } ∷ [] = subst (λ wanted. IfSome wanted (λ name. answers_of new ≡ answers_of old ++ record { name = Some name; bytes = found } ∷ [])) is more in
     let long : length (answers_of new) ≡ length (answers_of old) + 1 = ap length pushed ∙ simp length-append in
-    let was : length (answers_of old) ≡ length old.table.answers.items = simp length-map in
-    let now : length (answers_of new) ≡ length new.table.answers.items = simp length-map in
+    let was : length (answers_of old) ≡ length old.answers.items = simp length-map in
+    let now : length (answers_of new) ≡ length new.answers.items = simp length-map in
     omega (arith, long, was, now)

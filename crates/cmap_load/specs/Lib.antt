@@ -11,6 +11,8 @@ pub mod Salvage
 pub mod SalvageSeen
 pub mod KnownFiles
 pub mod Searches
-pub mod Indexed
+pub mod Numbers
 pub mod Loading
+pub mod Graphs
+pub mod Tables
 pub mod Loads

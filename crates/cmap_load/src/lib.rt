@@ -8,16 +8,16 @@ mod chain;
 mod faults;
 mod files;
 mod from_source;
+mod graph;
 mod identity;
-mod indices;
 mod known;
 mod loader;
 pub mod named_files;
+mod names;
 pub mod refusal;
 pub mod salvage;
 mod search;
 pub mod source;
-mod step;
 mod table;
 
 pub use chain::read_file;

@@ -12,7 +12,7 @@ loop-name-preserved g c = record {
 
 pub loop-name-smaller : goal.loop-name-smaller
 loop-name-smaller g c =
-    let old = c.loop-name.load.table.answers in let new = c.supply.new.self.table.answers in
+    let old = c.loop-name.load.answers in let new = c.supply.new.self.answers in
     let longer = one_longer c.loop-name.load c.supply.new.self c.in-Some.name.now (option_copied c.file.result) (sym c.in-Some.ensures.asked) c.in_ok-supply.ensures.given in
     let less : 2 ^ 64 - length new.items < 2 ^ 64 - length old.items = omega (arith, longer, new.ok.0, new.ok.1, new.small) in
     less

@@ -10,4 +10,4 @@ invariant-loop-name g l = record {
 }
 
 abbrev pub decreases-loop-name : goal.decreases-loop-name
-decreases-loop-name g l = 2 ^ 64 - length l.load.table.answers.items
+decreases-loop-name g l = 2 ^ 64 - length l.load.answers.items

@@ -1,16 +1,12 @@
-use Rattle.std.proofs.Common.{◌≡◌, arith, List, [], ◌∷◌, length, refl}
-use Rattle.std.specs.Borrow.{Bor}
-use Rattle.std.proofs.Common.{ℕ}
-use Rattle.cmap_values.specs.NamesSeen.{names_seen}
-use Rattle.cmap_load.proofs.Leading.{names_pushed}
+use Rattle.std.proofs.Common.{◌≡◌, arith, List, [], ◌∷◌, length, refl, ℕ}
 use Rattle.cmap_load.proofs.table.last_use.Goals as goal
 
-none_seen : (items : List (Bor (List ℕ))) → length items ≡ 0 → names_seen items ≡ []
-none_seen [] none = refl
-none_seen (item ∷ items) none = absurd (omega (arith, none))
+bare : (items : List ℕ) → length items ≡ 0 → items ≡ []
+bare [] none = refl
+bare (item ∷ items) none = absurd (omega (arith, none))
 
 pub returns-in-Some : goal.returns-in-Some
-returns-in-Some c = (names_seen c.in-Some._others.now, names_pushed c.in-Some._others.now c.args.uses.now c.in-Some.last.now c.in-Some.ensures.cases.0)
+returns-in-Some c = (c.in-Some._others.now, c.in-Some.ensures.cases.0)
 
 pub returns-in-None : goal.returns-in-None
-returns-in-None c = none_seen c.args.uses.now c.in-None.ensures.cases
+returns-in-None c = bare c.args.uses.now c.in-None.ensures.cases

@@ -1,5 +1,0 @@
-use Rattle.std.proofs.Common.{refl}
-use Rattle.cmap_load.proofs.table.take_file.Goals as goal
-
-pub returns-clause-left : goal.returns-clause-left
-returns-clause-left c = (c.replace.new.dest, refl)
