@@ -1,4 +1,4 @@
-/* Prints CIDs by the files of a bundle, which is read once.
+/* Prints CIDs by the files of a bundle, which is opened once.
  *
  *     bundle BUNDLE WORD..
  *

@@ -2,17 +2,17 @@
  *
  *     declared FILE [-b BASE].. [CID..]
  *
- * A line is a declaration of CIDs, as `cid <8140> <817E> 633`, or of texts, as `text 41 42 0061`, with the
- * first and the last code and what it gives to the first; texts are in UTF-16, and their codes have no
- * length. Then come the codes of each CID, as `633 <8140> <8140>`. Each BASE is a file that FILE may use by
- * the last part of its path. */
+ * A line is a declaration of CIDs, such as `cid <8140> <817E> 633`, or of texts, such as `text 41 42 0061`. It
+ * has the first and the last code, and the CID or the text of the first; texts are in UTF-16, and their codes
+ * have no length. The codes of each CID follow, such as `633 <8140> <8140>`. FILE may use each BASE by the
+ * last part of its path. */
 #include <hayro_cmap.h>
 #include <inttypes.h>
 #include <stdio.h>
 #include <stdlib.h>
 #include <string.h>
 
-/* The most files that are handed in with FILE. */
+/* The most files that are passed with FILE. */
 enum { MOST_BASES = 15 };
 
 static _Noreturn void fail(const char *what, const char *why) {

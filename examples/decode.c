@@ -2,10 +2,10 @@
  *
  *     decode FOLDER FILE HEX
  *
- * A line is a code, its CID or none, and its text if it has one, as `<93FA> 3284 日`. Only the files that
- * FILE uses are read. A CMap of a composite font mostly has CIDs alone: the text is then that of the CID
- * in the CMap to Unicode of its character collection, as Adobe-Japan1-UCS2 (ISO 32000-1, 9.10.2), if the
- * folder has it. */
+ * A line is a code, its CID or none, and its text if it has one, such as `<93FA> 3284 日`. Only the files that
+ * FILE uses are read. A CMap of a composite font mostly has only CIDs: the text of a code is then the text of
+ * its CID in the CMap from its character collection to Unicode, such as Adobe-Japan1-UCS2 (ISO 32000-1,
+ * 9.10.2), if the folder has this CMap. */
 #include <hayro_cmap.h>
 #include <errno.h>
 #include <inttypes.h>
@@ -14,10 +14,10 @@
 #include <stdlib.h>
 #include <string.h>
 
-/* The most files that are read, and the most names that one of them uses. */
+/* The most files that are read, the most names that one of them uses, and the bytes of a buffer. */
 enum { MOST_FILES = 64, MOST_NAMES = 64, ROOM = 4096 };
 
-/* Files with their names, of which this program owns the bytes. */
+/* Files with their names. The program owns the bytes of both. */
 struct files {
     hayro_cmap_file items[MOST_FILES];
     size_t len;
@@ -34,7 +34,7 @@ static void *allocated(size_t len) {
     return bytes;
 }
 
-/* The bytes of a file of the folder, with their length. Null where there is none; a name may come from
+/* The bytes of a file of the folder, with their length; null if there is no such file. A name may come from
  * a file, and mustn't lead out of the folder. */
 static uint8_t *read_file(const char *folder, const char *name, size_t *len) {
     if (strchr(name, '/')) return NULL;
@@ -74,7 +74,7 @@ static void add_file(struct files *files, const char *folder, const uint8_t *nam
     else free(copy);
 }
 
-/* Adds the files that a file uses. A file that is refused uses none; its parsing says why. */
+/* Adds the files that a file uses. A malformed file adds none; hayro_cmap_explain then gives the reason. */
 static void add_used(struct files *files, const char *folder, const uint8_t *data, size_t len) {
     hayro_cmap_bundle none = HAYRO_CMAP_EMPTY;
     uint8_t room[ROOM];
@@ -108,7 +108,7 @@ static _Noreturn void fail_refused(const char *name, const hayro_cmap_fault *fau
     exit(1);
 }
 
-/* Reads the map of a file of the folder: whether it is there. */
+/* Reads the map of a file of the folder. It returns whether the file is there. */
 static bool open_map(hayro_cmap *map, const char *folder, const char *name) {
     struct files files = {.len = 0};
     size_t len = 0, needed;
@@ -131,7 +131,7 @@ static bool open_map(hayro_cmap *map, const char *folder, const char *name) {
     return true;
 }
 
-/* Reads the map from the CIDs of a map's collection to Unicode, if there is one, by ISO 32000-1, 9.10.2. */
+/* Reads the map from the CIDs of a map's collection to Unicode, if there is one. ISO 32000-1, 9.10.2. */
 static void open_texts(hayro_cmap *texts, hayro_cmap *map, const char *folder) {
     char registry[64], ordering[64], name[160];
     size_t registry_len, ordering_len;
@@ -168,7 +168,7 @@ static void decode(const uint8_t *string, size_t len, hayro_cmap *map, hayro_cma
     if (status == HAYRO_CMAP_NO_MEMORY) fail("decode", "out of memory");
 }
 
-/* The bytes that hexadecimal digits spell, in place; how many they are. */
+/* Replaces hexadecimal digits by their bytes, in place. It returns the number of bytes. */
 static size_t spelled(char *digits) {
     size_t len = strlen(digits) / 2;
     if (digits[2 * len]) fail(digits, "an odd number of digits");
@@ -184,7 +184,7 @@ int main(int argc, char **argv) {
     if (argc != 4) fail("usage", "decode FOLDER FILE HEX");
     hayro_cmap map = HAYRO_CMAP_EMPTY, own = HAYRO_CMAP_EMPTY, texts = HAYRO_CMAP_EMPTY;
     if (!open_map(&map, argv[1], argv[2])) fail(argv[2], "no such file");
-    /* The texts of FILE itself come first. Each handle is another one. */
+    /* The texts of FILE itself come first. A call takes different handles, so the map needs a second one. */
     if (hayro_cmap_share(&map, &own) != HAYRO_CMAP_OK) fail("decode", "out of memory");
     open_texts(&texts, &map, argv[1]);
     size_t len = spelled(argv[3]);

@@ -2,10 +2,10 @@
 //
 //     decode FOLDER FILE HEX
 //
-// A line is a code, its CID or none, and its text if it has one, as `<93FA> 3284 日`. Only the files that
-// FILE uses are read. A CMap of a composite font mostly has CIDs alone: the text is then that of the CID
-// in the CMap to Unicode of its character collection, as Adobe-Japan1-UCS2 (ISO 32000-1, 9.10.2), if the
-// folder has it.
+// A line is a code, its CID or none, and its text if it has one, such as `<93FA> 3284 日`. Only the files that
+// FILE uses are read. A CMap of a composite font mostly has only CIDs: the text of a code is then the text of
+// its CID in the CMap from its character collection to Unicode, such as Adobe-Japan1-UCS2 (ISO 32000-1,
+// 9.10.2), if the folder has this CMap.
 #include <hayro_cmap.hpp>
 #include <cerrno>
 #include <fstream>
@@ -44,7 +44,7 @@ static std::string message_of(const std::string &name, const hayro::Refusal &ref
     return (names.empty() ? name : names.back()) + ": " + refusal.message();
 }
 
-// The map of a file of the folder over those that it uses; nothing where there is no such file.
+// The map of a file of the folder, over the files that it uses; nothing if there is no such file.
 static std::optional<hayro::Map> map_of(const std::string &folder, const std::string &name) {
     auto get = [&](const std::string &used) { return read(folder, used); };
     auto file = get(name);

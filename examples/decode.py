@@ -3,9 +3,9 @@
 
     decode.py FOLDER FILE HEX
 
-A line is a code, its CID or none, and its text if it has one, as `<93FA> 3284 日`. Only the files that FILE uses are
-read. A CMap of a composite font mostly has CIDs alone: the text is then that of the CID in the CMap to Unicode of its
-character collection, as Adobe-Japan1-UCS2 (ISO 32000-1, 9.10.2), if the folder has it.
+A line is a code, its CID or none, and its text if it has one, such as `<93FA> 3284 日`. Only the files that FILE uses
+are read. A CMap of a composite font mostly has only CIDs: the text of a code is then the text of its CID in the CMap
+from its character collection to Unicode, such as Adobe-Japan1-UCS2 (ISO 32000-1, 9.10.2), if the folder has this CMap.
 """
 
 import sys

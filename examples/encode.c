@@ -2,7 +2,7 @@
  *
  *     encode FILE TEXT [MISSING]
  *
- * The font has the predefined CMap Identity-H, so that its codes have two bytes. FILE is its ToUnicode CMap,
+ * The font has the predefined CMap Identity-H, so its codes have two bytes. FILE is its ToUnicode CMap,
  * which uses no other file. MISSING is a text that stands for each character that no string shows. */
 #include <hayro_cmap.h>
 #include <stdio.h>
@@ -57,7 +57,7 @@ struct string {
     size_t len;
 };
 
-/* The string that shows a text. A code has two bytes, and its text one byte or more. */
+/* The string that shows a text. A code has two bytes, and its text has at least one byte. */
 static struct string encoded(hayro_cmap_encoder *encoder, const char *text) {
     size_t len = strlen(text), offset;
     struct string string = {allocated(2 * len), 0};
@@ -68,7 +68,7 @@ static struct string encoded(hayro_cmap_encoder *encoder, const char *text) {
     return string;
 }
 
-/* The same with another string for each character that no string shows. */
+/* The same with the string `missing` for each character that no string shows. */
 static struct string encoded_lossy(hayro_cmap_encoder *encoder, const char *text, struct string missing) {
     size_t len = strlen(text), room = len * (2 + missing.len);
     struct string string = {allocated(room), 0};

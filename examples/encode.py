@@ -3,7 +3,7 @@
 
     encode.py FILE TEXT [MISSING]
 
-The font has the predefined CMap Identity-H, so that its codes have two bytes. FILE is its ToUnicode CMap, which uses no
+The font has the predefined CMap Identity-H, so its codes have two bytes. FILE is its ToUnicode CMap, which uses no
 other file. MISSING is a text that stands for each character that no string shows.
 """
 

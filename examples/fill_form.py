@@ -3,9 +3,9 @@
 
     fill_form.py FORM OUT NAME=TEXT..
 
-The field of each NAME gets TEXT, and what shows it in the font of the field. That is a composite font with a
-predefined CMap, as 90ms-RKSJ-H or Identity-H, and needs neither a font program nor a ToUnicode CMap: the codes of the
-text have the glyphs that the character collection of the font means. The program needs pikepdf, and the CMap files of
+The field of each NAME gets TEXT, and an appearance that shows it in the font of the field. The font is a composite font
+with a predefined CMap, such as 90ms-RKSJ-H or Identity-H. It needs neither a font program nor a ToUnicode CMap: the
+character collection of the font determines the glyphs of the text. The program needs pikepdf, and the CMap files of
 poppler-data.
 """
 
@@ -20,7 +20,7 @@ FONT = re.compile(r"/(\S+)\s+\S+\s+Tf")
 
 
 def maps_of(font):
-    """The maps of a composite font: its CMap, and those of its character collection from and to Unicode."""
+    """The maps of a composite font: its CMap, and the maps of its character collection from and to Unicode."""
     info = font.DescendantFonts[0].CIDSystemInfo
     encoding = hayro_cmap.CMap.open(str(font.Encoding)[1:])
     return hayro_cmap.Extractor(encoding, collection=f"{info.Registry}-{info.Ordering}", files=hayro_cmap.predefined)

@@ -2,8 +2,8 @@
  *
  *     predefined NAME..
  *
- * The library reads no files by itself: a program that wants a predefined CMap finds its file as here, reads
- * it, and hands it in with those that it uses, as decode.c does with the files of a folder. */
+ * The library opens no files by itself. A program that needs a predefined CMap finds its file as here, reads
+ * it, and passes it with the files that it uses, as decode.c does with the files of a folder. */
 #include <glob.h>
 #include <stdbool.h>
 #include <stdio.h>
@@ -16,7 +16,7 @@ static bool is_file(const char *path) {
     return stat(path, &found) == 0 && S_ISREG(found.st_mode);
 }
 
-/* Takes the first file of a pattern: whether there is one, and it fits. */
+/* Writes the path of the first file of a pattern. It returns whether there is one, and its path fits. */
 static bool take_file(const char *pattern, char *path, size_t path_len) {
     glob_t found;
     if (glob(pattern, 0, NULL, &found) != 0) return false;
@@ -29,8 +29,8 @@ static bool take_file(const char *pattern, char *path, size_t path_len) {
 }
 
 /* Finds the predefined CMap file of a name, in the folders of the environment variable CMAP_PATH or, without
- * it, in those of the system, and in their subfolders: whether there is one. A name may come from a file,
- * and stands for nothing outside of them. */
+ * it, in the folders of the system, and in their subfolders. It returns whether there is one. A name may come
+ * from a file, and mustn't lead out of these folders. */
 static bool find_predefined(const char *name, char *path, size_t path_len) {
     const char *folders = getenv("CMAP_PATH");
     if (!folders) folders = "/usr/share/poppler/cMap:/var/lib/ghostscript/CMap:/usr/share/fonts/cmap";

@@ -1,9 +1,9 @@
-/* Writes a CMap file for some codes alone, as those of a document.
+/* Writes a CMap file for some codes only, such as the codes of a document.
  *
  *     subset FILE [CODE..]
  *
- * It prints a CMap file that answers these codes, in hexadecimal digits, two for each byte, as FILE does, and no
- * others; without codes it answers all. FILE uses no other file. */
+ * It prints a CMap file that has the answers of FILE for these codes only, or for all codes if none is given. A
+ * CODE has two hexadecimal digits for each byte. FILE uses no other file. */
 #include <hayro_cmap.h>
 #include <stdio.h>
 #include <stdlib.h>
@@ -35,7 +35,7 @@ static void check(const char *path, hayro_cmap_status status) {
     if (status != HAYRO_CMAP_OK) fail(path, status == HAYRO_CMAP_NO_MEMORY ? "out of memory" : "refused");
 }
 
-/* The code that the digits write. */
+/* The code with these digits. */
 static hayro_cmap_codes code_of(const char *digits) {
     char *end;
     uint32_t code = (uint32_t)strtoul(digits, &end, 16);

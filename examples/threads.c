@@ -2,15 +2,15 @@
  *
  *     threads FILE [BASE..]
  *
- * It prints how many codes have a CID in each. Each BASE is a file that FILE may use by the last part of its
- * path. */
+ * Each thread counts the codes with a CID, and the program prints the counts. FILE may use each BASE by the last
+ * part of its path. */
 #include "hayro_cmap.h"
 #include <pthread.h>
 #include <stdio.h>
 #include <stdlib.h>
 #include <string.h>
 
-/* How many threads there are, the most bytes of all files, and the most of these. */
+/* The number of threads, the most bytes of all files, and the most files. */
 enum { THREADS = 4, MOST = 1 << 20, MOST_FILES = 16 };
 
 struct task {
@@ -24,7 +24,7 @@ static _Noreturn void fail(const char *why) {
     exit(1);
 }
 
-/* Reads a file to the bytes that are left: the file with its name, the last part of its path. */
+/* Reads a file to the rest of a buffer. It returns the file, named by the last part of its path. */
 static hayro_cmap_file read_file(const char *path, uint8_t *left, size_t left_len) {
     const char *slash = strrchr(path, '/'), *name = slash ? slash + 1 : path;
     FILE *in = fopen(path, "rb");

@@ -2,7 +2,7 @@
  *
  *     to_unicode CODE=TEXT..
  *
- * It prints a CMap file by which each code of two bytes, in hexadecimal digits, has its text, as for
+ * It prints a CMap file by which each code of two bytes, in hexadecimal digits, has its text, such as for
  * `to_unicode 1=R 2=é 3=s 4=ffi`. Texts are in UTF-8. */
 #include <hayro_cmap.h>
 #include <stdio.h>
@@ -26,7 +26,7 @@ static hayro_cmap_declaration declaration(uint16_t kind, uint32_t first, uint32_
     return made;
 }
 
-/* The text of a code, as 2=é says it. */
+/* The declaration of a word, such as 2=é. */
 static hayro_cmap_declaration text_of(const char *word) {
     char *end;
     unsigned long code = strtoul(word, &end, 16);

@@ -2,7 +2,7 @@
 //
 //     to_unicode CODE=TEXT..
 //
-// It prints a CMap file by which each code of two bytes, in hexadecimal digits, has its text, as for
+// It prints a CMap file by which each code of two bytes, in hexadecimal digits, has its text, such as for
 // `to_unicode 1=R 2=é 3=s 4=ffi`. Texts are in UTF-8.
 #include <hayro_cmap.hpp>
 #include <iostream>
@@ -10,7 +10,7 @@
 #include <string>
 #include <vector>
 
-// The text of a code, as 2=é says it.
+// The declaration of a word, such as 2=é.
 static hayro::Declaration text_of(const std::string &word) {
     std::size_t end = 0;
     unsigned long code = std::stoul(word, &end, 16);

@@ -19,7 +19,7 @@ def stream(data):
 
 
 def objects_of(codes, to_unicode):
-    """The objects of the file. The page shows the codes, which the ToUnicode CMap gives their texts."""
+    """The objects of the file. The page shows the codes, to which the ToUnicode CMap gives their texts."""
     content = b"BT /F 24 Tf 72 720 Td <%b> Tj ET" % b"".join(b"%04X" % code for code in codes)
     return [
         b"<< /Type /Catalog /Pages 2 0 R >>",

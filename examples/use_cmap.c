@@ -11,7 +11,7 @@
 
 enum { MOST = 1 << 20, MOST_NAMES = 64 };
 
-/* A stream that uses no file gets this before it. */
+/* The use of the base, which is put before a stream that uses no file. */
 static const char use[] = "/UseCMap usecmap\n";
 
 static _Noreturn void fail(const char *what, const char *why) {
@@ -27,7 +27,7 @@ static size_t read_file(const char *path, uint8_t *bytes) {
     return len;
 }
 
-/* The base, by each name that the stream uses. */
+/* Gives each file a name that the stream uses. It returns the number of names. */
 static size_t add_names(const char *path, const uint8_t *data, size_t len, hayro_cmap_file *files) {
     static uint8_t names[MOST];
     size_t lens[MOST_NAMES], count, needed;

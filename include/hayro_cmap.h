@@ -9,7 +9,7 @@
  *     hayro_cmap_free(&map);
  *
  * The library is one of two builds of the same sources; `pkg-config --variable=build hayro_cmap` prints
- * which one. In the build `proved`, every call is proved to return on any bytes, and docs/PROVED.md says
+ * which one. In the build `proved`, every call is proved to return on any bytes, and docs/PROVED.md lists
  * what is proved of its answers. In the build `plain`, of plain Rust, the same is tested.
  *
  * The caller must keep these rules. Nothing checks them, except null pointers in the plain library:
@@ -28,15 +28,15 @@
  *   hayro_cmap_files, hayro_cmap_room, hayro_cmap_declarations, hayro_cmap_chosen and hayro_cmap_shown
  *   replace it.
  *   In the proved library a null pointer is undefined behaviour; the plain one checks for it. With the
- *   length 0, and in these three structs with any length, null then stands for no items. For any other
- *   null pointer the call writes nothing, and gives HAYRO_CMAP_ABSENT, false, 0 or HAYRO_CMAP_NO_MODE by
- *   its type.
- *   Each pointer points to as many items as its length says, aligned as their type requires; together
- *   they have at most PTRDIFF_MAX bytes.
+ *   length 0, and in a hayro_cmap_file, a hayro_cmap_declaration or a hayro_cmap_facts with any length, null
+ *   then stands for no items. For any other null pointer the call writes nothing, and gives
+ *   HAYRO_CMAP_ABSENT, false, 0 or HAYRO_CMAP_NO_MODE by its type.
+ *   Each pointer points to as many items as its length, aligned as their type requires; together they
+ *   have at most PTRDIFF_MAX bytes.
  * - A buffer, and the target of a pointer to which a call only writes (`cid`, `supplement`, `needed`,
  *   `offset`, `made`, `taken`, `found`, `names`, `extracted`, and `fault` of hayro_cmap_explain), may hold
- *   anything, such as an uninitialised variable or a fresh block of malloc: no answer depends on it. What
- *   a call doesn't write stays as it is.
+ *   anything, such as an uninitialised variable or a fresh block of malloc: no answer depends on it.
+ *   Places that a call doesn't write stay as they are.
  * - If a call writes to the target of one parameter, this target doesn't overlap the target of another
  *   one. The bytes of a file, of a bundle and of names are read only during the call, and nobody writes to
  *   them meanwhile. After the call they need not stay.
@@ -172,10 +172,10 @@ typedef struct hayro_cmap_codes {
 
 /* What a declaration gives its codes. */
 typedef enum hayro_cmap_kind {
-    HAYRO_CMAP_CODESPACE_RANGE = 0, /* a codespace range: each byte between those of `first` and `last` */
+    HAYRO_CMAP_CODESPACE_RANGE = 0, /* a codespace range: each byte between the bytes of `first` and `last` */
     HAYRO_CMAP_CID_RANGE = 1,       /* CIDs, which count on from `cid` */
     HAYRO_CMAP_NOTDEF_RANGE = 2,    /* the CID `cid` for each code that has no other */
-    HAYRO_CMAP_TEXT_RANGE = 3       /* texts, whose last unit of UTF-16 counts on from that of `text` */
+    HAYRO_CMAP_TEXT_RANGE = 3       /* texts, whose last unit of UTF-16 counts on from the last one of `text` */
 } hayro_cmap_kind;
 
 /* A declaration of a file that is made, for the codes from `first` to `last`; for none if `first` is
@@ -185,7 +185,7 @@ typedef struct hayro_cmap_declaration {
     uint16_t byte_len; /* how many bytes the codes have, 1 to 4 */
     uint32_t first;
     uint32_t last;
-    uint32_t cid;        /* the CID of `first`, for a notdef of all codes; ignored for other kinds */
+    uint32_t cid;        /* the CID of `first`, or for a notdef of all codes; ignored for other kinds */
     const uint8_t *text; /* the text of `first`, in UTF-8; ignored for other kinds */
     size_t text_len;
 } hayro_cmap_declaration;
@@ -194,9 +194,9 @@ typedef struct hayro_cmap_declaration {
 typedef struct hayro_cmap_facts {
     const uint8_t *name; /* its name, such as UniJIS-UTF16-H */
     size_t name_len;
-    const uint8_t *registry; /* of its character collection, such as Adobe */
+    const uint8_t *registry; /* the registry of its character collection, such as Adobe */
     size_t registry_len;
-    const uint8_t *ordering; /* such as Japan1 */
+    const uint8_t *ordering; /* the ordering of the collection, such as Japan1 */
     size_t ordering_len;
     int32_t supplement;
     uint8_t has_name;       /* 0 if it has no name */
@@ -223,7 +223,7 @@ typedef enum hayro_cmap_mode {
     HAYRO_CMAP_NO_MODE = 2 /* the file gives none, or there is no map */
 } hayro_cmap_mode;
 
-/* What is wrong with the file at fault. */
+/* The cause of a refusal: what is wrong with the file at fault. */
 typedef enum hayro_cmap_cause {
     HAYRO_CMAP_MALFORMED = 1,    /* it is outside the grammar */
     HAYRO_CMAP_NO_FILE = 2,      /* no file has its name */
@@ -292,7 +292,7 @@ typedef enum hayro_cmap_warning {
     HAYRO_CMAP_WARNING_NOTHING_DECLARED = 0,       /* no codespace range, no declaration, no other file */
     HAYRO_CMAP_WARNING_NO_CODESPACE = 1,           /* no layer has a codespace range */
     HAYRO_CMAP_WARNING_OUTSIDE_CODESPACE = 2,      /* codes with a CID or a notdef in no codespace range */
-    HAYRO_CMAP_WARNING_OVERLAP = 3,                /* codes with two declarations that disagree */
+    HAYRO_CMAP_WARNING_OVERLAP = 3,                /* codes with two declarations of one kind that disagree */
     HAYRO_CMAP_WARNING_INVERTED_RANGE = 4,         /* declarations with the first code above the last */
     HAYRO_CMAP_WARNING_CROSSES_ROW = 5,            /* ranges whose ends differ in another byte than the last */
     HAYRO_CMAP_WARNING_LAST_BYTE = 6,              /* texts of a range whose last byte counts on past 255 */
@@ -302,7 +302,7 @@ typedef enum hayro_cmap_warning {
     HAYRO_CMAP_WARNING_REPLACEMENT_CHARACTER = 10, /* texts with U+FFFD */
     HAYRO_CMAP_WARNING_NULL_CHARACTER = 11,        /* texts with U+0000 */
     HAYRO_CMAP_WARNING_NO_MAPPING = 12,            /* codes of one or two bytes without a text */
-    HAYRO_CMAP_WARNING_NAME_DIFFERS = 13,          /* another name than that of the file; never found here */
+    HAYRO_CMAP_WARNING_NAME_DIFFERS = 13,          /* a name that isn't the file's name; never found here */
     HAYRO_CMAP_WARNING_MODE_DIFFERS = 14,          /* a name in -V, and the writing mode isn't vertical */
     HAYRO_CMAP_WARNING_COUNT_DIFFERS = 15,         /* sections with a wrong number of entries before them */
     HAYRO_CMAP_WARNING_LONG_SECTION = 16,          /* sections with more than 100 entries */
@@ -424,8 +424,8 @@ hayro_cmap_status hayro_cmap_explain(hayro_cmap *map, const uint8_t *data, size_
 /* Reads the CMap file `data`, and the files that it uses, past their faults. It gives the map of everything
  * else, and each fault; the faults of each file are listed once. For a file that hayro_cmap_explain accepts,
  * the map is the same and there is no fault. For any other file, the first fault is one for which
- * hayro_cmap_explain refuses the file, or in a text in rows an earlier one. docs/FORMATS.md defines how
- * reading goes on.
+ * hayro_cmap_explain refuses the file; in a text in rows it may be an earlier one. docs/FORMATS.md defines
+ * how reading goes on, and what a text in rows is.
  *
  * With HAYRO_CMAP_OK the handle has a map. `found` is the number of faults, and `faults` begins with as
  * many of them as fit. The names that lead to the files at fault are written to `room`, the names of the
@@ -454,8 +454,8 @@ hayro_cmap_reading hayro_cmap_read_as(const hayro_cmap_fault *fault, const uint8
  * ToUnicode CMap.
  *
  * `shown` has the numbers of the codes that are shown with the font, in ascending order, each once. A
- * finding counts those that it concerns. A declaration concerns the codes between its ends; with
- * HAYRO_CMAP_WARNING_NO_TEXT only those that get no text. A string concerns the codes of its entry, and a
+ * finding counts the shown codes that it concerns. A declaration concerns the codes between its ends; with
+ * HAYRO_CMAP_WARNING_NO_TEXT only the codes without a text. A string concerns the codes of its entry, and a
  * text in a list only its own code.
  *
  * With HAYRO_CMAP_OK the findings are at the head of `findings`, and `needed` is their number. With
@@ -471,7 +471,7 @@ hayro_cmap_status hayro_cmap_warning_name(uint32_t warning, uint8_t *room, size_
                                           size_t *needed);
 
 /* Reads the file of this name as hayro_cmap_parse_over does, so that the map has its metadata: the first of
- * `files` with the name, otherwise that of the bundle. If neither has one, Identity-H and Identity-V are
+ * `files` with the name, otherwise the file of the bundle. If neither has one, Identity-H and Identity-V are
  * made without a file, and any other name gives HAYRO_CMAP_ABSENT. */
 hayro_cmap_status hayro_cmap_open(hayro_cmap *map, const uint8_t *name, size_t name_len,
                                   hayro_cmap_bundle *bundle,
@@ -545,14 +545,14 @@ hayro_cmap_status hayro_cmap_decode(hayro_cmap *map, const uint8_t *text, size_t
                                     size_t *taken);
 
 /* Cuts a string of a font into codes, one after another, each with its CID and its text, as in ISO
- * 32000-1, 9.10.2. `encoding` is the map of the font's CMap, `to_unicode` that of its ToUnicode CMap, and
+ * 32000-1, 9.10.2. `encoding` is the map of the font's CMap, `to_unicode` the map of its ToUnicode CMap, and
  * `collection` a map from CIDs to Unicode, such as Adobe-Japan1-UCS2. The last two handles are empty if
  * there is no such map. The three handles are different: if one map serves twice, hayro_cmap_share makes
  * another handle of it.
  *
- * The codes are those of hayro_cmap_decode. The CID is the one that the map declares, never the Unicode
- * number that hayro_cmap_cid gives for a code that has nothing else. The text is that of the code in
- * `to_unicode`, otherwise that of the CID in `collection`; otherwise there is none.
+ * hayro_cmap_decode cuts the string into the same codes. The CID is the one that the map declares, never the
+ * Unicode number that hayro_cmap_cid gives for a code that has nothing else. The text is the text of the code
+ * in `to_unicode`, otherwise the text of the CID in `collection`; otherwise there is none.
  *
  * As many codes as fit are written to the head of `characters`, and their texts, in UTF-8 and one after
  * another, to the head of `text`; the rest of both is unchanged. `extracted` tells how far the call went; a
@@ -597,26 +597,27 @@ hayro_cmap_mode hayro_cmap_writing_mode(hayro_cmap *map);
  * on, and so on. An empty handle has none. */
 size_t hayro_cmap_layers(hayro_cmap *map);
 
-/* The name of the file of a layer. The five calls above give the metadata of layer 0, and these five calls of
- * any layer; a missing layer has none. */
+/* The name of the file of a layer, written like the text of hayro_cmap_text. hayro_cmap_name and the four calls
+ * after it give the metadata of layer 0. This call and the next four give the metadata of any layer; a missing
+ * layer has none. */
 hayro_cmap_status hayro_cmap_layer_name(hayro_cmap *map, size_t layer, uint8_t *room,
                                         size_t room_len, size_t *needed);
 
-/* The registry of a layer, as of hayro_cmap_registry. */
+/* The registry of a layer's character collection, written in the same way. */
 hayro_cmap_status hayro_cmap_layer_registry(hayro_cmap *map, size_t layer, uint8_t *room,
                                             size_t room_len, size_t *needed);
 
-/* The ordering of a layer, as of hayro_cmap_ordering. */
+/* The ordering of a layer's character collection, written in the same way. */
 hayro_cmap_status hayro_cmap_layer_ordering(hayro_cmap *map, size_t layer, uint8_t *room,
                                             size_t room_len, size_t *needed);
 
-/* Whether a layer has a character collection, as hayro_cmap_supplement. */
+/* Whether a layer has a character collection, whose supplement is then written to `supplement`. */
 bool hayro_cmap_layer_supplement(hayro_cmap *map, size_t layer, int32_t *supplement);
 
 /* The writing mode of a layer. */
 hayro_cmap_mode hayro_cmap_layer_writing_mode(hayro_cmap *map, size_t layer);
 
-/* The writing mode of a font's strings: that of the first layer that gives one, otherwise
+/* The writing mode of a font's strings: the mode of the first layer that gives one, otherwise
  * HAYRO_CMAP_HORIZONTAL; HAYRO_CMAP_NO_MODE if there is no map. */
 static inline hayro_cmap_mode hayro_cmap_effective_writing_mode(hayro_cmap *map) {
     const size_t layers = hayro_cmap_layers(map);
@@ -688,7 +689,7 @@ hayro_cmap_status hayro_cmap_make(const hayro_cmap_facts *facts,
  * line for each row of 256 codes: CIDs for all codes of four bytes take half a gigabyte, whatever the budget
  * of the map was.
  *
- * The text is written like that of hayro_cmap_make. With HAYRO_CMAP_REFUSED no single file has these
+ * The text is written like the text of hayro_cmap_make. With HAYRO_CMAP_REFUSED no single file has these
  * answers, for example because a layer gives a code a text of one character above a layer that gives it a
  * CID; or no text can express the file; or `codes` have a length outside 1 to 4. An empty handle gives
  * HAYRO_CMAP_ABSENT. Then, and with HAYRO_CMAP_NO_MEMORY, nothing is written. */
@@ -739,14 +740,14 @@ void hayro_cmap_encoder_free(hayro_cmap_encoder *encoder);
  *
  * With HAYRO_CMAP_OK the string is at the head of the buffer `room`, and `needed` is its number of bytes. With
  * HAYRO_CMAP_NO_ROOM `needed` is this number, and the buffer is unchanged. With HAYRO_CMAP_REFUSED the text can't be
- * encoded, and only `offset` is written: the end, in bytes, of the longest prefix that can be encoded, or for a text
- * that isn't UTF-8 of the longest prefix that is. An empty handle gives HAYRO_CMAP_ABSENT. Then, and with
+ * encoded, and only `offset` is written: the end, in bytes, of the longest prefix that can be encoded, or, if the
+ * text isn't UTF-8, of the longest prefix that is UTF-8. An empty handle gives HAYRO_CMAP_ABSENT. Then, and with
  * HAYRO_CMAP_NO_MEMORY, nothing is written. */
 hayro_cmap_status hayro_cmap_encode(hayro_cmap_encoder *encoder, const uint8_t *text, size_t text_len,
                                     uint8_t *room, size_t room_len, size_t *needed, size_t *offset);
 
-/* The pieces of a text, one after another, whose codes hayro_cmap_encode gives. The answer is like that of
- * hayro_cmap_encode, with pieces instead of bytes. */
+/* The pieces of a text, one after another, whose codes hayro_cmap_encode gives. They are written like the
+ * string of hayro_cmap_encode, with pieces instead of bytes. */
 hayro_cmap_status hayro_cmap_encode_pieces(hayro_cmap_encoder *encoder, const uint8_t *text,
                                            size_t text_len, hayro_cmap_piece *pieces,
                                            size_t pieces_len, size_t *needed, size_t *offset);
@@ -754,14 +755,14 @@ hayro_cmap_status hayro_cmap_encode_pieces(hayro_cmap_encoder *encoder, const ui
 /* The string of a text as far as it can be encoded: the longest prefix that can be, then the bytes of `missing` for
  * the character after it, such as 3F for a question mark, and so on for the rest of the text. It is written like the
  * string of hayro_cmap_encode. `missing` must be empty or whole codes of the font, since other bytes may change how
- * later bytes are read. With HAYRO_CMAP_REFUSED `missing` isn't, or the text isn't UTF-8, and nothing is written; an
- * empty text is refused only for `missing`. */
+ * later bytes are read. With HAYRO_CMAP_REFUSED `missing` has other bytes, or the text isn't UTF-8, and nothing is
+ * written; an empty text is refused only for `missing`. */
 hayro_cmap_status hayro_cmap_encode_lossy(hayro_cmap_encoder *encoder, const uint8_t *text,
                                           size_t text_len, const uint8_t *missing, size_t missing_len,
                                           uint8_t *room, size_t room_len, size_t *needed);
 
 /* A text in UTF-8 in the characters that are usually written for what it shows, so that it can be searched and split.
- * Texts that fonts give, as those of hayro_cmap_extract, may have others:
+ * Texts of fonts, such as from hayro_cmap_extract, may have other characters:
  * - variation selectors, which are dropped;
  * - presentation forms of Latin, Armenian, Hebrew and Arabic letters (U+FB00 to U+FDFF, U+FE70 to U+FEFF), and Kangxi
  *   radicals (U+2F00 to U+2FDF), which become the letters or the ideograph to which the Unicode Standard decomposes

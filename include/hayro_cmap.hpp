@@ -5,9 +5,9 @@
 //     else if (auto cid = map->cid(0x3042, 2)) std::cout << *cid << '\n';
 //
 // The classes wrap hayro_cmap.h and free what they own. A refused file is a value. If memory runs out,
-// std::bad_alloc is thrown; predefined_file and encode_lossy also throw other exceptions. Without
-// exceptions, as with -fno-exceptions, the program is aborted in these cases. Calls that are noexcept
-// allocate nothing.
+// std::bad_alloc is thrown; predefined_file, open_predefined, find_predefined_collection and encode_lossy
+// also throw other exceptions. Without exceptions, such as with -fno-exceptions, the program is aborted in
+// these cases. Calls that are noexcept allocate nothing.
 //
 // - A Map, a Bundle or an Encoder can be moved but not copied. A moved-from one is empty, and has no
 //   answers.
@@ -76,8 +76,8 @@ enum class Grade : std::uint32_t {
     stated = HAYRO_CMAP_GRADE_STATED,         // the ToUnicode CMap has the piece as the text of the code
     canonical = HAYRO_CMAP_GRADE_CANONICAL,   // the code has the CID that the map from Unicode gives
     collection = HAYRO_CMAP_GRADE_COLLECTION, // the map of the collection has the piece for the code's CID
-    alike = HAYRO_CMAP_GRADE_ALIKE,           // the code shows a text that looks or means the same, or is none
-    national = HAYRO_CMAP_GRADE_NATIONAL      // the ASCII byte that a national version shows otherwise
+    alike = HAYRO_CMAP_GRADE_ALIKE,           // the same look or meaning; or a variation selector without a code
+    national = HAYRO_CMAP_GRADE_NATIONAL      // an ASCII byte that a version of ISO 646 shows as another character
 };
 
 // What is wrong with the file at fault.
@@ -113,7 +113,7 @@ enum class Reason : std::uint16_t {
 
 // What a part at fault is read as, if a text is read past its faults.
 enum class ReadAs : std::uint32_t {
-    nothing = HAYRO_CMAP_READ_AS_NOTHING,             // it is lost, or the bytes before the fault don't show it
+    nothing = HAYRO_CMAP_READ_AS_NOTHING,             // it is lost, or the bytes before the fault don't show more
     empty_text = HAYRO_CMAP_READ_AS_EMPTY_TEXT,       // an empty string as the empty text
     extended_code = HAYRO_CMAP_READ_AS_EXTENDED_CODE, // a longer second code of a codespace range, whose first
                                                       // code gets leading bytes 0
@@ -136,7 +136,7 @@ public:
     constexpr Span() noexcept = default;
     constexpr Span(T *data, std::size_t size) noexcept : data_(data), size_(size) {}
     template <std::size_t Count> constexpr Span(T (&values)[Count]) noexcept : Span(values, Count) {}
-    // Of a container, such as std::vector<T> or std::array<T, N>.
+    // The values of a container, such as std::vector<T> or std::array<T, N>.
     template <class Container, class = std::enable_if_t<std::is_convertible_v<
                                    decltype(std::declval<Container &>().data()), T *>>>
     constexpr Span(Container &values) noexcept : Span(values.data(), values.size()) {}
@@ -221,7 +221,7 @@ public:
     Files(std::initializer_list<std::pair<Bytes, Bytes>> files) {
         for (const auto &[name, bytes] : files) add(name, bytes);
     }
-    // Of pairs of a name and bytes, such as those of a std::map<std::string, std::string>.
+    // Files from pairs of a name and bytes, such as the entries of a std::map<std::string, std::string>.
     template <class Pairs, class = std::enable_if_t<std::is_convertible_v<
                                decltype(std::begin(std::declval<const Pairs &>())->first), Bytes>>>
     Files(const Pairs &files) {
@@ -302,7 +302,7 @@ template <class Ask> std::optional<std::string> written_to(std::string room, Ask
     }
 }
 
-// The same for what is mostly short.
+// The same for answers that are mostly short: the first buffer is on the stack.
 template <class Ask> std::optional<std::string> written(Ask ask) {
     std::uint8_t first[64];
     std::size_t needed = 0;
@@ -347,7 +347,7 @@ public:
     // No bundle.
     Bundle() noexcept = default;
 
-    // The bundle of these bytes, which need not stay; nothing if they are invalid.
+    // The bundle of these bytes, which are copied; nothing if they are invalid.
     static std::optional<Bundle> open(Bytes bytes) {
         Bundle bundle;
         Status status = hayro_cmap_bundle_open(bundle.handle(), bytes.data(), bytes.size());
@@ -372,7 +372,7 @@ public:
     // Whether there is no bundle.
     bool empty() const noexcept { return !handle_.get()->full; }
 
-    // For the calls of hayro_cmap.h. The bundle still owns it.
+    // The handle, for the calls of hayro_cmap.h. The bundle still owns it.
     hayro_cmap_bundle *handle() noexcept { return handle_.get(); }
 
 private:
@@ -388,10 +388,10 @@ public:
     // What is wrong with the file at fault.
     Cause cause() const noexcept { return static_cast<Cause>(fault_.cause); }
 
-    // For a malformed file; otherwise Reason::none.
+    // What is wrong with a malformed file; otherwise Reason::none.
     Reason reason() const noexcept { return static_cast<Reason>(fault_.reason); }
 
-    // For a malformed binary file, if the reason concerns a segment; otherwise Segment::none.
+    // The segment of a malformed binary file, if the reason concerns one; otherwise Segment::none.
     Segment segment() const noexcept { return static_cast<Segment>(fault_.segment); }
 
     // Where reading a malformed file stopped, in bytes.
@@ -454,7 +454,7 @@ struct Decoded {
     bool whole;        // whether that is the whole string
 };
 
-// The metadata of a file. What it doesn't give is absent.
+// The metadata of a file. Members that the file doesn't give are absent.
 struct Metadata {
     std::optional<std::string> name;
     std::optional<std::string> registry;
@@ -490,7 +490,7 @@ public:
 
     // Reads a CMap file over the files that it uses. A name stands for the first of `files` with this
     // name, otherwise for the file of the bundle; Identity-H and Identity-V need no file. The opened files
-    // together may have at most `budget` bytes; a file counts as often as it is used. Files of the bundle
+    // together may have at most `budget` bytes; each file counts as often as it is used. Files of the bundle
     // count only if they are used. If no file has their names, Identity-H and Identity-V count 177 bytes
     // each.
     static Result parse(Bytes data, const Files &files = {}, std::uint64_t budget = no_budget);
@@ -693,7 +693,7 @@ public:
         });
     }
 
-    // For the calls of hayro_cmap.h. The map still owns it.
+    // The handle, for the calls of hayro_cmap.h. The map still owns it.
     hayro_cmap *handle() noexcept { return handle_.get(); }
 
 private:
@@ -752,7 +752,7 @@ public:
         using pointer = void;
         using reference = Layer;
 
-        // Of no map, as ranges of C++20 need one.
+        // An iterator of no map: ranges of C++20 need this constructor.
         iterator() noexcept = default;
         iterator(Map &map, std::size_t index) noexcept : map_(&map), index_(index) {}
         Layer operator*() const noexcept { return {*map_, index_}; }
@@ -783,9 +783,9 @@ private:
 
 inline Layers Map::layers() & noexcept { return Layers(*this); }
 
-// The text of a CMap file with this metadata, and with the fewest declarations that give each code the same as
-// these. A registry without an ordering is left out, and so is an ordering without a registry. Nothing if no file
-// can express it: a code length outside 1 to 4, a text that is empty or isn't UTF-8, a code that doesn't fit in
+// The text of a CMap file with this metadata, and with the fewest declarations that give each code the same as the
+// given ones. A registry without an ordering is left out, and so is an ordering without a registry. Nothing if no
+// file can express it: a code length outside 1 to 4, a text that is empty or isn't UTF-8, a code that doesn't fit in
 // its length, or a name with a byte that no name has.
 inline std::optional<std::string> make(const Metadata &metadata,
                                        const std::vector<Declaration> &declarations) {
@@ -839,7 +839,7 @@ inline std::optional<std::string> unicode_name(Bytes collection,
     });
 }
 
-// A text in the characters that are usually written for what it shows, as hayro_cmap_fold has it, so that it can be
+// A text in the characters that are usually written for what it shows, as hayro_cmap_fold gives it, so that it can be
 // searched and split: without variation selectors and presentation forms, with usual spaces and punctuation. Nothing if
 // the text isn't UTF-8.
 inline std::optional<std::string> fold(Bytes text) {
@@ -915,7 +915,7 @@ public:
         return text;
     }
 
-    // The same as fold gives it; `missing` is UTF-8.
+    // The same text, folded by fold; `missing` is UTF-8.
     std::string folded_text(CodeString string, std::string_view missing = "\xEF\xBF\xBD") {
         std::string exact = text(string, missing);
         return fold(exact).value_or(exact);
@@ -924,7 +924,7 @@ public:
 private:
     friend class Encoder;
 
-    // The character collection of this name, otherwise that of the first file of the encoding that has one.
+    // This name of a character collection; if it is empty, the name from the first layer of the encoding that has one.
     std::optional<std::string> collection_of(const std::string &name) {
         if (!name.empty()) return name;
         for (const auto &layer : encoding_.layers())
@@ -965,12 +965,12 @@ public:
 
     explicit operator bool() const noexcept { return std::holds_alternative<Value>(either_); }
     const Value &operator*() const & noexcept { return *std::get_if<Value>(&either_); }
-    // By value, so that a loop may go over it.
+    // By value, so that a range-based for loop may use a temporary object.
     Value operator*() && noexcept { return std::move(*std::get_if<Value>(&either_)); }
     const Value *operator->() const noexcept { return std::get_if<Value>(&either_); }
 
-    // The end, in bytes, of the longest prefix of the text that can be encoded, or for a text that isn't
-    // UTF-8 of the longest prefix that is.
+    // The end, in bytes, of the longest prefix of the text that can be encoded, or, if the text isn't UTF-8,
+    // of the longest prefix that is UTF-8.
     std::size_t offset() const noexcept { return *std::get_if<std::size_t>(&either_); }
 
 private:
@@ -1001,7 +1001,7 @@ public:
         return other;
     }
 
-    // The string of a text, piece by piece, as hayro_cmap_encode has it.
+    // The string of a text, piece by piece, as hayro_cmap_encode gives it.
     Encoded encode(Bytes text) {
         std::size_t offset = 0;
         auto string = detail::written_to(room_for(text), [&](auto room, auto len, auto needed) {
@@ -1045,7 +1045,7 @@ public:
     // Whether there is no encoder.
     bool empty() const noexcept { return !handle_.get()->full; }
 
-    // For the calls of hayro_cmap.h. The encoder still owns it.
+    // The handle, for the calls of hayro_cmap.h. The encoder still owns it.
     hayro_cmap_encoder *handle() noexcept { return handle_.get(); }
 
 private:
@@ -1077,8 +1077,8 @@ private:
     std::variant<Map, Refusal> either_;
 };
 
-// A map, and the faults past which its files were read, the faults of each file once. The faults of a file are in
-// the order of their offsets, before those of the files that it uses.
+// A map, and the faults past which its files were read. The faults of a file are listed once, in the order of their
+// offsets, before the faults of the files that it uses.
 struct Salvaged {
     Map map;
     std::vector<Refusal> faults;
@@ -1092,7 +1092,7 @@ inline Extractor Extractor::simple(Map to_unicode) {
 template <class Open>
 FoundCollection Extractor::find(const std::string &collection, Open open) {
     FoundCollection found;
-    // Whether the file of a name has a map, which goes to its place.
+    // Opens the file of a name, and moves its map to the place. It returns whether there is a map.
     auto take = [&](Map &place, const std::string &name) {
         std::optional<Result> opened = open(name);
         if (opened && !*opened && !found.refusal) found.refusal = opened->refusal();
@@ -1219,7 +1219,7 @@ inline std::optional<std::vector<std::string>> uses(Bytes data) {
 inline std::optional<Result> Map::parse_with_base(Bytes data, Map &base, std::uint64_t budget) {
     const auto file = write(base);
     if (!file) return std::nullopt;
-    // A text outside the grammar is refused before a file is asked for.
+    // A text outside the grammar is refused before any file is looked up.
     const auto used = uses(data).value_or(std::vector<std::string>());
     const std::set<std::string> names(used.begin(), used.end());
     Files files;
@@ -1239,7 +1239,7 @@ template <class Get>
 std::map<std::string, std::string> used_files(Bytes data, Bundle &bundle, Get get) {
     std::map<std::string, std::string> found, of_bundle;
     std::vector<std::string> row = uses(data, bundle).value_or(std::vector<std::string>());
-    // What the first file uses, what these use, and so on, as far as a chain may go.
+    // The files that the first file uses, then the files that these use, and so on, up to the length of a chain.
     for (int files = 1; files < most_files && !row.empty(); files++) {
         std::vector<std::string> next;
         for (const auto &name : row) {
@@ -1275,7 +1275,7 @@ inline std::optional<std::string> bytes_of(const std::filesystem::path &path) {
         in.read(part.data(), part.size());
         bytes.append(part.data(), static_cast<std::size_t>(in.gcount()));
     } while (in);
-    // A file that was read to its end sets eofbit, one that can't be opened or read doesn't.
+    // Reading a file to its end sets eofbit; a file that can't be opened or read doesn't set it.
     if (!in.eof())
         raise(std::filesystem::filesystem_error("a CMap file can't be read", path,
                                                 std::error_code(errno, std::generic_category())));

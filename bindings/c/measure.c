@@ -2,11 +2,13 @@
  *
  *     measure cid|strict|decode|cids|extract|apart|encode FILE N [COLLECTION [UNICODE]]
  *
- * A round calls hayro_cmap_cid or hayro_cmap_cid_strict for each code, hayro_cmap_decode for a string of all of
- * them, or hayro_cmap_cids for all at once; or hayro_cmap_extract for the string, with the map COLLECTION, or in its
- * place hayro_cmap_decode, and hayro_cmap_text for each CID. It prints the sum of the CIDs of the last round, and of the
- * bytes of the texts. Or a round calls hayro_cmap_encode for the texts of all these codes together, by an encoder with the
- * map UNICODE, if it is given, and it prints how many characters they have. */
+ * A round of `cid` or `strict` calls hayro_cmap_cid or hayro_cmap_cid_strict for each code. `cids` calls
+ * hayro_cmap_cids for all codes, and `decode` calls hayro_cmap_decode for a string of all codes. `extract` calls
+ * hayro_cmap_extract for the string, with the map COLLECTION; `apart` calls hayro_cmap_decode, and hayro_cmap_text for
+ * each CID. The program prints the sum of the CIDs of the last round and of the numbers of bytes of the texts.
+ *
+ * `encode` calls hayro_cmap_encode for the texts of all codes together, by an encoder with the map UNICODE, if it is
+ * given. The program then prints the number of characters. */
 #include "hayro_cmap.h"
 #include <inttypes.h>
 #include <stdio.h>
@@ -95,7 +97,8 @@ static uint64_t apart(hayro_cmap *map) {
     return sum;
 }
 
-/* The texts of codes in codespace ranges that have a glyph, one after another: how many bytes they have. */
+/* Writes the texts of codes that lie in a codespace range and have a CID other than 0, one after another. It returns
+ * their number of bytes. */
 static size_t text_of_all(hayro_cmap *map) {
     size_t made = extract_all(map), len = 0;
     for (size_t i = 0; i < made; i++)

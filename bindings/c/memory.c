@@ -1,11 +1,11 @@
-/* Reads a file past its faults, and finds what looks wrong in another one: calls that take memory and that no example
- * makes. Without memory it says so, with status 1. */
+/* Reads a file past its faults, and finds what looks wrong in another file: calls that take memory and that no example
+ * makes. If memory runs out, it reports this, with status 1. */
 #include <hayro_cmap.h>
 #include <stdio.h>
 
 #define TEXT(literal) hayro_cmap_bytes(literal), sizeof(literal) - 1
 
-/* A file at fault, over one at fault, which uses a file that is missing. */
+/* Reads a file at fault over another file at fault, which uses a missing file. */
 static hayro_cmap_status read_past_faults(hayro_cmap *map) {
     hayro_cmap_bundle none = HAYRO_CMAP_EMPTY;
     hayro_cmap_file file = {TEXT("AB"), TEXT("begincidchar <> 8 <44> 9 endcidchar /C usecmap")};
@@ -20,7 +20,8 @@ static hayro_cmap_status read_past_faults(hayro_cmap *map) {
     return status;
 }
 
-/* A file without a codespace range, whose range crosses a row, and whose name is that of vertical texts. */
+/* Finds what looks wrong in a file: it has no codespace range, its range crosses a row, and its name is for vertical
+ * writing. */
 static hayro_cmap_status find_warnings(hayro_cmap *map) {
     hayro_cmap_status status =
         hayro_cmap_parse(map, TEXT("/CMapName /A-V def begincidrange <01F0> <0210> 5 endcidrange"), TEXT(""),

@@ -1,5 +1,5 @@
-// Tests of hayro_cmap.h: each call, and what it leaves unwritten. It prints `ok`, or the lines of the checks that
-// failed, with status 1.
+// Tests of hayro_cmap.h: each call, and the places that it leaves unwritten. The program prints `ok`, or the lines of
+// the checks that failed, with status 1.
 #include "hayro_cmap.h"
 #include <stdio.h>
 #include <string.h>
@@ -14,7 +14,7 @@ static int failed = 0;
         }                                                                                          \
     } while (0)
 
-// The bytes of a literal, and how many they are.
+// The bytes of a literal, and their number.
 #define TEXT(literal) hayro_cmap_bytes(literal), sizeof(literal) - 1
 #define BYTES(bytes) (bytes), sizeof(bytes)
 
@@ -29,7 +29,7 @@ static const uint8_t BUNDLE[] = {0, 0, 0, 19,  0,   2,   1,   0,   2, 0, 0, 0,  
                                  0, 1, 1, 0,   1,   4,   'b', 'c', 'm', 'a', 'p', 1,  0, 0, 0, 26,
                                  4, 0, 0, 0,   16,  0,   2,   0,   0, 0, 1, 0x40, 0, 5, 0, 0};
 
-// A file that uses the one of the bundle.
+// A file that uses the file of the bundle.
 #define OVER_IT "/83pv-RKSJ-H usecmap"
 
 static bool same(const void *bytes, const void *expected, size_t len) {
@@ -306,7 +306,8 @@ static void a_string_is_extracted_up_to_the_rooms(void) {
     hayro_cmap_free(&encoding);
 }
 
-// An encoder of codes of one byte: one with a character, one with two, one without a text, and one whose CID has a text.
+// An encoder of codes of one byte: a code with a text of one character, one of two, one without a text, and one whose
+// CID has a text.
 static hayro_cmap_encoder encoder_of_font(void) {
     hayro_cmap encoding = map_of(TEXT("begincodespacerange <00> <7F> endcodespacerange "
                                       "begincidchar <44> 8 endcidchar"));
@@ -372,7 +373,7 @@ static void a_text_is_folded(void) {
     CHECK(hayro_cmap_fold(TEXT(""), room, 0, &needed, &offset) == HAYRO_CMAP_OK && needed == 0);
 }
 
-// A code is half of what stands for a character, or comes after the half of one.
+// A string for missing characters has no half of a code, and no code outside the codespace ranges.
 static void half_codes_stand_for_no_character(void) {
     hayro_cmap encoding = map_of(TEXT("begincodespacerange <0000> <00FF> endcodespacerange"));
     hayro_cmap to_unicode = map_of(TEXT("beginbfchar <0041> <0061> endbfchar")), none = HAYRO_CMAP_EMPTY;
@@ -464,7 +465,7 @@ static void exact_codes_are_read_as_their_pieces(void) {
     hayro_cmap_encoder_free(&encoder);
 }
 
-// Two CIDs have the same text. The map from Unicode chooses the second one; without it the least counts.
+// Two CIDs have the same text. The map from Unicode chooses the second one; without it the least CID is taken.
 static void a_map_from_unicode_chooses_glyphs(void) {
     hayro_cmap encoding = HAYRO_CMAP_EMPTY, none = HAYRO_CMAP_EMPTY, no_map = HAYRO_CMAP_EMPTY;
     CHECK(hayro_cmap_identity(&encoding, false) == HAYRO_CMAP_OK);
@@ -548,7 +549,7 @@ static void names_lead_to_the_file_at_fault(void) {
     hayro_cmap_free(&map);
 }
 
-// A file at fault at byte 39, over one at fault at byte 15, which uses a file that is missing.
+// A file at fault at byte 39, over a file at fault at byte 15, which uses a missing file.
 #define SPOILED "/AB usecmap begincidchar <41> 5 <42> /X <43> 7 endcidchar"
 
 static void files_are_read_past_their_faults(void) {
@@ -602,7 +603,7 @@ static void faults_have_messages(void) {
     CHECK(needed == 7);
 }
 
-// Faults past which these parts are read: a longer second code and an empty string; a shorter code and a name are lost.
+// Parts at fault: a longer second code and an empty string are read; a shorter second code and a name are lost.
 static void parts_at_fault_are_read(void) {
     static const char file[] = "begincodespacerange <00> <FFFF> <0000> <FF> endcodespacerange "
                                "beginbfchar <41> <> <42> /x endbfchar";
@@ -617,14 +618,14 @@ static void parts_at_fault_are_read(void) {
     CHECK(hayro_cmap_read_as(&faults[1], TEXT(file)) == HAYRO_CMAP_READ_AS_NOTHING);
     CHECK(hayro_cmap_read_as(&faults[2], TEXT(file)) == HAYRO_CMAP_READ_AS_EMPTY_TEXT);
     CHECK(hayro_cmap_read_as(&faults[3], TEXT(file)) == HAYRO_CMAP_READ_AS_NOTHING);
-    // past the end of the text, and a fault that has no meaning
+    // a fault past the end of the text, and a fault with invalid numbers
     CHECK(hayro_cmap_read_as(&faults[0], TEXT("<00> <FFFF>")) == HAYRO_CMAP_READ_AS_NOTHING);
     faults[0].segment = 1;
     CHECK(hayro_cmap_read_as(&faults[0], TEXT(file)) == HAYRO_CMAP_READ_AS_NOTHING);
     hayro_cmap_free(&map);
 }
 
-// A map of one-byte codes, whose texts are for private use, of an odd number of digits, and right.
+// A map of codes of one byte, with a text for private use, a text of an odd number of digits, and a good text.
 static const char DOUBTFUL_TEXT[] = "1 begincodespacerange <00> <FF> endcodespacerange "
                                     "3 beginbfchar <01> <E000> <02> <20BB7> <03> <0041> endbfchar";
 
@@ -907,7 +908,7 @@ static hayro_cmap_declaration text_declaration(uint32_t first, uint32_t last, co
     return made;
 }
 
-// What no file says of itself.
+// Metadata of a file that has none.
 static hayro_cmap_facts no_facts(void) {
     hayro_cmap_facts facts = {TEXT(""), TEXT(""), TEXT(""), 0, 0, 0, HAYRO_CMAP_NO_MODE};
     return facts;
@@ -1020,7 +1021,7 @@ static void what_no_file_says_is_refused(void) {
     "begincodespacerange <00> <80> <8140> <9FFC> endcodespacerange "                               \
     "begincidrange <8140> <81FC> 633 <20> <7E> 1 endcidrange beginbfchar <8140> <3000> endbfchar"
 
-// The map of a file over one with the name Base.
+// The map of a file over a file with the name Base.
 static hayro_cmap map_over(const char *text, const char *base) {
     const hayro_cmap_file file = {TEXT("Base"), hayro_cmap_bytes(base), strlen(base)};
     hayro_cmap map = HAYRO_CMAP_EMPTY;
@@ -1068,7 +1069,7 @@ static void a_map_is_written_for_some_codes(void) {
     hayro_cmap_free(&map);
 }
 
-// By the upper layer 41 has the CID of its character, and by a file of both that of the lower one.
+// The upper layer gives 41 the Unicode number of its text; in one file of both layers its CID would be 5.
 static void a_map_that_no_file_answers_is_not_written(void) {
     hayro_cmap map = map_over("/Base usecmap beginbfchar <41> <0062> endbfchar", "begincidchar <41> 5 endcidchar");
     const hayro_cmap_codes codes[] = {{0x41, 0x41, 1}}, others[] = {{0x41, 0x41, 2}};

@@ -1,4 +1,4 @@
-// Tests of hayro_cmap.hpp. It prints `ok`, or the lines of the checks that failed, with status 1.
+// Tests of hayro_cmap.hpp. The program prints `ok`, or the lines of the checks that failed, with status 1.
 #include "hayro_cmap.hpp"
 #include <array>
 #include <cerrno>
@@ -46,7 +46,7 @@ constexpr bool is_string = compiles<Decoded, Text> && compiles<Characters, Text>
 template <class Text>
 constexpr bool is_refused = !compiles<Decoded, Text> && !compiles<Characters, Text> && !compiles<Texts, Text>;
 
-// What may end at a zero byte.
+// A string of codes may have zero bytes: arrays and pointers of char are rejected.
 static_assert(is_refused<char (&)[4]> && is_refused<const char (&)[2]>);
 static_assert(is_refused<char *> && is_refused<const char *>);
 static_assert(is_string<std::string> && is_string<std::string &> && is_string<std::string_view>);
@@ -270,7 +270,7 @@ static void strings_have_texts() {
     CHECK(same(simple.characters("\xFF"s).at(0).code, 0xFF, 1, std::nullopt, true, false));
     CHECK(hayro::Extractor::simple().text("A"s) == "\uFFFD");
 
-    // Texts that pass the first room, and a text that passes it alone.
+    // Texts that together exceed the first buffer, and a text that exceeds it alone.
     std::string many, text;
     for (int count = 0; count < 500; count++) many += "0061", text += 'a';
     hayro::Extractor longer(map_of(encoding), map_of("beginbfchar <41> <" + many + "> <42> <0062> endbfchar"));
@@ -341,7 +341,7 @@ static void glyphs_are_chosen_by_maps_from_unicode() {
     CHECK(given.find_collection(none, files, "Broken-One").refusal.has_value());
     CHECK(is_found(given.find_predefined_collection("Some-One"), false, false));
 
-    // An encoding from Unicode is the map itself.
+    // An encoding from Unicode is itself the map from Unicode.
     hayro::Extractor from(map_of("/CMapName /UniX-H def " + any_two_bytes + "begincidrange <3042> <3043> 7 endcidrange"));
     CHECK(!string(from) && is_found(from.find_collection(files), false, true) && *string(from) == "\x30\x42");
 }
@@ -401,7 +401,7 @@ static void texts_have_strings() {
     encoder = hayro::Encoder();
     CHECK(encoder.empty() && !encoder.encode("f") && *other.encode("f") == "A");
 
-    // A string that passes the first room.
+    // A string that exceeds the first buffer.
     hayro::Extractor wide(map_of("begincodespacerange <00000000> <00000001> endcodespacerange"s),
                           map_of("beginbfchar <00000001> <0061> endbfchar"s));
     CHECK(*hayro::Encoder(wide).encode("aa") == "\0\0\0\1\0\0\0\1"s);
@@ -533,7 +533,7 @@ static void uses_are_named() {
     };
     auto files = hayro::used_files("/A usecmap /Missing usecmap", get);
     CHECK(asked == (Names{"A", "Missing", "B"}) && files.size() == 2 && files.count("A") == 1);
-    // A chain without an end is cut where no map can be.
+    // A chain without an end is cut off at the length where there can be no map.
     asked.clear();
     hayro::used_files("/N usecmap", [&](const std::string &name) {
         asked.push_back(name);
@@ -586,14 +586,14 @@ static void predefined_files_are_found() {
 constexpr int all_entries = -1;
 static int entries_left = all_entries;
 
-// What readdir is in the C library: another one where offsets in files have 64 bits on systems of 32.
+// The name of readdir in the C library, which differs if a system of 32 bits has file offsets of 64 bits.
 #if defined(_FILE_OFFSET_BITS) && _FILE_OFFSET_BITS == 64
 constexpr const char *readdir_name = "readdir64";
 #else
 constexpr const char *readdir_name = "readdir";
 #endif
 
-// Stands for readdir of the C library in all of the program: an entry after those that are left can't be read.
+// Replaces readdir of the C library in the whole program: an entry after those that are left can't be read.
 extern "C" dirent *readdir(DIR *folder) {
     static const auto next = reinterpret_cast<dirent *(*)(DIR *)>(dlsym(RTLD_NEXT, readdir_name));
     if (entries_left == 0) {
@@ -613,7 +613,7 @@ static void folders_are_listed_as_far_as_they_can_be_read() {
         std::ofstream(folder / ("with" + name) / name) << "begincidchar <01> 1 endcidchar";
     }
     setenv("CMAP_PATH", folder.c_str(), 1);
-    // The folder has five entries in whatever order, of which two stand for itself and the one above it.
+    // The folder has five entries in any order; two of them are `.` and `..`.
     for (int entries : {3, 5, all_entries}) {
         int found = 0;
         for (const auto &name : names) {
@@ -681,7 +681,7 @@ static void files_stand_on_a_base() {
     auto third = *hayro::Map::parse_with_base("/Base usecmap begincidchar <0042> 8 endcidchar", second).value();
     CHECK(cids_of(third, {0x40, 0x41, 0x42, 0x43}) == (Cids{100, 7, 8, 103}));
 
-    // A refusal is that of the text.
+    // The offset of a refusal is the offset in the text.
     const std::pair<const char *, std::size_t> refusals[] = {{"begincidchar <01> x", 19},
                                                              {"/A usecmap begincidchar <01> x", 30}};
     for (auto [text, offset] : refusals) {

@@ -1,4 +1,4 @@
-//! Puts the bundle of predefined CMaps into the crate, where the feature `embed-cmaps` asks for it.
+//! Embeds the bundle of predefined CMaps in the crate, with the feature `embed-cmaps`.
 
 fn main() {
     println!("cargo::rerun-if-env-changed=HAYRO_CMAP_BUNDLE");
@@ -14,7 +14,7 @@ extern crate alloc;
 #[cfg(feature = "embed-cmaps")]
 use sources::{fallible, reader};
 
-/// The reader of the crate, by which a bundle is checked.
+/// The reader of the crate, which checks the bundle.
 #[cfg(feature = "embed-cmaps")]
 #[allow(clippy::all, dead_code, unused_imports, unused_labels, unused_variables)]
 #[path = "src"]

@@ -1,4 +1,4 @@
-//! Finds the library `libhayro_cmap.a`, and puts the bundle of predefined CMaps into the crate.
+//! Finds the library `libhayro_cmap.a`, and embeds the bundle of predefined CMaps in the crate.
 
 use std::fmt::Display;
 use std::path::{Path, PathBuf};
@@ -109,8 +109,8 @@ fn copy_bundle(from: &Path, to: &Path) -> Result<(), String> {
     fs::write(to, bytes).map_err(|fault| told(&fault))
 }
 
-/// Whether bytes are those of tables, after their length, and of files: each has its length, with the ten bytes of
-/// its head, after six bytes.
+/// Whether bytes have the form of a bundle: the length of the tables, the tables, and files. A file has its length,
+/// including the ten bytes of its head, at offset 6.
 fn has_form_of_bundle(bytes: &[u8]) -> bool {
     let Some((len, rest)) = bytes.split_first_chunk() else { return false };
     let Some(mut rest) = rest.get(u32::from_be_bytes(*len) as usize..) else { return false };

@@ -1,4 +1,4 @@
-//! What a program has of the system: its arguments and variables, files and streams.
+//! The system of a program: its arguments and variables, files and streams.
 
 pub mod env;
 pub mod fs;
@@ -9,7 +9,7 @@ use std::ffi::OsString;
 use std::fmt::Arguments;
 use std::io::{self, ErrorKind, Read, Stderr, Stdout, Write};
 
-/// The system, as `main` is passed it.
+/// The system, which is passed to `main`.
 pub struct HostRuntime {
     arguments: std::vec::Vec<OsString>,
 }
@@ -62,12 +62,12 @@ impl HostRuntime {
         self.eprint(&format!("{text}\n"))
     }
 
-    /// What `eprint!` does.
+    /// Writes a formatted text to the standard error.
     pub fn eprint_fmt(&self, text: Arguments<'_>) -> io::Result<()> {
         self.eprint(&text.to_string())
     }
 
-    /// What `eprintln!` does.
+    /// Writes a formatted line to the standard error.
     pub fn eprintln_fmt(&self, text: Arguments<'_>) -> io::Result<()> {
         self.eprint(&format!("{text}\n"))
     }
@@ -77,7 +77,7 @@ impl HostRuntime {
 pub struct Stdin;
 
 impl Stdin {
-    /// Adds all that is left of it.
+    /// Adds the rest of the input. It returns its number of bytes.
     pub fn read_to_end(&self, bytes: &mut Vec<u8>) -> io::Result<usize> {
         let mut read = std::vec::Vec::new();
         let len = io::stdin().lock().read_to_end(&mut read)?;

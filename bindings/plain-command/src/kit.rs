@@ -1,4 +1,4 @@
-//! The crates on which the command stands, with the interface of their ports, by which the sources call them.
+//! The crates that the command uses, with the interface of their ports, which the sources call.
 
 pub mod clap;
 pub mod hex;

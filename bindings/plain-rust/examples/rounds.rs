@@ -1,9 +1,9 @@
-//! Reads a CMap file, and makes rounds whose instructions are to be counted:
+//! Reads a CMap file, and makes rounds, so that the instructions of a round can be counted:
 //!
 //!     rounds parse|lookup|bf|decode FILE N
 //!
 //! A round reads the file as a map; looks up the CID or the text of each code of two bytes; or cuts a string of these
-//! codes, and looks up their CIDs. It prints a sum of what is found.
+//! codes, and looks up their CIDs. The program prints a sum of the results.
 
 use hayro_cmap::{BfString, CMap, reader};
 use std::{env, fs, process};

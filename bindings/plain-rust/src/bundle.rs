@@ -15,7 +15,7 @@ pub struct Bundle {
     held: Arc<Held>,
 }
 
-/// A bundle over the bytes that are in the crate, or with copies of its files.
+/// A bundle over the bytes in the crate, or a bundle with copies of its files.
 enum Held {
     #[cfg_attr(not(feature = "embed-cmaps"), allow(dead_code))]
     Embedded(reader::Bundle<'static>),
@@ -23,15 +23,15 @@ enum Held {
 }
 
 impl Bundle {
-    /// The bundle of these bytes; `None` where they are invalid. Its files are copied.
+    /// The bundle of these bytes; `None` if they are invalid. Its files are copied.
     pub fn open(bytes: &[u8]) -> Option<Bundle> {
         let bundle = made(OwnedBundle::parse(Global, bytes))?;
         Some(Bundle { held: Arc::new(Held::Owned(bundle)) })
     }
 
-    /// The bundle that is in the crate: with the feature `embed-cmaps`, the one in the file that
-    /// `HAYRO_CMAP_BUNDLE` named when it was built. `None` where there was none, and where its bytes are
-    /// invalid.
+    /// The bundle that is embedded in the crate: with the feature `embed-cmaps`, the file that
+    /// `HAYRO_CMAP_BUNDLE` named when the crate was built. `None` without the feature, or if the variable
+    /// named none.
     pub fn embedded() -> Option<&'static Bundle> {
         embedded::bundle()
     }
@@ -62,7 +62,7 @@ impl Debug for Bundle {
     }
 }
 
-/// A predefined CMap file, from the bundle that is in the crate ([`Bundle::embedded`]).
+/// A predefined CMap file of the bundle that is embedded in the crate ([`Bundle::embedded`]).
 pub fn load_embedded(name: CMapName<'_>) -> Option<&'static [u8]> {
     match &*Bundle::embedded()?.held {
         Held::Embedded(bundle) => reader::load_embedded(Some(bundle), name),

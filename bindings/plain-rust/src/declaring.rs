@@ -1,4 +1,4 @@
-//! What a file declares and says of itself, as the reader's types have it.
+//! The declarations and the metadata of a file, as values of the reader's types.
 
 use crate::builder::{CMapBuilder, Codes, Collection, Declaration, Given};
 use crate::fallible::Vec;
@@ -12,7 +12,7 @@ use crate::reader::runs::Range;
 use crate::reader::{self, BfRange, CidFamily, CidRange, CodeLength, Codespace, Units};
 
 impl CMapBuilder {
-    /// The file; `None` where codes have no length of 1 to 4 bytes.
+    /// The file; `None` if codes have a length outside 1 to 4.
     pub(crate) fn file(&self) -> Result<Option<File<'static>>, AllocError> {
         let mut lists = Lists::new(Global);
         for declaration in &self.declarations {
@@ -22,7 +22,7 @@ impl CMapBuilder {
         Ok(Some(File { metadata: self.metadata()?, lists, uses: Vec::new(Global) }))
     }
 
-    /// What the file says of itself.
+    /// The metadata of the file.
     fn metadata(&self) -> Result<reader::Metadata, AllocError> {
         let name = self.name.as_ref().map(|name| Vec::from_slice(Global, name));
         Ok(reader::Metadata {
@@ -32,8 +32,8 @@ impl CMapBuilder {
         })
     }
 
-    /// How many bytes the codes of texts are written with: as many as the declarations of texts say, if all
-    /// say the same; else as the codespace ranges have.
+    /// The lengths of codes of texts: the length of the declarations of texts, if all have one length;
+    /// otherwise lengths by the codespace ranges.
     pub(crate) fn text_lengths(&self, file: &File<'_>) -> TextLengths {
         let mut lengths = self.declarations.iter().filter_map(Declaration::text_length);
         let first = lengths.next().filter(|first| lengths.all(|other| other == *first));
@@ -43,14 +43,14 @@ impl CMapBuilder {
 }
 
 impl Declaration {
-    /// How many bytes its codes have, if it gives them texts.
+    /// How many bytes the codes have, if the declaration gives them texts.
     fn text_length(&self) -> Option<u8> {
         matches!(self.given, Given::Text(_)).then_some(self.codes.byte_len)
     }
 }
 
 impl Given {
-    /// Adds that these codes have it.
+    /// Adds the declaration for these codes.
     fn add_to(&self, lists: &mut Lists, codes: flatten::Codes) -> Result<(), AllocError> {
         let flatten::Codes { len, range } = codes;
         match self {
@@ -68,7 +68,7 @@ impl Given {
 }
 
 impl Codes {
-    /// The codes; `None` where they have no length of 1 to 4 bytes.
+    /// The codes; `None` if their length is outside 1 to 4.
     pub(crate) fn reader(&self) -> Option<flatten::Codes> {
         let len = CodeLength::of(self.byte_len)?;
         Some(flatten::Codes { len, range: Range { start: self.first, end: self.last } })

@@ -10,9 +10,9 @@ use crate::text::BfString;
 use alloc::vec::Vec;
 
 impl Extractor {
-    /// The codes of a string, one after another, each with its CID and its text: that of the ToUnicode
-    /// CMap, where it has one for the code; else that of the CID in the map of the collection. Codes in no
-    /// codespace range are looked up too.
+    /// The codes of a string, one after another, each with its CID and its text. The text of a code comes
+    /// from the ToUnicode CMap; if this has none for the code, the map of the collection gives the text of
+    /// the CID. Codes outside the codespace ranges are looked up, too.
     pub fn characters(&self, string: &[u8]) -> Vec<Character> {
         made(self.reader().characters(Global, string)).into_iter().map(Character::of).collect()
     }
@@ -26,7 +26,7 @@ impl Extractor {
     }
 }
 
-/// The name of the CMap from Unicode to the CIDs of a character collection, as Adobe-Japan1.
+/// The name of the CMap from Unicode to the CIDs of a character collection, such as Adobe-Japan1.
 pub(crate) fn unicode_name(collection: &[u8], mode: WritingMode) -> Option<Vec<u8>> {
     Some(reader::unicode_name(collection, mode.reader())?.to_vec())
 }

@@ -1,7 +1,7 @@
-//! Collections whose growth is an error where memory runs out.
+//! Collections whose growth is an error if memory runs out.
 //!
-//! Each holds the collection of the same name of `alloc`, or a list of it, and takes memory by `try_reserve` before it
-//! adds something. So none of them ends the program.
+//! Each wraps the collection of the same name in `alloc`, or lists of `alloc`, and takes memory by `try_reserve` before
+//! it adds something. So none of them ends the program.
 
 pub mod alloc;
 mod boxed;

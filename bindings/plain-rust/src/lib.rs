@@ -30,7 +30,7 @@ mod options;
 mod piece;
 #[cfg(feature = "std")]
 mod predefined;
-// Proofs read some arguments alone, other crates of the project use some items, and the style is that of the sources.
+// Only proofs use some arguments, only other crates of the project use some items, and the style is the sources' own.
 #[allow(clippy::all, dead_code, missing_docs, unused_imports, unused_labels, unused_variables)]
 pub mod reader;
 mod reading;
@@ -65,13 +65,13 @@ pub use text::BfString;
 use alloc::alloc::{Layout, handle_alloc_error};
 use alloc::string::String;
 
-/// The version of the project whose sources these are.
+/// The version of the project from whose sources the crate is made.
 pub fn library_version() -> String {
     let version = env!("CARGO_PKG_VERSION");
     String::from(version.split_once('+').map_or(version, |(_, own)| own))
 }
 
-/// What was made. Where memory ran out the program ends, as with the collections of `alloc`.
+/// The value. If memory ran out, the program ends, as with the collections of `alloc`.
 fn made<T, E>(made: Result<T, E>) -> T {
     made.unwrap_or_else(|_| handle_alloc_error(Layout::new::<u8>()))
 }

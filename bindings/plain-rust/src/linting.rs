@@ -9,14 +9,15 @@ use alloc::string::String;
 use alloc::vec::Vec;
 
 impl CMap {
-    /// What looks wrong in the file: the warnings of `cmap check --lint`, in its order, each that concerns
-    /// something once. That of the name of the file is never among them.
+    /// What looks wrong in the file: the warnings of `cmap check --lint`, each at most once, in the order of
+    /// [`Warning`]. [`Warning::NameDiffers`] is never among them.
     ///
-    /// `text` is the file, if it is a text; without bytes there are no warnings about how a text is written.
-    /// `to_unicode` is whether the map is meant as one to Unicode, as that under ToUnicode of a font. `shown`
-    /// are codes that are shown with the font: a finding says how many of these it concerns. A declaration
-    /// concerns the codes between its ends ([`Warning::NoText`] those without a text), a string those of its
-    /// entry.
+    /// `text` is the file, if it is a text; without bytes there is no warning about the spelling of a text.
+    /// `to_unicode` tells that the map is a ToUnicode CMap.
+    ///
+    /// `shown` has the codes that are shown with the font, in any order. A finding counts the shown codes that
+    /// it concerns. A declaration concerns the codes between its ends; with [`Warning::NoText`] only the codes
+    /// without a text. A string concerns the codes of its entry, and a text in a list only its own code.
     ///
     /// ```
     /// use hayro_cmap::{CMap, Place, Warning};
@@ -43,7 +44,7 @@ impl CMap {
 }
 
 impl Finding {
-    /// `None` for a warning that isn't known here.
+    /// The finding; `None` if this crate doesn't know the warning.
     fn of(found: &finding::Finding<'_>) -> Option<Finding> {
         Some(Finding {
             warning: Warning::numbered(found.warning.number())?,
@@ -68,7 +69,7 @@ fn place_of(place: finding::Place<'_>) -> Place {
 }
 
 impl Warning {
-    /// The name by which `cmap check --lint` reports it, as `odd-digits`.
+    /// The name of the warning in `cmap check --lint`, such as `odd-digits`.
     pub fn name(self) -> String {
         let known = warning::Warning::numbered(self as u32);
         String::from(known.map_or("", warning::Warning::name))

@@ -11,14 +11,14 @@ use alloc::vec::Vec;
 use core::fmt::{self, Debug, Formatter};
 use core::ops::RangeInclusive;
 
-/// What the codes of a font stand for: which CIDs, and which texts.
+/// The map of a CMap file: CIDs and texts for the codes of a font.
 ///
-/// Any number of threads may look up in one map. A clone copies nothing.
+/// Any number of threads may use one map. A clone copies nothing.
 ///
 /// # Out of memory
 ///
-/// Where memory runs out the program ends, as with Rust's own collections. With the calls of
-/// [`reader`](crate::reader) it goes on.
+/// If memory runs out, the program ends, as with Rust's own collections. Calls of [`reader`](crate::reader)
+/// report it instead.
 #[derive(Clone)]
 pub struct CMap {
     held: Arc<Held>,
@@ -30,30 +30,29 @@ struct Held {
 }
 
 impl CMap {
-    /// The predefined CMap Identity-H: codes of two bytes are CIDs, for horizontal text.
+    /// The predefined CMap Identity-H: codes of two bytes are CIDs, for horizontal writing.
     pub fn identity_h() -> CMap {
         CMap::of(made(reader::CMap::identity_h(Global)))
     }
 
-    /// The predefined CMap Identity-V: codes of two bytes are CIDs, for vertical text.
+    /// The predefined CMap Identity-V: codes of two bytes are CIDs, for vertical writing.
     pub fn identity_v() -> CMap {
         CMap::of(made(reader::CMap::identity_v(Global)))
     }
 
-    /// What the file says of itself, whatever the files say that it uses.
+    /// The metadata of the file itself, without the files that it uses.
     pub fn metadata(&self) -> &Metadata {
         &self.held.metadata
     }
 
-    /// The CID of a code of `byte_len` bytes, which write the number `code`, the first one high.
-    /// Codespace ranges aren't looked at.
+    /// The CID of a code of `byte_len` bytes, which are the number `code`, big-endian. Codespace ranges are
+    /// ignored.
     #[inline]
     pub fn lookup_cid_code(&self, code: u32, byte_len: u8) -> Option<Cid> {
         self.held.map.lookup_cid_code(code, byte_len)
     }
 
-    /// The CID of a code, as [`CMap::lookup_cid_code`] gives it, where the code lies in a codespace
-    /// range of its length, byte by byte; else there is none.
+    /// The same for a code in a codespace range of its length, byte by byte; other codes have no CID.
     ///
     /// ```
     /// let file = b"begincodespacerange <8140> <9FFC> endcodespacerange
@@ -67,15 +66,16 @@ impl CMap {
         self.held.map.lookup_cid_code_strict(code, byte_len)
     }
 
-    /// The text of a code, or of a CID where the map is one of a
-    /// [`CidFamily::ucs2_cmap`](crate::CidFamily::ucs2_cmap).
+    /// The text of a code. In a map from CIDs to Unicode, such as
+    /// [`CidFamily::ucs2_cmap`](crate::CidFamily::ucs2_cmap) names, the codes are CIDs.
     #[inline]
     pub fn lookup_bf_string(&self, code: u32) -> Option<BfString> {
         made(self.held.map.lookup_bf_string(Global, code)).map(BfString::of)
     }
 
-    /// Writes the CIDs of the codes of `byte_len` bytes from `first` on, one for each place, as
-    /// [`CMap::lookup_cid_code`] gives them, and `absent` where there is none.
+    /// Fills `cids` with the CIDs of the codes of `byte_len` bytes from `first` on, each as
+    /// [`CMap::lookup_cid_code`] gives it, with `absent` for a code that has none and for items after the
+    /// code [`u32::MAX`].
     ///
     /// ```
     /// let map = hayro_cmap::CMap::parse(b"begincidrange <20> <7E> 1 endcidrange", |_| None).unwrap();
@@ -87,7 +87,7 @@ impl CMap {
         self.reader_layers().fill_cids(first, byte_len, absent, cids);
     }
 
-    /// Cuts a string into codes by the codespace ranges, and gives each its CID.
+    /// Cuts a string into codes by the codespace ranges, each with its CID.
     ///
     /// ```
     /// let codes = hayro_cmap::CMap::identity_h().decode(b"\x12\x34\x56");
@@ -104,15 +104,15 @@ impl CMap {
         codes
     }
 
-    /// The layers of the map, 1 to 16: the file's own, then that of the file that it is based on, and so
-    /// on.
+    /// The layers of the map, 1 to 16: layer 0 is the file itself, layer 1 the file that it is based on, and
+    /// so on.
     pub fn layers(&self) -> Vec<Layer> {
         self.reader_layers().as_slice().iter().map(Layer::of).collect()
     }
 
-    /// The declarations of CIDs that a layer makes for codes of `byte_len` bytes, in the order of its
-    /// file; none where there is no such layer. The last one that contains a code decides in its layer,
-    /// and its CIDs count on from code to code.
+    /// The declarations of CIDs of a layer for codes of `byte_len` bytes, in the order of its file; none if
+    /// there is no such layer. From code to code the CID of a declaration counts on. If several
+    /// declarations of the layer contain a code, the last one decides.
     ///
     /// ```
     /// let file = b"begincidrange <20> <7E> 1 endcidrange begincidchar <41> 7 endcidchar";
@@ -126,15 +126,15 @@ impl CMap {
         CodeLength::of(byte_len).and_then(declared).unwrap_or_default()
     }
 
-    /// The declarations of notdefs that a layer makes for codes of `byte_len` bytes, in the order of its
-    /// file. All codes of one have the same CID, where no declaration of CIDs of the layer contains them.
+    /// The declarations of notdefs of a layer for codes of `byte_len` bytes, in the order of its file; none
+    /// if there is no such layer. All codes of one have the same CID, unless a declaration of CIDs of the
+    /// layer contains them.
     pub fn notdef_ranges(&self, layer: usize, byte_len: u8) -> Vec<CidRange> {
         let declared = |len| Some(declarations(self.layer(layer)?.notdefs(len), CidRange::of));
         CodeLength::of(byte_len).and_then(declared).unwrap_or_default()
     }
 
-    /// The declarations of texts that a layer makes, in the order of its file; none where there is no
-    /// such layer.
+    /// The declarations of texts of a layer, in the order of its file; none if there is no such layer.
     ///
     /// ```
     /// let map = hayro_cmap::CMap::parse(b"beginbfrange <41> <5A> <0061> endbfrange", |_| None).unwrap();
@@ -148,8 +148,8 @@ impl CMap {
     }
 
     /// All codes that have this CID, as [`CMap::lookup_cid_code`] gives it for codes of `byte_len` bytes:
-    /// ranges in order, each as long as can be. Codes that a file declares and that `byte_len` bytes can't
-    /// write are among them.
+    /// ranges in order, each as long as possible. They include declared codes that don't fit in `byte_len`
+    /// bytes.
     ///
     /// ```
     /// let file = b"begincidrange <20> <7E> 1 endcidrange begincidchar <41> 7 endcidchar";
@@ -193,13 +193,13 @@ impl Debug for CMap {
 #[derive(Clone, Copy, Debug, PartialEq, Eq, Hash)]
 #[non_exhaustive]
 pub struct StringCode {
-    /// The number that its bytes write, the first one high.
+    /// The number of its bytes, big-endian.
     pub code: u32,
     /// How many bytes it has, 1 to 4.
     pub byte_len: u8,
-    /// Its CID, in what [`CMap::decode`] gives as [`CMap::lookup_cid_code`] gives it.
+    /// Its CID. [`CMap::decode`] gives the CID of [`CMap::lookup_cid_code`].
     pub cid: Option<Cid>,
-    /// Whether it lies in a codespace range. Only then [`CMap::lookup_cid_code_strict`] gives a CID.
+    /// Whether it lies in a codespace range. Only then does [`CMap::lookup_cid_code_strict`] give a CID.
     pub in_codespace: bool,
     /// Whether the string ends before the code does.
     pub cut_short: bool,
@@ -218,11 +218,11 @@ impl StringCode {
     }
 }
 
-/// What one of the files of a map says.
+/// What one file of a map declares.
 #[derive(Clone, Debug)]
 #[non_exhaustive]
 pub struct Layer {
-    /// What it says of itself.
+    /// The metadata of the file.
     pub metadata: Metadata,
     /// Its codespace ranges, in order.
     pub codespaces: Vec<Codespace>,
@@ -237,7 +237,7 @@ impl Layer {
     }
 }
 
-/// A codespace range: codes of `byte_len` bytes, each byte between those of `low` and `high`.
+/// A codespace range: codes of `byte_len` bytes, each byte between the bytes of `low` and `high` at its place.
 #[derive(Clone, Copy, Debug, Default, PartialEq, Eq, Hash)]
 pub struct Codespace {
     /// The lowest bytes, as a number.
@@ -254,7 +254,7 @@ impl Codespace {
     }
 }
 
-/// A declaration of CIDs: the codes from `first` to `last`; none where `first` is greater.
+/// A declaration of CIDs for the codes from `first` to `last`; for none if `first` is greater.
 #[derive(Clone, Copy, Debug, Default, PartialEq, Eq, Hash)]
 #[non_exhaustive]
 pub struct CidRange {
@@ -273,7 +273,7 @@ impl CidRange {
     }
 }
 
-/// A declaration of texts: the codes from `first` to `last`; none where `first` is greater.
+/// A declaration of texts for the codes from `first` to `last`; for none if `first` is greater.
 #[derive(Clone, Debug, PartialEq, Eq, Hash)]
 #[non_exhaustive]
 pub struct TextRange {

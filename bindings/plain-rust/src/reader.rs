@@ -1,5 +1,5 @@
-//! The reader under the calls of this crate, for programs that go on where memory runs out: a call that takes memory is
-//! passed [`Global`](crate::fallible::alloc::Global), and reports where there is none left.
+//! The reader under the calls of this crate, for programs that continue if memory runs out. A call that takes memory is
+//! passed [`Global`](crate::fallible::alloc::Global), and reports if memory ran out.
 //!
 //! ```
 //! use hayro_cmap::fallible::alloc::{AllocError, Global};

@@ -11,12 +11,12 @@ use alloc::collections::BTreeMap;
 use alloc::vec::Vec;
 use core::cell::RefCell;
 
-/// How many files a chain has at most, the top one included.
+/// The most files of a chain, including the top file.
 #[cfg(feature = "std")]
 pub(crate) const MOST_FILES: usize = 16;
 
 impl<'b> ParseOptions<'b> {
-    /// Reads a file, as [`CMap::parse_explained`] does. It needs an answer also for Identity-H and Identity-V.
+    /// Reads a file, as [`CMap::parse_explained`] does. Used names need files, even Identity-H and Identity-V.
     pub fn parse<'a>(
         &self,
         data: &[u8],
@@ -52,14 +52,14 @@ impl<'b> ParseOptions<'b> {
         found.map(|map| map.map(CMap::of)).map_err(refusal_of)
     }
 
-    /// The names of the files that a file uses, in the order of the uses; `None` where it is outside
-    /// the grammar.
+    /// The names of the files that a file uses, in the order of the uses; `None` if it is outside the
+    /// grammar.
     pub fn uses(&self, data: &[u8]) -> Option<Vec<Vec<u8>>> {
         let names = made(reader::CMap::uses(Global, data, self.tables()))?;
         Some(names.iter().map(|name| name.to_vec()).collect())
     }
 
-    /// By what files in binary form are read: the tables of the bundle, else of the one in the crate.
+    /// The tables for binary files: the tables of the bundle, otherwise of the bundle in the crate.
     fn tables(&self) -> Option<&'b reader::Bundle<'static>> {
         match self.bundle {
             Some(bundle) => Some(bundle.tables()),
@@ -75,8 +75,8 @@ fn refusal_of(fault: Fault<reader::Refusal<'_>>) -> Refusal {
     }
 }
 
-/// The files that a caller gives by their names, and those of a bundle. A caller is asked for a name once, so that each
-/// name stands for one file.
+/// The files of `get_cmap`, and the files of a bundle. `get_cmap` is called once for each name, so that each name
+/// stands for one file.
 struct Files<'a, 'b, F> {
     bundle: Option<&'b Bundle>,
     get_cmap: F,
@@ -90,7 +90,7 @@ impl<'a, 'b, F: Fn(CMapName<'_>) -> Option<&'a [u8]>> Files<'a, 'b, F> {
         Files { bundle, get_cmap, answers: RefCell::default(), identities_need_files: true }
     }
 
-    /// Where files are looked up by their names. Identity-H and Identity-V need none.
+    /// The files of a call for which Identity-H and Identity-V need no file.
     fn named(bundle: Option<&'b Bundle>, get_cmap: F) -> Self {
         Files { identities_need_files: false, ..Files::new(bundle, get_cmap) }
     }

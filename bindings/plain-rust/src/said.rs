@@ -1,4 +1,4 @@
-//! What files say of themselves, of the reader's types.
+//! The metadata of files, from values of the reader's types.
 
 use crate::collection::{CharacterCollection, CidFamily};
 use crate::metadata::{Metadata, WritingMode};

@@ -22,7 +22,7 @@ impl BfString {
         }
     }
 
-    /// The text. That of a [`BfString::Char`] is written to the room, as by [`char::encode_utf8`].
+    /// The text. The character of a [`BfString::Char`] is written to `room`, as by [`char::encode_utf8`].
     ///
     /// ```
     /// use hayro_cmap::BfString;

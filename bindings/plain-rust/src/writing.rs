@@ -1,4 +1,4 @@
-//! Files that are written.
+//! Writing files.
 
 use crate::builder::{CMapBuilder, Codes, WriteError};
 use crate::fallible::alloc::{AllocError, Global};
@@ -12,7 +12,7 @@ use crate::reader::cmap_values::file::File;
 use alloc::vec::Vec;
 
 impl CMapBuilder {
-    /// The file: its text, in the fewest declarations that give each code the same.
+    /// The text of the file, in the fewest declarations that give each code the same.
     pub fn build(&self) -> Result<Vec<u8>, WriteError> {
         self.checked()?;
         let file = made(self.file()).ok_or(WriteError::InvalidCodes)?;
@@ -21,8 +21,8 @@ impl CMapBuilder {
 }
 
 impl CMap {
-    /// One file, which uses no other and answers each code as the map does: its text, in the fewest
-    /// declarations.
+    /// The text of one CMap file, which uses no other and has the answers of the map for each code, in the
+    /// fewest declarations.
     ///
     /// ```
     /// use hayro_cmap::CMap;
@@ -37,7 +37,7 @@ impl CMap {
         flat_text(flatten(Global, self.reader_layers()))
     }
 
-    /// One file that answers these codes as the map does, and has nothing for others. Codespace ranges stay.
+    /// The same with answers only for these codes. The codespace ranges stay.
     ///
     /// ```
     /// use hayro_cmap::CMap;
@@ -61,7 +61,7 @@ impl CMap {
     }
 }
 
-/// The text of a file of all layers, unless its codes contradict each other.
+/// The text of a file made from all layers, or the error if there is no such file.
 fn flat_text<E>(file: Result<File<'_>, Fault<E>>) -> Result<Vec<u8>, WriteError> {
     match file {
         Ok(file) => text_of(&file, TextLengths::by(&file.lists.spaces)),
@@ -69,7 +69,7 @@ fn flat_text<E>(file: Result<File<'_>, Fault<E>>) -> Result<Vec<u8>, WriteError>
     }
 }
 
-/// The text of a file, unless none says it.
+/// The text of a file, or the error if no text can express it.
 fn text_of(file: &File<'_>, lengths: TextLengths) -> Result<Vec<u8>, WriteError> {
     match write_text_by(Global, file, lengths) {
         Ok(text) => Ok(text.to_vec()),

@@ -1,4 +1,4 @@
-//! Each request for memory of a reading and of a lookup is refused in turn: the call reports it, and the program goes on.
+//! Each request for memory of a call is refused in turn: the call reports it, and the program continues.
 
 use hayro_cmap::CMapName;
 use hayro_cmap::fallible::alloc::{AllocError, Global};
@@ -11,17 +11,17 @@ use hayro_cmap::reader::{
 use std::alloc::{GlobalAlloc, Layout, System};
 use std::cell::Cell;
 
-/// The allocator of the system, which refuses requests of a thread.
+/// The allocator of the system, except that it refuses a request of a thread.
 struct Refusing;
 
 thread_local! {
-    /// How many requests are granted before one is refused; `None` where all are.
+    /// How many requests are granted before one is refused; `None` if all are granted.
     static GRANTED: Cell<Option<usize>> = const { Cell::new(None) };
     /// How many requests were refused.
     static REFUSED: Cell<usize> = const { Cell::new(0) };
 }
 
-/// Whether a request is granted. After one that is refused all are.
+/// Whether a request is granted. After a refused request all requests are granted.
 fn is_granted() -> bool {
     match GRANTED.get() {
         Some(0) => {
@@ -61,7 +61,7 @@ unsafe impl GlobalAlloc for Refusing {
 #[global_allocator]
 static ALLOCATOR: Refusing = Refusing;
 
-/// What a call answers where the request after so many is refused; and whether one was.
+/// The answer of a call whose request after `granted` others is refused, and whether a request was refused.
 fn refusing<T>(granted: usize, call: impl FnOnce() -> T) -> (T, bool) {
     GRANTED.set(Some(granted));
     REFUSED.set(0);
@@ -84,13 +84,13 @@ fn files() -> NamedFiles<'static, (&'static [u8], &'static [u8]), Bundle<'static
     NamedFiles::alone(&[(b"Base", BASE)])
 }
 
-/// Makes a call with each of its requests refused in turn: how many there were.
+/// Makes a call with each of its requests refused in turn. It returns the number of requests.
 fn refuse_each<T, E>(call: impl Fn() -> Result<T, E>, is_memory: impl Fn(&E) -> bool) -> usize {
     for granted in 0.. {
         match refusing(granted, &call) {
             (Err(fault), true) => assert!(is_memory(&fault), "request {granted}"),
             (Err(_), false) => panic!("nothing was refused"),
-            // Only a list that gave memory back takes none for it.
+            // A list that can't give memory back stays as it is, and the call succeeds.
             (Ok(_), true) => {}
             (Ok(_), false) => return granted,
         }
@@ -181,7 +181,7 @@ fn a_list_is_as_before() {
     assert_eq!(items.as_slice(), [3, 1, 2]);
 }
 
-/// Many entries are split into parts: a request that is refused there loses none.
+/// Many entries are split into parts: a refused request loses none of them.
 #[test]
 fn a_map_is_as_before() {
     let mut map = BTreeMap::new(Global);

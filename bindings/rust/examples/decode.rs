@@ -2,10 +2,10 @@
 //!
 //!     decode FOLDER FILE HEX
 //!
-//! A line is a code, its CID or none, and its text if it has one, as `<93FA> 3284 日`. Only the files
-//! that FILE uses are read. A CMap of a composite font mostly has CIDs alone: the text is then that of
-//! the CID in the CMap to Unicode of its character collection, as Adobe-Japan1-UCS2 (ISO 32000-1,
-//! 9.10.2), if the folder has it.
+//! A line is a code, its CID or none, and its text if it has one, such as `<93FA> 3284 日`. Only the
+//! files that FILE uses are read. A CMap of a composite font mostly has only CIDs: the text of a code is
+//! then the text of its CID in the CMap from its character collection to Unicode, such as
+//! Adobe-Japan1-UCS2 (ISO 32000-1, 9.10.2), if the folder has this CMap.
 
 use hayro_cmap::{BfString, CMap, CMapName, Extractor, Refusal, StringCode};
 use std::collections::HashMap;
@@ -13,7 +13,7 @@ use std::error::Error;
 use std::path::Path;
 use std::{env, fs, process};
 
-/// The file of a name, and those that it uses, each with its name.
+/// The file of a name, and the files that it uses, directly or through others, by their names.
 fn files_of(folder: &Path, name: &[u8]) -> HashMap<Vec<u8>, Vec<u8>> {
     let mut files = HashMap::new();
     let mut wanted = vec![name.to_vec()];
@@ -35,7 +35,7 @@ fn read(folder: &Path, name: &[u8]) -> Option<Vec<u8>> {
     fs::read(folder.join(name)).ok()
 }
 
-/// The map of a file of the folder; `None` where there is no such file.
+/// The map of a file of the folder; `None` if there is no such file.
 fn map_of(folder: &Path, name: CMapName<'_>) -> Result<Option<CMap>, String> {
     let files = files_of(folder, name.to_bytes());
     CMap::open(name, |name| files.get(name.to_bytes()).map(Vec::as_slice))
@@ -50,7 +50,7 @@ fn message_of(name: CMapName<'_>, refusal: &Refusal) -> String {
     }
 }
 
-/// The map from the CIDs of a map's collection to Unicode, if there is a file of it.
+/// The map from the CIDs of a map's collection to Unicode, if the folder has its file.
 fn texts_of(folder: &Path, map: &CMap) -> Result<Option<CMap>, String> {
     match &map.metadata().character_collection {
         Some(collection) => map_of(folder, CMapName::from_bytes(&collection.family.ucs2_name())),

@@ -2,7 +2,7 @@
 //!
 //!     encode FILE TEXT [MISSING]
 //!
-//! The font has the predefined CMap Identity-H, so that its codes have two bytes. FILE is its ToUnicode
+//! The font has the predefined CMap Identity-H, so its codes have two bytes. FILE is its ToUnicode
 //! CMap, which uses no other file. MISSING is a text that stands for each character that no string shows.
 
 use hayro_cmap::{CMap, Encoder, Extractor};

@@ -1,4 +1,4 @@
-//! Prints the text that each page of a PDF file shows by fonts with ToUnicode CMaps, a line a page.
+//! Prints the text that each page of a PDF file shows by fonts with ToUnicode CMaps, a line for each page.
 //!
 //!     pdf_text FILE
 //!
@@ -40,7 +40,7 @@ fn number_in(data: &[u8]) -> Option<u32> {
     str::from_utf8(data).ok()?.split_whitespace().next()?.parse().ok()
 }
 
-/// The object that a dictionary refers to, as `/Key 7 0 R`.
+/// The object to which a dictionary refers, such as by `/Key 7 0 R`.
 fn referred<'a>(objects: &Objects<'a>, dictionary: &[u8], key: &[u8]) -> Option<&'a [u8]> {
     let (_, value) = split(dictionary, key)?;
     let (number, _) = split(value, b" 0 R")?;
@@ -85,7 +85,7 @@ fn bytes_of(digits: &[u8]) -> Vec<u8> {
     values.chunks(2).map(|pair| pair[0] << 4 | pair.get(1).unwrap_or(&0)).collect()
 }
 
-/// What a content stream is made of.
+/// A token of a content stream.
 enum Token<'a> {
     Name(&'a [u8]),
     String(Vec<u8>),

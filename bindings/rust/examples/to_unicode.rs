@@ -28,7 +28,7 @@ fn stream(data: &[u8]) -> Vec<u8> {
     [head.as_bytes(), data, b"\nendstream"].concat()
 }
 
-/// The objects of the file. The page shows the codes, which the ToUnicode CMap gives their texts.
+/// The objects of the file. The page shows the codes, to which the ToUnicode CMap gives their texts.
 fn objects_of(codes: &[usize], to_unicode: &[u8]) -> [Vec<u8>; 8] {
     let string: String = codes.iter().map(|code| format!("{code:04X}")).collect();
     let object = |text: &str| text.as_bytes().to_vec();

@@ -11,7 +11,7 @@ use alloc::vec::Vec;
 use core::cell::Cell;
 use core::fmt::{self, Display, Formatter};
 
-/// What stands before a text that uses no file.
+/// The use of a base, which is put before a text that uses no file.
 const USE: &[u8] = b"/UseCMap usecmap\n";
 
 /// Why there is no map over a base.
@@ -20,7 +20,7 @@ const USE: &[u8] = b"/UseCMap usecmap\n";
 pub enum BaseError {
     /// The file is refused.
     Refused(Refusal),
-    /// No one file answers as the base does.
+    /// No single file has the answers of the base.
     NotWritable(WriteError),
 }
 
@@ -55,8 +55,8 @@ impl From<WriteError> for BaseError {
 }
 
 impl CMap {
-    /// Reads a CMap file over a base, as the entry `UseCMap` of a stream in a PDF file gives it (ISO 32000-1,
-    /// 9.7.5.3). Whatever names the file uses, each stands for the base; a file that uses none is over it, too.
+    /// Reads a CMap file over a base, such as the one that `UseCMap` of a stream in a PDF file names (ISO 32000-1,
+    /// 9.7.5.3). Each name that the file uses stands for the base, and a file that uses none is over it, too.
     ///
     /// ```
     /// use hayro_cmap::CMap;
@@ -70,7 +70,7 @@ impl CMap {
         ParseOptions::new().parse_with_base(data, base)
     }
 
-    /// The direction of a font's texts: that of the first layer which gives one, else horizontal.
+    /// The writing mode of a font's strings: the mode of the first layer that gives one, otherwise horizontal.
     ///
     /// ```
     /// use hayro_cmap::{CMap, WritingMode};
@@ -87,8 +87,8 @@ impl CMap {
 }
 
 impl ParseOptions<'_> {
-    /// Reads a file over a base, as [`CMap::parse_with_base`] does. A base counts by the one file that
-    /// [`CMap::write`] makes of it.
+    /// Reads a file over a base, as [`CMap::parse_with_base`] does. For the budget, the base counts as the
+    /// file that [`CMap::write`] makes of it.
     pub fn parse_with_base(&self, data: &[u8], base: &CMap) -> Result<CMap, BaseError> {
         let base = base.write()?;
         let is_used = Cell::new(false);

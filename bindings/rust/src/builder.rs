@@ -1,4 +1,4 @@
-//! CMap files that are made of declarations.
+//! CMap files made from declarations.
 
 use crate::Cid;
 use crate::map::StringCode;
@@ -10,7 +10,7 @@ use core::ops::RangeInclusive;
 
 /// The codes from `first` to `last`, of `byte_len` bytes.
 ///
-/// The bytes of a code, or those of a first and a last one, are such codes, and so is a code of a string:
+/// They are made from the bytes of a code, from the bytes of a first and a last code, or from a code of a string:
 ///
 /// ```
 /// use hayro_cmap::{CMap, Codes};
@@ -21,16 +21,16 @@ use core::ops::RangeInclusive;
 /// ```
 #[derive(Clone, Copy, Debug, PartialEq, Eq, Hash)]
 pub struct Codes {
-    /// The number that the bytes of the first code write, the first one high.
+    /// The number of the first code, big-endian.
     pub first: u32,
-    /// That of the last code.
+    /// The number of the last code.
     pub last: u32,
-    /// How many bytes they have, 1 to 4.
+    /// How many bytes the codes have, 1 to 4.
     pub byte_len: u8,
 }
 
 impl Codes {
-    /// Whether there are such codes.
+    /// The codes, or the error if there are no such codes.
     pub(crate) fn checked(self) -> Result<Codes, WriteError> {
         let fits =
             matches!(self.byte_len, 1..=4) && u64::from(self.last) >> (8 * self.byte_len) == 0;
@@ -66,10 +66,10 @@ impl From<StringCode> for Codes {
     }
 }
 
-/// Makes a CMap file of declarations, in their order, and of what it says of itself.
+/// Makes a CMap file from declarations, in their order, and from its metadata.
 ///
-/// Where several declarations of a kind contain a code, the last one decides. This makes a ToUnicode CMap, as
-/// the font of a PDF file has one (ISO 32000-1, 9.10.3):
+/// If several declarations of a kind contain a code, the last one decides. This makes a ToUnicode CMap for a
+/// font of a PDF file (ISO 32000-1, 9.10.3):
 ///
 /// ```
 /// use hayro_cmap::{BfString, CMap, CMapBuilder};
@@ -93,7 +93,7 @@ pub struct CMapBuilder {
     pub(crate) declarations: Vec<Declaration>,
 }
 
-/// A character collection, as it stands in a file.
+/// A character collection, by the texts of a file.
 #[derive(Clone, Debug)]
 pub(crate) struct Collection {
     pub(crate) registry: Vec<u8>,
@@ -111,28 +111,28 @@ pub(crate) struct Declaration {
 /// What a declaration gives its codes.
 #[derive(Clone, Debug)]
 pub(crate) enum Given {
-    /// They are codes.
+    /// A codespace range.
     Codespace,
-    /// CIDs, which count on.
+    /// CIDs, which count on from code to code.
     Cid(Cid),
-    /// A CID for those that have no other.
+    /// A CID for each code that has no other.
     Notdef(Cid),
-    /// Texts, the last units of which count on.
+    /// Texts, whose last unit of UTF-16 counts on from code to code.
     Text(String),
 }
 
 impl CMapBuilder {
-    /// No declarations, and nothing that the file says of itself.
+    /// A file without declarations and without metadata.
     pub fn new() -> CMapBuilder {
         CMapBuilder::default()
     }
 
-    /// The name of the file, as `UniJIS-UTF16-H`.
+    /// The name of the file, such as `UniJIS-UTF16-H`.
     pub fn name(self, name: impl AsRef<[u8]>) -> CMapBuilder {
         CMapBuilder { name: Some(name.as_ref().to_vec()), ..self }
     }
 
-    /// The character collection of its CIDs: registry, ordering and supplement, as Adobe, Japan1 and 6.
+    /// The character collection of its CIDs: registry, ordering and supplement, such as Adobe, Japan1 and 6.
     pub fn collection(
         self,
         registry: impl AsRef<[u8]>,
@@ -143,28 +143,28 @@ impl CMapBuilder {
         CMapBuilder { collection: Some(Collection { registry, ordering, supplement }), ..self }
     }
 
-    /// The direction of the texts that it is for.
+    /// The writing mode of fonts with this CMap.
     pub fn writing_mode(self, mode: WritingMode) -> CMapBuilder {
         CMapBuilder { writing_mode: Some(mode), ..self }
     }
 
-    /// A codespace range: codes have this length, and each of their bytes lies between those of the first and
-    /// of the last one.
+    /// A codespace range: codes have this length, and each of their bytes lies between the bytes of the first
+    /// and of the last code at its place.
     pub fn codespace(self, codes: impl Into<Codes>) -> CMapBuilder {
         self.declare(codes, Given::Codespace)
     }
 
-    /// CIDs: the first code has this one, and they count on from code to code.
+    /// CIDs: the first code has this CID, and from code to code the CIDs count on.
     pub fn cid(self, codes: impl Into<Codes>, cid: Cid) -> CMapBuilder {
         self.declare(codes, Given::Cid(cid))
     }
 
-    /// The CID of each of the codes that has no other.
+    /// The CID of each of these codes that has no other.
     pub fn notdef(self, codes: impl Into<Codes>, cid: Cid) -> CMapBuilder {
         self.declare(codes, Given::Notdef(cid))
     }
 
-    /// Texts: the first code has this one, whose last unit of UTF-16 counts on from code to code.
+    /// Texts: the first code has this text, and from code to code its last unit of UTF-16 counts on.
     pub fn text(self, codes: impl Into<Codes>, text: impl Into<String>) -> CMapBuilder {
         self.declare(codes, Given::Text(text.into()))
     }
@@ -174,7 +174,7 @@ impl CMapBuilder {
         self
     }
 
-    /// Whether each declaration is one.
+    /// The first error of a declaration, if there is one.
     pub(crate) fn checked(&self) -> Result<(), WriteError> {
         self.declarations.iter().try_for_each(Declaration::checked)
     }
@@ -194,13 +194,12 @@ impl Declaration {
 #[derive(Clone, Copy, Debug, PartialEq, Eq, Hash)]
 #[non_exhaustive]
 pub enum WriteError {
-    /// The length of codes isn't 1 to 4 bytes, a code has more bytes than that, or the last code comes before
-    /// the first one.
+    /// The length of codes isn't 1 to 4 bytes, a code doesn't fit in it, or the last code comes before the first.
     InvalidCodes,
     /// A declaration gives codes an empty text.
     EmptyText,
-    /// No one file answers as the map does, as where a code has no CID but a text in one layer, and a CID in
-    /// a lower one; or the file's name would have a byte that no name has, as a blank.
+    /// No single file has the answers of the map, for example because a layer gives a code a text of one
+    /// character above a layer that gives it a CID; or the name has a byte that no name has, such as a blank.
     NotWritable,
 }
 
@@ -209,7 +208,7 @@ impl Display for WriteError {
         f.write_str(match self {
             WriteError::InvalidCodes => "there are no such codes",
             WriteError::EmptyText => "a text is empty",
-            WriteError::NotWritable => "no one CMap file says it",
+            WriteError::NotWritable => "no single CMap file can express it",
         })
     }
 }

@@ -23,13 +23,13 @@ pub struct Bundle {
 }
 
 impl Bundle {
-    /// The bundle of these bytes; `None` where they are invalid. Its files are copied.
+    /// The bundle of these bytes; `None` if they are invalid. Its files are copied.
     pub fn open(bytes: &[u8]) -> Option<Bundle> {
         BundleHandle::open(bytes).map(Bundle::of)
     }
 
-    /// The bundle that is in the crate: the one in the file that `HAYRO_CMAP_BUNDLE` named when it was
-    /// built. `None` where there was none, and where its bytes are invalid.
+    /// The bundle that is embedded in the crate: the file that `HAYRO_CMAP_BUNDLE` named when the crate was
+    /// built. `None` if the variable named none, or if the bytes are invalid.
     pub fn embedded() -> Option<&'static Bundle> {
         static BUNDLE: LazyLock<Option<Bundle>> =
             LazyLock::new(|| Bundle::open(embedded::bytes()?));
@@ -45,8 +45,8 @@ impl Bundle {
         Bundle { pool: Pool::new(handle) }
     }
 
-    /// What a bundle is read as where there is none: the embedded one without its files, so that binary
-    /// files can be read, but no name has a file.
+    /// The bundle for calls that are given none: the embedded bundle without its files, so that binary files
+    /// can be read, but no name has a file.
     pub(crate) fn none() -> &'static Bundle {
         static TABLES: LazyLock<Bundle> = LazyLock::new(|| {
             embedded_tables().unwrap_or_else(|| Bundle::of(BundleHandle::empty()))
@@ -59,7 +59,8 @@ impl Bundle {
     }
 }
 
-/// A bundle begins with the length of its tables, in four bytes, and the tables. Files follow.
+/// The embedded bundle without its files. A bundle begins with the length of its tables, in four bytes, and the
+/// tables; the files follow.
 fn embedded_tables() -> Option<Bundle> {
     let bytes = embedded::bytes()?;
     Bundle::embedded()?;
@@ -73,9 +74,9 @@ impl Debug for Bundle {
     }
 }
 
-/// A predefined CMap file, from the bundle that is in the crate ([`Bundle::embedded`]).
+/// A predefined CMap file of the bundle that is embedded in the crate ([`Bundle::embedded`]).
 ///
-/// It is copied when it is first asked for, and stays until the program ends.
+/// The file is copied when it is first requested, and the copy stays until the program ends.
 pub fn load_embedded(name: CMapName<'_>) -> Option<&'static [u8]> {
     static FILES: [OnceLock<Option<Vec<u8>>>; KNOWN_COUNT] =
         [const { OnceLock::new() }; KNOWN_COUNT];

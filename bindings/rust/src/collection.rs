@@ -42,7 +42,7 @@ impl CidFamily {
         }
     }
 
-    /// The CMap from Unicode, in UTF-16, to the CIDs of the family, for horizontal text.
+    /// The CMap from Unicode, in UTF-16, to the CIDs of the family, for horizontal writing.
     /// ISO 32000-1, 9.7.5.2.
     pub fn unicode_cmap(&self) -> Option<CMapName<'static>> {
         match self {
@@ -66,14 +66,14 @@ impl CidFamily {
         }
     }
 
-    /// The name of the CMap from the CIDs of the family to Unicode: its registry, its ordering and `UCS2`, as
-    /// Adobe-Japan1-UCS2. Any family has one, also where nobody made such a CMap. ISO 32000-1, 9.10.2.
+    /// The name of the CMap from the CIDs of the family to Unicode: its registry, its ordering and `UCS2`, such
+    /// as Adobe-Japan1-UCS2. Each family has a name, even if there is no such CMap. ISO 32000-1, 9.10.2.
     pub fn ucs2_name(&self) -> Vec<u8> {
         [&self.name()[..], b"UCS2"].join(&b'-')
     }
 
-    /// The name of the CMap from Unicode, in UTF-16, to the CIDs of the family, as UniJIS-UTF16-H, or
-    /// UniJIS-UTF16-V for vertical text. Only Japan1, GB1, CNS1, Korea1, KR and Japan2 of Adobe have one.
+    /// The name of the CMap from Unicode, in UTF-16, to the CIDs of the family, such as UniJIS-UTF16-H, or
+    /// UniJIS-UTF16-V for vertical writing. Only Japan1, GB1, CNS1, Korea1, KR and Japan2 of Adobe have one.
     ///
     /// ```
     /// use hayro_cmap::{CidFamily, WritingMode};
@@ -86,7 +86,7 @@ impl CidFamily {
         unicode_name(&self.name(), mode)
     }
 
-    /// Its registry and its ordering, as Adobe-Japan1.
+    /// Its registry and its ordering, such as Adobe-Japan1.
     fn name(&self) -> Vec<u8> {
         let (registry, ordering): (&[u8], &[u8]) = match self {
             CidFamily::AdobeJapan1 => (b"Adobe", b"Japan1"),

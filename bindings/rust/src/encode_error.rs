@@ -3,11 +3,11 @@
 use core::error::Error;
 use core::fmt::{self, Display, Formatter};
 
-/// Why a text isn't encoded: no string of the font shows it.
+/// The error for a text that isn't encoded, since no string of the font shows it.
 #[derive(Clone, Copy, Debug, PartialEq, Eq, Hash)]
 #[non_exhaustive]
 pub struct EncodeError {
-    /// In bytes: of the fronts of the text that strings show, the longest ends there.
+    /// The end, in bytes, of the longest prefix of the text that can be encoded.
     pub offset: usize,
 }
 

@@ -17,7 +17,7 @@ pub struct Encoder {
 }
 
 impl Extractor {
-    /// The encoder of the font. It is made of all codes of the font, and keeps none of its maps.
+    /// The encoder of the font. It is made from all codes of the font, and keeps none of its maps.
     ///
     /// ```
     /// use hayro_cmap::{CMap, Extractor};
@@ -32,8 +32,8 @@ impl Extractor {
         self.built(false)
     }
 
-    /// The encoder of the font for strings that are read back as their texts: only those codes stand for a
-    /// piece whose text is the piece, and nothing stands for a variation selector.
+    /// The encoder of the font for strings that are read back as their texts. It chooses only codes whose
+    /// text is the piece for which they stand, and a variation selector needs a code.
     ///
     /// ```
     /// use hayro_cmap::{CMap, Extractor};
@@ -58,11 +58,15 @@ impl Extractor {
 }
 
 impl Encoder {
-    /// The string of a text: the codes of its pieces. A piece is a letter, a character and the marks after
-    /// it, if that has a code and the rest can be encoded; else less of the letter, and at last more than
-    /// it. The code of a piece lies in a codespace range, has no notdef, and is the first one by its
-    /// [`Grade`]; of several that of the character itself in the form of the map from Unicode, then the
-    /// shortest, then the least; of a glyph that the collection's map reads as another character the last.
+    /// The string of a text: the codes of its pieces. A piece is a letter (a character and the marks after
+    /// it), if the letter has a code and the rest can be encoded; otherwise a part of the letter, and as a
+    /// last resort more than the letter.
+    ///
+    /// The code of a piece lies in a codespace range, is no notdef, and has the best [`Grade`]. Of several
+    /// codes with one grade up to [`Grade::Collection`] the shortest is taken, and of these the least. There
+    /// are two exceptions for [`Grade::Canonical`]: the character itself, in the form of the map from Unicode,
+    /// comes first; and if the collection's map reads the glyph as another character, the last code of the
+    /// glyph is taken.
     pub fn encode(&self, text: &str) -> Result<Vec<u8>, EncodeError> {
         self.pool.ask(|encoder| encoder.encode(text)).map_err(|offset| EncodeError { offset })
     }
@@ -83,8 +87,8 @@ impl Encoder {
         Ok(pieces.iter().map(Piece::of).collect())
     }
 
-    /// The same as far as the text can be encoded: the string of its longest prefix that can be, then
-    /// `missing` for the character after it, then what is left of the text likewise.
+    /// The string of a text as far as it can be encoded: the string of the longest prefix that can be
+    /// encoded, then `missing` for the character after it, and so on for the rest of the text.
     ///
     /// ```
     /// use hayro_cmap::{CMap, Extractor};
@@ -95,8 +99,8 @@ impl Encoder {
     ///
     /// # Panics
     ///
-    /// Where `missing` isn't whole codes of the font ([`Encoder::are_codes`]): the bytes after it would be
-    /// other codes.
+    /// If `missing` isn't whole codes of the font ([`Encoder::are_codes`]): other bytes may change how later
+    /// bytes are read.
     pub fn encode_lossy(&self, text: &str, missing: &[u8]) -> Vec<u8> {
         let string = self.pool.ask(|encoder| encoder.encode_lossy(text, missing));
         string

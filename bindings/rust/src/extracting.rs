@@ -7,16 +7,16 @@ use crate::metadata::WritingMode;
 use crate::text::BfString;
 
 impl Extractor {
-    /// The codes of a string, one after another, each with its CID and its text: that of the ToUnicode
-    /// CMap, where it has one for the code; else that of the CID in the map of the collection. Codes in no
-    /// codespace range are looked up too.
+    /// The codes of a string, one after another, each with its CID and its text. The text of a code comes
+    /// from the ToUnicode CMap; if this has none for the code, the map of the collection gives the text of
+    /// the CID. Codes outside the codespace ranges are looked up, too.
     pub fn characters(&self, string: &[u8]) -> Vec<Character> {
         self.ask(|encoding, to_unicode, collection| {
             extracted(encoding, to_unicode, collection, string)
         })
     }
 
-    /// Asks the maps by which strings are read, all at once.
+    /// Calls with the handles of the three maps for reading strings.
     pub(crate) fn ask<R>(
         &self,
         call: impl FnOnce(&mut MapHandle, &mut MapHandle, &mut MapHandle) -> R,
@@ -29,7 +29,7 @@ impl Extractor {
     }
 }
 
-/// Asks a map, or an empty one in the place of one that is absent.
+/// Calls with the handle of a map, or with an empty handle if there is no map.
 pub(crate) fn ask<R>(map: Option<&CMap>, call: impl FnOnce(&mut MapHandle) -> R) -> R {
     match map {
         Some(map) => map.ask(call),
@@ -58,7 +58,7 @@ fn extracted(
     characters
 }
 
-/// The name of the CMap from Unicode to the CIDs of a character collection, as Adobe-Japan1.
+/// The name of the CMap from Unicode to the CIDs of a character collection, such as Adobe-Japan1.
 pub(crate) fn unicode_name(collection: &[u8], mode: WritingMode) -> Option<Vec<u8>> {
     ffi::unicode_name(collection, mode)
 }

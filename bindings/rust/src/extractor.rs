@@ -8,8 +8,8 @@ use crate::{CMapName, CidFamily};
 use alloc::string::String;
 use alloc::vec::Vec;
 
-/// The maps of a font, by which the texts of its strings are found, and the strings of texts. ISO 32000-1,
-/// 9.10.2.
+/// The maps of a font. They give the texts of its strings, and an [`Encoder`](crate::Encoder) the strings of
+/// texts. ISO 32000-1, 9.10.2.
 ///
 /// ```
 /// use hayro_cmap::{BfString, CMap, Extractor};
@@ -28,16 +28,16 @@ pub struct Extractor {
 
 impl Extractor {
     /// `encoding` is the font's CMap, `to_unicode` its ToUnicode CMap, and `collection` a map from the CIDs
-    /// of its character collection to Unicode, as one of a
-    /// [`CidFamily::ucs2_cmap`](crate::CidFamily::ucs2_cmap). A clone of a map copies nothing.
+    /// of its character collection to Unicode, such as the CMap that
+    /// [`CidFamily::ucs2_cmap`](crate::CidFamily::ucs2_cmap) names. A clone of a map copies nothing.
     pub fn new(encoding: CMap, to_unicode: Option<CMap>, collection: Option<CMap>) -> Extractor {
         Extractor { encoding, to_unicode, collection, unicode: None }
     }
 
-    /// The same with the maps of the character collection that the encoding names: those of the files of
-    /// `get_cmap` whose names are [`CidFamily::ucs2_name`](crate::CidFamily::ucs2_name) and
-    /// [`CidFamily::unicode_name`](crate::CidFamily::unicode_name), if there are such. An encoding whose own
-    /// name begins with `Uni` is itself the map from Unicode.
+    /// The same with the maps of the character collection that the encoding names. [`CMap::open`] reads the
+    /// files with the names [`CidFamily::ucs2_name`](crate::CidFamily::ucs2_name) and
+    /// [`CidFamily::unicode_name`](crate::CidFamily::unicode_name), if `get_cmap` has them. An encoding whose
+    /// own name begins with `Uni` is itself the map from Unicode.
     ///
     /// ```
     /// use hayro_cmap::{CMap, Extractor};
@@ -63,8 +63,9 @@ impl Extractor {
         Extractor::by_names(encoding, to_unicode, family.as_ref(), open)
     }
 
-    /// The same with the maps of this character collection, whichever the encoding names: that of the font's
-    /// CIDSystemInfo dictionary, for Identity-H, which names none, and for an embedded CMap.
+    /// The same with the maps of this character collection, whichever the encoding names. Take the collection
+    /// from the font's CIDSystemInfo dictionary if the encoding is Identity-H, which names Adobe-Identity, or
+    /// an embedded CMap.
     ///
     /// ```
     /// use hayro_cmap::{CMap, CMapName, CidFamily, Extractor};
@@ -92,7 +93,7 @@ impl Extractor {
         Extractor::by_names(encoding, to_unicode, Some(family), open)
     }
 
-    /// The maps of a font, those of its character collection by their names.
+    /// The maps of a font; the maps of its character collection are opened by their names.
     pub(crate) fn by_names<E>(
         encoding: CMap,
         to_unicode: Option<CMap>,
@@ -112,13 +113,13 @@ impl Extractor {
         Ok(Extractor { encoding, to_unicode, collection, unicode })
     }
 
-    /// The same with this map from Unicode to the CIDs of the character collection, as UniJIS-UTF16-H. By it
-    /// an [`Encoder`](crate::Encoder) has the glyphs of characters that the collection means.
+    /// The same with this map from Unicode to the CIDs of the character collection, such as UniJIS-UTF16-H. By
+    /// this map an [`Encoder`](crate::Encoder) chooses the glyphs of characters.
     pub fn with_unicode(self, unicode: CMap) -> Extractor {
         Extractor { unicode: Some(unicode), ..self }
     }
 
-    /// Of a simple font, which has no CMap: its codes are bytes. ISO 32000-1, 9.6.
+    /// The maps of a simple font, which has no CMap: its codes are bytes. ISO 32000-1, 9.6.
     ///
     /// ```
     /// use hayro_cmap::{CMap, Extractor};
@@ -132,7 +133,7 @@ impl Extractor {
         Extractor::new(encoding, to_unicode, None)
     }
 
-    /// The text of a string: the texts of its codes, one after another, with U+FFFD for each that has none.
+    /// The text of a string: the texts of its codes, one after another, with U+FFFD for each code without a text.
     pub fn text(&self, string: &[u8]) -> String {
         let mut text = String::new();
         for character in self.characters(string) {
@@ -144,7 +145,7 @@ impl Extractor {
         text
     }
 
-    /// The same, as [`fold`] gives it: in the characters that are usually written.
+    /// The same text, folded by [`fold`]: in the characters that are usually written.
     ///
     /// ```
     /// use hayro_cmap::{CMap, Extractor};
@@ -157,13 +158,13 @@ impl Extractor {
     }
 }
 
-/// The family of the character collection of the first of the files of a map that names one.
+/// The family of the character collection of the first layer that names one.
 pub(crate) fn family_of(encoding: &CMap) -> Option<CidFamily> {
     let mut layers = encoding.layers().into_iter();
     layers.find_map(|layer| Some(layer.metadata.character_collection?.family))
 }
 
-/// Whether a map is one from Unicode, by its own name.
+/// Whether the name of a map begins with `Uni`: it is then a map from Unicode.
 fn is_from_unicode(encoding: &CMap) -> bool {
     let name = encoding.metadata().name.as_ref();
     name.is_some_and(|name| name.starts_with(b"Uni"))
@@ -173,8 +174,8 @@ fn is_from_unicode(encoding: &CMap) -> bool {
 #[derive(Clone, Debug, PartialEq, Eq)]
 #[non_exhaustive]
 pub struct Character {
-    /// The code. Its CID is the one that the font's CMap declares: a character of a text, which
-    /// [`CMap::lookup_cid_code`] gives for a code that has nothing else, is no CID.
+    /// The code. Its CID is the one that the font's CMap declares, never the Unicode number that
+    /// [`CMap::lookup_cid_code`] gives for a code that has nothing else.
     pub code: StringCode,
     /// Its text.
     pub text: Option<BfString>,

@@ -1,9 +1,9 @@
 //! The C library. All unsafe code of the crate is in this module.
 //!
-//! What `hayro_cmap.h` requires of a caller holds by these types. A handle begins empty, is neither
-//! cloned nor copied, and is freed once, when it is dropped. Each call has it as `&mut`, so one call
-//! at a time uses it. Pointers come from references and slices: they aren't null, what is behind them
-//! outlives the call, and what is behind a `&mut` overlaps with nothing else.
+//! These types keep the rules of `hayro_cmap.h` for callers. A handle begins empty, is neither cloned
+//! nor copied, and is freed once, when it is dropped. Each call takes it as `&mut`, so one call at a
+//! time uses it. Pointers come from references and slices: they aren't null, their targets outlive the
+//! call, and the target of a `&mut` overlaps no other target.
 
 use crate::builder::{CMapBuilder, Codes, Declaration, Given};
 use crate::{CidRange, Codespace, TextRange, WritingMode};
@@ -19,7 +19,7 @@ const NO_MEMORY: u32 = 2;
 const OVER_BUDGET: u32 = 3;
 const NO_ROOM: u32 = 6;
 
-/// The number of no writing mode.
+/// The number that stands for no writing mode.
 const NO_MODE: u16 = 2;
 
 /// The number of a writing mode.
@@ -30,7 +30,7 @@ fn mode_of(mode: WritingMode) -> u16 {
     }
 }
 
-/// At most so many names lead to a file at fault.
+/// The most names that lead to a file at fault.
 const MOST_NAMES: usize = 16;
 
 /// A map, or none.
@@ -54,7 +54,7 @@ struct RawEncoder {
     encoder: *mut c_void,
 }
 
-/// A file and its name, both lent for `'a`.
+/// A file and its name, both borrowed for `'a`.
 #[repr(C)]
 pub(crate) struct File<'a> {
     name: *const u8,
@@ -88,7 +88,7 @@ pub(crate) struct RawCode {
     pub(crate) cut_short: u8,
 }
 
-/// A code of a string, with its text in a room for texts.
+/// A code of a string, with its text in a buffer for texts.
 #[repr(C)]
 #[derive(Clone, Copy, Default)]
 pub(crate) struct RawCharacter {
@@ -99,7 +99,7 @@ pub(crate) struct RawCharacter {
 }
 
 impl RawCharacter {
-    /// Its text in the room; `None` where it has none.
+    /// Its text in the buffer; `None` if it has none.
     pub(crate) fn text<'t>(&self, room: &'t [u8]) -> Option<&'t str> {
         let bytes = room.get(self.text_start..)?.get(..self.text_len)?;
         if self.has_text == 0 { None } else { std::str::from_utf8(bytes).ok() }
@@ -124,7 +124,7 @@ struct RawTextRange {
     units: usize,
 }
 
-/// Codes in a row.
+/// A range of codes.
 #[repr(C)]
 #[derive(Clone, Copy, Default)]
 struct RawCodeRange {
@@ -132,7 +132,7 @@ struct RawCodeRange {
     last: u32,
 }
 
-/// A warning with what it concerns.
+/// A warning with the codes or places that it concerns.
 #[repr(C)]
 #[derive(Clone, Copy, Default)]
 pub(crate) struct RawFinding {
@@ -147,7 +147,7 @@ pub(crate) struct RawFinding {
     pub(crate) first_shown: u32,
 }
 
-/// Codes in a row, of a length.
+/// A range of codes of one length.
 #[repr(C)]
 #[derive(Clone, Copy)]
 struct RawCodes {
@@ -157,7 +157,7 @@ struct RawCodes {
 }
 
 impl RawCodes {
-    /// No codes.
+    /// A range without codes. At the end of a list it keeps the length from 0, which stands for all codes.
     const NONE: RawCodes = RawCodes { first: 1, last: 0, byte_len: 1 };
 
     fn of(codes: &Codes) -> RawCodes {
@@ -166,7 +166,7 @@ impl RawCodes {
     }
 }
 
-/// A declaration of a file that is made, its text lent for `'a`.
+/// A declaration of a file that is made; its text is borrowed for `'a`.
 #[repr(C)]
 struct RawDeclaration<'a> {
     kind: u16,
@@ -201,7 +201,7 @@ impl<'a> RawDeclaration<'a> {
     }
 }
 
-/// What a file that is made says of itself, its names lent for `'a`.
+/// The metadata of a file that is made; its texts are borrowed for `'a`.
 #[repr(C)]
 struct RawFacts<'a> {
     name: *const u8,
@@ -262,10 +262,10 @@ struct RawFault {
     name_lens: [usize; MOST_NAMES],
 }
 
-/// A call on a layer of a map that writes bytes to a room.
+/// A call on a layer of a map that writes bytes to a buffer.
 type LayerText = unsafe extern "C" fn(*mut RawMap, usize, *mut u8, usize, *mut usize) -> u32;
 
-/// A call on a layer of a map that writes declarations for codes of a length to a room.
+/// A call on a layer of a map that writes declarations for codes of one length to a buffer.
 type LayerCids =
     unsafe extern "C" fn(*mut RawMap, usize, u8, *mut CidRange, usize, *mut usize) -> u32;
 
@@ -537,19 +537,21 @@ unsafe extern "C" {
     fn hayro_cmap_version(room: *mut u8, room_len: usize, needed: *mut usize) -> u32;
 }
 
-/// Ends the program as Rust's collections do. The library doesn't say how much it asked for.
+/// Ends the program as Rust's collections do. The library doesn't report the size of its request; the layout
+/// stands in for it.
 fn out_of_memory() -> ! {
     handle_alloc_error(Layout::new::<RawMap>())
 }
 
-/// The answer of a call that either has one or is out of memory.
+/// Ends the program if this is the status of a call that ran out of memory.
 fn expect_memory(status: u32) {
     if status == NO_MEMORY {
         out_of_memory();
     }
 }
 
-/// What a call writes to a room: `ask` is called again where the first room is too short.
+/// The items that `ask` writes to a buffer of `first` items. `ask` is called again if the buffer is too short.
+/// `None` if there is no answer.
 fn written<T: Clone + Default>(
     first: usize,
     mut ask: impl FnMut(&mut [T], &mut usize) -> u32,
@@ -569,19 +571,19 @@ fn written<T: Clone + Default>(
     }
 }
 
-/// The bytes that most names and texts fit in.
+/// The length of a buffer in which most names and texts fit, in bytes.
 const SHORT: usize = 64;
 
-/// The bytes that many files fit in.
+/// The length of a buffer in which many files fit, in bytes.
 const LONG: usize = 1 << 16;
 
-/// How many bytes most strings have at most for a byte of their text.
+/// Most strings have at most this many bytes for each byte of their text.
 const BYTES_EACH: usize = 2;
 
 /// A map of the library.
 pub(crate) struct MapHandle(RawMap);
 
-// SAFETY: a handle may go to another thread, where something orders the calls. `&mut` does.
+// SAFETY: a handle may move to another thread if the calls are ordered. `&mut` orders them.
 unsafe impl Send for MapHandle {}
 
 impl Drop for MapHandle {
@@ -614,7 +616,7 @@ impl Fault {
         }
     }
 
-    /// Faults whose names stand one after another.
+    /// Faults whose names follow one another in a buffer.
     fn each(raw: &[RawFault], mut room: &[u8]) -> Vec<Fault> {
         let next = |raw: &RawFault| {
             let (names, rest) = room.split_at(raw.name_lens.iter().take(raw.names).sum());
@@ -648,7 +650,7 @@ impl Fault {
         })
     }
 
-    /// The number of what the part at fault of a text is read as, or 0.
+    /// The number of the `ReadAs` of the part at fault in a text, or 0.
     pub(crate) fn read_as(&self, text: &[u8]) -> u32 {
         let raw = self.raw();
         // SAFETY: see the head of the module.
@@ -659,7 +661,7 @@ impl Fault {
 /// What `hayro_cmap_open` answers.
 pub(crate) enum Opened {
     Map(MapHandle),
-    /// It, or a file under it, is refused.
+    /// The file, or one that it uses, is refused.
     Refused,
     /// There is no file of this name.
     Absent,
@@ -795,7 +797,7 @@ impl MapHandle {
         unsafe { hayro_cmap_cid_strict(&mut self.0, code, byte_len, &mut cid) }.then_some(cid)
     }
 
-    /// Writes the CIDs of codes in a row.
+    /// Writes the CIDs of consecutive codes.
     pub(crate) fn cids(&mut self, first: u32, byte_len: u8, absent: u32, cids: &mut [u32]) {
         // SAFETY: see the head of the module.
         unsafe {
@@ -803,8 +805,8 @@ impl MapHandle {
         };
     }
 
-    /// Cuts a string into codes, as many as there is room for: how many these are, and how many bytes
-    /// they take.
+    /// Cuts a string into as many codes as fit. It returns their number, and their number of bytes in the
+    /// string.
     pub(crate) fn decode(&mut self, string: &[u8], codes: &mut [RawCode]) -> (usize, usize) {
         let (mut made, mut taken) = (0, 0);
         // SAFETY: see the head of the module.
@@ -822,7 +824,7 @@ impl MapHandle {
         (made, taken)
     }
 
-    /// Cuts a string into codes with their texts, as many as there is room for. The other maps may be empty.
+    /// Cuts a string into codes with their texts, as many as fit. The other maps may be empty.
     pub(crate) fn extract(
         &mut self,
         to_unicode: &mut MapHandle,
@@ -851,7 +853,7 @@ impl MapHandle {
         extracted
     }
 
-    /// Hands on the text of a code, in UTF-8.
+    /// Passes the text of a code to `take`, and returns the result.
     pub(crate) fn text<R>(&mut self, code: u32, take: impl FnOnce(&str) -> R) -> Option<R> {
         let mut room = [0; SHORT];
         let mut needed = 0;
@@ -892,7 +894,7 @@ impl MapHandle {
 
     fn layer_text(&mut self, call: LayerText, layer: usize) -> Option<Vec<u8>> {
         written(SHORT, |room, needed| {
-            // SAFETY: see the head of the module. `call` is one of the library.
+            // SAFETY: see the head of the module. `call` is a function of the library.
             unsafe { call(&mut self.0, layer, room.as_mut_ptr(), room.len(), needed) }
         })
     }
@@ -904,7 +906,7 @@ impl MapHandle {
             .then_some(supplement)
     }
 
-    /// 0 for horizontal, 1 for vertical, 2 for neither.
+    /// The number of a writing mode: 0 for horizontal, 1 for vertical, 2 for none.
     pub(crate) fn writing_mode(&mut self, layer: usize) -> u32 {
         // SAFETY: see the head of the module.
         unsafe { hayro_cmap_layer_writing_mode(&mut self.0, layer) }
@@ -930,7 +932,7 @@ impl MapHandle {
 
     fn layer_cids(&mut self, call: LayerCids, layer: usize, byte_len: u8) -> Vec<CidRange> {
         let ranges = written(8, |ranges: &mut [CidRange], needed| {
-            // SAFETY: see the head of the module. `call` is one of the library.
+            // SAFETY: see the head of the module. `call` is a function of the library.
             unsafe { call(&mut self.0, layer, byte_len, ranges.as_mut_ptr(), ranges.len(), needed) }
         });
         ranges.unwrap_or_default()
@@ -959,7 +961,7 @@ impl MapHandle {
             .collect()
     }
 
-    /// The units of the declaration of texts at an index, of which there are `count`.
+    /// The units of the declaration of texts at an index; it has `count` units.
     fn text_units(&mut self, layer: usize, index: usize, count: usize) -> Vec<u16> {
         let units = written(count, |units: &mut [u16], needed| {
             // SAFETY: see the head of the module.
@@ -995,7 +997,7 @@ impl MapHandle {
         ranges.map(|range| range.first..=range.last).collect()
     }
 
-    /// What looks wrong in the file of the map. The shown codes are in order.
+    /// What looks wrong in the file of the map. The shown codes are in ascending order, each once.
     pub(crate) fn lint(&mut self, text: &[u8], to_unicode: bool, shown: &[u32]) -> Vec<RawFinding> {
         let found = written(8, |found: &mut [RawFinding], needed| {
             // SAFETY: see the head of the module.
@@ -1016,7 +1018,7 @@ impl MapHandle {
         found.unwrap_or_default()
     }
 
-    /// The text of one file that answers as the map, or for these codes alone.
+    /// The text of one file that has the answers of the map, or only its answers for these codes.
     pub(crate) fn write(&mut self, codes: Option<&[Codes]>) -> Option<Vec<u8>> {
         let codes = codes.map(|codes| codes.iter().map(RawCodes::of).chain([RawCodes::NONE]));
         let codes: Vec<RawCodes> = codes.into_iter().flatten().collect();
@@ -1080,7 +1082,7 @@ impl BundleHandle {
         })
     }
 
-    /// The names that a file uses; `None` where it is outside the grammar.
+    /// The names that a file uses; `None` if it is outside the grammar.
     pub(crate) fn uses(&mut self, data: &[u8]) -> Option<Vec<Vec<u8>>> {
         let (mut lens, mut room) = (vec![0; 4], vec![0; SHORT]);
         let (mut names, mut needed) = (0, 0);
@@ -1130,7 +1132,7 @@ impl EncoderHandle {
         EncoderHandle(RawEncoder { full: false, encoder: ptr::null_mut() })
     }
 
-    /// The encoder of a font, of which the last three maps may be empty.
+    /// The encoder of a font; all maps but the encoding may be empty.
     pub(crate) fn build(
         encoding: &mut MapHandle,
         to_unicode: &mut MapHandle,
@@ -1153,7 +1155,7 @@ impl EncoderHandle {
         encoder
     }
 
-    /// The string that shows a text; else the offset where the text is refused.
+    /// The string that shows a text, or the offset where the text is refused.
     pub(crate) fn encode(&mut self, text: &str) -> Result<Vec<u8>, usize> {
         let mut offset = 0;
         let string = written(BYTES_EACH * text.len(), |room, needed| {
@@ -1173,7 +1175,7 @@ impl EncoderHandle {
         string.ok_or(offset)
     }
 
-    /// The pieces of a text; else the offset where it is refused.
+    /// The pieces of a text, or the offset where the text is refused.
     pub(crate) fn pieces(&mut self, text: &str) -> Result<Vec<RawPiece>, usize> {
         let mut offset = 0;
         let pieces = written(text.len(), |room, needed| {
@@ -1193,8 +1195,8 @@ impl EncoderHandle {
         pieces.ok_or(offset)
     }
 
-    /// The string of a text with these bytes for each character that no string shows; `None` where they
-    /// aren't whole codes.
+    /// The string of a text with the bytes `missing` for each character that no string shows; `None` if these
+    /// bytes aren't whole codes.
     pub(crate) fn encode_lossy(&mut self, text: &str, missing: &[u8]) -> Option<Vec<u8>> {
         written(BYTES_EACH * text.len(), |room, needed| {
             // SAFETY: see the head of the module.
@@ -1214,7 +1216,7 @@ impl EncoderHandle {
     }
 }
 
-/// Names that stand one after another.
+/// Names that follow one another in a buffer.
 fn split(mut room: &[u8], lens: impl Iterator<Item = usize>) -> Vec<Vec<u8>> {
     lens.map(|len| {
         let (name, rest) = room.split_at(len);
@@ -1224,7 +1226,7 @@ fn split(mut room: &[u8], lens: impl Iterator<Item = usize>) -> Vec<Vec<u8>> {
     .collect()
 }
 
-/// A handle of which there can be others.
+/// A handle that can be shared.
 pub(crate) trait Share: Sized {
     /// Another handle of the same map, bundle or encoder. Nothing is copied.
     fn share(&mut self) -> Self;
@@ -1257,7 +1259,7 @@ impl Share for EncoderHandle {
     }
 }
 
-/// The text of a file of declarations.
+/// The text of a CMap file with these declarations and metadata.
 pub(crate) fn make(file: &CMapBuilder) -> Option<Vec<u8>> {
     let facts = RawFacts::of(file);
     let declarations: Vec<_> = file.declarations.iter().map(RawDeclaration::of).collect();
@@ -1276,7 +1278,7 @@ pub(crate) fn make(file: &CMapBuilder) -> Option<Vec<u8>> {
     })
 }
 
-/// The name of a warning.
+/// The name of a warning, by its number.
 pub(crate) fn warning_name(warning: u32) -> Option<Vec<u8>> {
     written(SHORT, |room, needed| {
         // SAFETY: see the head of the module.

@@ -2,29 +2,29 @@
 
 use alloc::vec::Vec;
 
-/// A warning about a file, with what it concerns.
+/// A warning about a file, with the codes or places that it concerns.
 #[derive(Clone, Copy, Debug, PartialEq, Eq, Hash)]
 #[non_exhaustive]
 pub struct Finding {
     /// The warning.
     pub warning: Warning,
-    /// How many codes, declarations, sections or strings it concerns; 1 where it concerns the file.
+    /// How many codes, declarations, sections or strings it concerns; 1 if it concerns the file.
     pub count: u64,
-    /// The first of these.
+    /// The first place that it concerns.
     pub first: Place,
     /// How many of the shown codes it concerns.
     pub shown: usize,
-    /// The lowest of these.
+    /// The lowest of the shown codes that it concerns.
     pub first_shown: Option<u32>,
 }
 
-/// Where something is found.
+/// The first place that a warning concerns.
 #[derive(Clone, Copy, Debug, PartialEq, Eq, Hash)]
 #[non_exhaustive]
 pub enum Place {
     /// In the file as a whole.
     File,
-    /// At a code of this many bytes.
+    /// At a code.
     Code {
         /// How many bytes the code has.
         byte_len: u8,
@@ -46,7 +46,7 @@ pub enum Place {
     Offset(usize),
 }
 
-/// What can look wrong in a file, in the order in which it is reported.
+/// What can look wrong in a file that has a map, in the order of reports.
 #[derive(Clone, Copy, Debug, PartialEq, Eq, Hash)]
 #[non_exhaustive]
 pub enum Warning {
@@ -56,15 +56,15 @@ pub enum Warning {
     NoCodespace,
     /// Codes with a CID or a notdef lie in no codespace range.
     OutsideCodespace,
-    /// Codes have two declarations of one list that disagree.
+    /// Codes have two declarations of one kind that disagree.
     Overlap,
     /// Declarations have their first code above their last.
     InvertedRange,
-    /// Ranges have ends that differ in another byte than the last. Adobe Technical Note 5014.
+    /// The ends of ranges differ in another byte than the last. Adobe Technical Note 5014.
     CrossesRow,
     /// Texts of a range have a last byte that counts on past 255. ISO 32000-1, 9.10.3.
     LastByte,
-    /// Declarations of texts give none for one of their codes.
+    /// Declarations of texts give no text for one of their codes.
     NoText,
     /// Texts have characters for private use.
     PrivateUse,
@@ -76,15 +76,15 @@ pub enum Warning {
     NullCharacter,
     /// Codes of the codespace, of up to two bytes, have no text.
     NoMapping,
-    /// The CMapName isn't the name of the file. [`CMap::lint`](crate::CMap::lint) never finds it.
+    /// The file gives itself a name that isn't its file name. [`CMap::lint`](crate::CMap::lint) never finds this.
     NameDiffers,
     /// A name ends in `-V`, and the writing mode isn't vertical.
     ModeDiffers,
-    /// The number before a section isn't that of its entries.
+    /// Sections have a wrong number of entries before them.
     CountDiffers,
     /// Sections have more than 100 entries. Adobe Technical Note 5014.
     LongSection,
-    /// After the last `begincmap` comes no `endcmap`. Adobe Technical Note 5014.
+    /// No `endcmap` follows the last `begincmap`. Adobe Technical Note 5014.
     NoEndcmap,
     /// Codes have a length that no codespace range has.
     CodeLength,

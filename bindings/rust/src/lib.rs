@@ -50,7 +50,7 @@ pub use reason::{Cause, ReadAs, Reason, Segment};
 pub use refusal::Refusal;
 pub use text::BfString;
 
-/// The version of the library that the crate is built over, which is the project's.
+/// The version of the library under the crate, which is the version of the project.
 pub fn library_version() -> String {
     let version = ffi::version().unwrap_or_default();
     String::from_utf8_lossy(&version).into_owned()

@@ -1,18 +1,19 @@
-//! What looks wrong in files, by the C library.
+//! What looks wrong in files.
 
 use crate::CMap;
 use crate::ffi::{self, RawFinding};
 use crate::finding::{Finding, Place, Warning, in_order};
 
 impl CMap {
-    /// What looks wrong in the file: the warnings of `cmap check --lint`, in its order, each that concerns
-    /// something once. That of the name of the file is never among them.
+    /// What looks wrong in the file: the warnings of `cmap check --lint`, each at most once, in the order of
+    /// [`Warning`]. [`Warning::NameDiffers`] is never among them.
     ///
-    /// `text` is the file, if it is a text; without bytes there are no warnings about how a text is written.
-    /// `to_unicode` is whether the map is meant as one to Unicode, as that under ToUnicode of a font. `shown`
-    /// are codes that are shown with the font: a finding says how many of these it concerns. A declaration
-    /// concerns the codes between its ends ([`Warning::NoText`] those without a text), a string those of its
-    /// entry.
+    /// `text` is the file, if it is a text; without bytes there is no warning about the spelling of a text.
+    /// `to_unicode` tells that the map is a ToUnicode CMap.
+    ///
+    /// `shown` has the codes that are shown with the font, in any order. A finding counts the shown codes that
+    /// it concerns. A declaration concerns the codes between its ends; with [`Warning::NoText`] only the codes
+    /// without a text. A string concerns the codes of its entry, and a text in a list only its own code.
     ///
     /// ```
     /// use hayro_cmap::{CMap, Place, Warning};
@@ -33,7 +34,7 @@ impl CMap {
 }
 
 impl Finding {
-    /// `None` for a warning that isn't known here.
+    /// The finding; `None` if this crate doesn't know the warning.
     fn of(raw: &RawFinding) -> Option<Finding> {
         Some(Finding {
             warning: Warning::numbered(raw.warning)?,
@@ -57,7 +58,7 @@ fn place_of(raw: &RawFinding) -> Place {
 }
 
 impl Warning {
-    /// The name by which `cmap check --lint` reports it, as `odd-digits`.
+    /// The name of the warning in `cmap check --lint`, such as `odd-digits`.
     pub fn name(self) -> String {
         let name = ffi::warning_name(self as u32).unwrap_or_default();
         String::from_utf8_lossy(&name).into_owned()

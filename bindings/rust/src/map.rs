@@ -12,18 +12,18 @@ use std::sync::Arc;
 /// The number of a character in a character collection. Adobe Technical Note 5014.
 pub type Cid = u32;
 
-/// What the codes of a font stand for: which CIDs, and which texts.
+/// The map of a CMap file: CIDs and texts for the codes of a font.
 ///
 /// # Threads and clones
 ///
-/// Any number of threads may look up in one map, and up to eight at once don't wait for each other. A
-/// lookup takes a lock of its thread, which nobody else holds then: two atomic operations, some ten
-/// nanoseconds. [`CMap::decode`] and [`CMap::fill_cids`] take it once for all their codes. A clone
-/// copies nothing, and has locks of its own.
+/// Any number of threads may use one map, and up to eight at once don't wait for each other. A lookup takes
+/// the lock of its thread. Up to eight threads have locks of their own; such a lock costs two atomic
+/// operations, some ten nanoseconds. [`CMap::decode`] and [`CMap::fill_cids`] take the lock once for all
+/// their codes. A clone copies nothing, and has locks of its own.
 ///
 /// # Out of memory
 ///
-/// Where memory runs out the program ends, as with Rust's own collections.
+/// If memory runs out, the program ends, as with Rust's own collections.
 #[derive(Clone)]
 pub struct CMap {
     pool: Pool<MapHandle>,
@@ -31,29 +31,28 @@ pub struct CMap {
 }
 
 impl CMap {
-    /// The predefined CMap Identity-H: codes of two bytes are CIDs, for horizontal text.
+    /// The predefined CMap Identity-H: codes of two bytes are CIDs, for horizontal writing.
     pub fn identity_h() -> CMap {
         CMap::of(MapHandle::identity(false))
     }
 
-    /// The predefined CMap Identity-V: codes of two bytes are CIDs, for vertical text.
+    /// The predefined CMap Identity-V: codes of two bytes are CIDs, for vertical writing.
     pub fn identity_v() -> CMap {
         CMap::of(MapHandle::identity(true))
     }
 
-    /// What the file says of itself, whatever the files say that it uses.
+    /// The metadata of the file itself, without the files that it uses.
     pub fn metadata(&self) -> &Metadata {
         &self.metadata
     }
 
-    /// The CID of a code of `byte_len` bytes, which write the number `code`, the first one high.
-    /// Codespace ranges aren't looked at.
+    /// The CID of a code of `byte_len` bytes, which are the number `code`, big-endian. Codespace ranges are
+    /// ignored.
     pub fn lookup_cid_code(&self, code: u32, byte_len: u8) -> Option<Cid> {
         self.pool.ask(|map| map.cid(code, byte_len))
     }
 
-    /// The CID of a code, as [`CMap::lookup_cid_code`] gives it, where the code lies in a codespace
-    /// range of its length, byte by byte; else there is none.
+    /// The same for a code in a codespace range of its length, byte by byte; other codes have no CID.
     ///
     /// ```
     /// let file = b"begincodespacerange <8140> <9FFC> endcodespacerange
@@ -67,14 +66,15 @@ impl CMap {
         self.pool.ask(|map| map.cid_strict(code, byte_len))
     }
 
-    /// The text of a code, or of a CID where the map is one of a
-    /// [`CidFamily::ucs2_cmap`](crate::CidFamily::ucs2_cmap).
+    /// The text of a code. In a map from CIDs to Unicode, such as
+    /// [`CidFamily::ucs2_cmap`](crate::CidFamily::ucs2_cmap) names, the codes are CIDs.
     pub fn lookup_bf_string(&self, code: u32) -> Option<BfString> {
         self.pool.ask(|map| map.text(code, BfString::of))
     }
 
-    /// Writes the CIDs of the codes of `byte_len` bytes from `first` on, one for each place, as
-    /// [`CMap::lookup_cid_code`] gives them, and `absent` where there is none.
+    /// Fills `cids` with the CIDs of the codes of `byte_len` bytes from `first` on, each as
+    /// [`CMap::lookup_cid_code`] gives it, with `absent` for a code that has none and for items after the
+    /// code [`u32::MAX`].
     ///
     /// ```
     /// let map = hayro_cmap::CMap::parse(b"begincidrange <20> <7E> 1 endcidrange", |_| None).unwrap();
@@ -86,7 +86,7 @@ impl CMap {
         self.pool.ask(|map| map.cids(first, byte_len, absent, cids));
     }
 
-    /// Cuts a string into codes by the codespace ranges, and gives each its CID.
+    /// Cuts a string into codes by the codespace ranges, each with its CID.
     ///
     /// ```
     /// let codes = hayro_cmap::CMap::identity_h().decode(b"\x12\x34\x56");
@@ -106,8 +106,8 @@ impl CMap {
         codes
     }
 
-    /// The layers of the map, 1 to 16: the file's own, then that of the file that it is based on, and so
-    /// on.
+    /// The layers of the map, 1 to 16: layer 0 is the file itself, layer 1 the file that it is based on, and
+    /// so on.
     pub fn layers(&self) -> Vec<Layer> {
         self.pool.ask(|map| {
             (0..map.layers())
@@ -119,9 +119,9 @@ impl CMap {
         })
     }
 
-    /// The declarations of CIDs that a layer makes for codes of `byte_len` bytes, in the order of its
-    /// file; none where there is no such layer. The last one that contains a code decides in its layer,
-    /// and its CIDs count on from code to code.
+    /// The declarations of CIDs of a layer for codes of `byte_len` bytes, in the order of its file; none if
+    /// there is no such layer. From code to code the CID of a declaration counts on. If several
+    /// declarations of the layer contain a code, the last one decides.
     ///
     /// ```
     /// let file = b"begincidrange <20> <7E> 1 endcidrange begincidchar <41> 7 endcidchar";
@@ -134,14 +134,14 @@ impl CMap {
         self.pool.ask(|map| map.cid_ranges(layer, byte_len))
     }
 
-    /// The declarations of notdefs that a layer makes for codes of `byte_len` bytes, in the order of its
-    /// file. All codes of one have the same CID, where no declaration of CIDs of the layer contains them.
+    /// The declarations of notdefs of a layer for codes of `byte_len` bytes, in the order of its file; none
+    /// if there is no such layer. All codes of one have the same CID, unless a declaration of CIDs of the
+    /// layer contains them.
     pub fn notdef_ranges(&self, layer: usize, byte_len: u8) -> Vec<CidRange> {
         self.pool.ask(|map| map.notdef_ranges(layer, byte_len))
     }
 
-    /// The declarations of texts that a layer makes, in the order of its file; none where there is no
-    /// such layer.
+    /// The declarations of texts of a layer, in the order of its file; none if there is no such layer.
     ///
     /// ```
     /// let map = hayro_cmap::CMap::parse(b"beginbfrange <41> <5A> <0061> endbfrange", |_| None).unwrap();
@@ -154,8 +154,8 @@ impl CMap {
     }
 
     /// All codes that have this CID, as [`CMap::lookup_cid_code`] gives it for codes of `byte_len` bytes:
-    /// ranges in order, each as long as can be. Codes that a file declares and that `byte_len` bytes can't
-    /// write are among them.
+    /// ranges in order, each as long as possible. They include declared codes that don't fit in `byte_len`
+    /// bytes.
     ///
     /// ```
     /// let file = b"begincidrange <20> <7E> 1 endcidrange begincidchar <41> 7 endcidchar";
@@ -167,7 +167,7 @@ impl CMap {
         self.pool.ask(|map| map.codes_of_cid(cid, byte_len))
     }
 
-    /// Asks by a handle that no other call has. The call mustn't ask this map.
+    /// Calls with a handle that no other call has. The call mustn't use this map.
     pub(crate) fn ask<R>(&self, call: impl FnOnce(&mut MapHandle) -> R) -> R {
         self.pool.ask(call)
     }
@@ -208,13 +208,13 @@ impl Debug for CMap {
 #[derive(Clone, Copy, Debug, PartialEq, Eq, Hash)]
 #[non_exhaustive]
 pub struct StringCode {
-    /// The number that its bytes write, the first one high.
+    /// The number of its bytes, big-endian.
     pub code: u32,
     /// How many bytes it has, 1 to 4.
     pub byte_len: u8,
-    /// Its CID, in what [`CMap::decode`] gives as [`CMap::lookup_cid_code`] gives it.
+    /// Its CID. [`CMap::decode`] gives the CID of [`CMap::lookup_cid_code`].
     pub cid: Option<Cid>,
-    /// Whether it lies in a codespace range. Only then [`CMap::lookup_cid_code_strict`] gives a CID.
+    /// Whether it lies in a codespace range. Only then does [`CMap::lookup_cid_code_strict`] give a CID.
     pub in_codespace: bool,
     /// Whether the string ends before the code does.
     pub cut_short: bool,
@@ -232,17 +232,17 @@ impl StringCode {
     }
 }
 
-/// What one of the files of a map says.
+/// What one file of a map declares.
 #[derive(Clone, Debug)]
 #[non_exhaustive]
 pub struct Layer {
-    /// What it says of itself.
+    /// The metadata of the file.
     pub metadata: Metadata,
     /// Its codespace ranges, in order.
     pub codespaces: Vec<Codespace>,
 }
 
-/// A codespace range: codes of `byte_len` bytes, each byte between those of `low` and `high`.
+/// A codespace range: codes of `byte_len` bytes, each byte between the bytes of `low` and `high` at its place.
 #[repr(C)]
 #[derive(Clone, Copy, Debug, Default, PartialEq, Eq, Hash)]
 pub struct Codespace {
@@ -254,7 +254,7 @@ pub struct Codespace {
     pub byte_len: u32,
 }
 
-/// A declaration of CIDs: the codes from `first` to `last`; none where `first` is greater.
+/// A declaration of CIDs for the codes from `first` to `last`; for none if `first` is greater.
 #[repr(C)]
 #[derive(Clone, Copy, Debug, Default, PartialEq, Eq, Hash)]
 #[non_exhaustive]
@@ -267,7 +267,7 @@ pub struct CidRange {
     pub cid: Cid,
 }
 
-/// A declaration of texts: the codes from `first` to `last`; none where `first` is greater.
+/// A declaration of texts for the codes from `first` to `last`; for none if `first` is greater.
 #[derive(Clone, Debug, PartialEq, Eq, Hash)]
 #[non_exhaustive]
 pub struct TextRange {

@@ -1,9 +1,9 @@
-//! What a CMap file says of itself.
+//! The metadata of a CMap file.
 
 use crate::CharacterCollection;
 use alloc::vec::Vec;
 
-/// The direction of a text: horizontal, unless a file says otherwise.
+/// The writing mode of a font: the direction of its strings. Horizontal is the default.
 #[derive(Clone, Copy, Debug, Default, PartialEq, Eq)]
 pub enum WritingMode {
     /// From left to right.
@@ -13,13 +13,13 @@ pub enum WritingMode {
     Vertical,
 }
 
-/// What a CMap file says of itself. What it doesn't say is `None`.
+/// The metadata of a CMap file. Entries that the file doesn't have are `None`.
 #[derive(Clone, Debug)]
 pub struct Metadata {
-    /// The character collection that its CIDs belong to.
+    /// The character collection of its CIDs.
     pub character_collection: Option<CharacterCollection>,
     /// The name that it gives itself.
     pub name: Option<Vec<u8>>,
-    /// The direction of the texts that it is for.
+    /// The writing mode of fonts with this CMap.
     pub writing_mode: Option<WritingMode>,
 }

@@ -1,13 +1,13 @@
 //! Names of CMaps.
 
-/// Makes the enum of the known names, in the order of their texts, and their conversions.
+/// Writes the enum of the known names, in the order of their texts, and its conversions.
 macro_rules! known_names {
     ($($variant:ident = $text:literal,)*) => {
         /// The name of a CMap: a predefined one of ISO 32000-1, 9.7.5.2, one of the files from CIDs to
         /// Unicode of Adobe Technical Note 5411, or any other name.
         ///
-        /// Names are equal by their variant, and `Custom` ones by their bytes. A `Custom` that is made
-        /// by hand of a known text isn't equal to the known name; [`CMapName::from_bytes`] makes none.
+        /// Names are equal by their variant, and `Custom` names by their bytes. A `Custom` with a known
+        /// text isn't equal to the known name; [`CMapName::from_bytes`] never makes one.
         #[derive(Clone, Copy, Debug, PartialEq, Eq)]
         pub enum CMapName<'a> {
             $(
@@ -22,7 +22,7 @@ macro_rules! known_names {
         const KNOWN_NAMES: &[(CMapName<'static>, &str)] = &[$((CMapName::$variant, $text),)*];
 
         impl<'a> CMapName<'a> {
-            /// The text of the name, without the slash that stands before it in a file.
+            /// The text of the name, without the slash before it in a file.
             pub fn to_bytes(&self) -> &[u8] {
                 match self {
                     $(CMapName::$variant => $text.as_bytes(),)*
@@ -101,11 +101,11 @@ known_names! {
     V = "V",
 }
 
-/// How many names are known.
+/// The number of the known names.
 pub(crate) const KNOWN_COUNT: usize = KNOWN_NAMES.len();
 
 impl<'a> CMapName<'a> {
-    /// The name with this text; `Custom` where no other variant has it.
+    /// The name with this text; `Custom` if no other variant has the text.
     pub fn from_bytes(bytes: &'a [u8]) -> CMapName<'a> {
         match index_of(bytes) {
             Some(index) => KNOWN_NAMES[index].0,
@@ -113,7 +113,7 @@ impl<'a> CMapName<'a> {
         }
     }
 
-    /// The index among the known names, in the order of their texts; `None` of a `Custom` name.
+    /// The index among the known names, in the order of their texts; `None` for a `Custom` name.
     pub(crate) fn index(&self) -> Option<usize> {
         match self {
             CMapName::Custom(_) => None,

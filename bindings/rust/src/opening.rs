@@ -13,13 +13,13 @@ impl<'a> From<&'a str> for CMapName<'a> {
 }
 
 impl CMap {
-    /// Reads a CMap file: a text, or one in binary form where a bundle is in the crate
-    /// ([`load_embedded`](crate::load_embedded)).
+    /// Reads a CMap file: a text, or a binary file if a bundle is embedded in the crate
+    /// ([`Bundle::embedded`](crate::Bundle::embedded)).
     ///
-    /// `get_cmap` gives the bytes of the files that it uses, and of those that they use. It is asked
-    /// for a name once, after the file that uses it has been read. The answer is `None` where a file is
-    /// outside the grammar, or missing, or would be the seventeenth of a chain;
-    /// [`CMap::parse_explained`] says which.
+    /// `get_cmap` gives the bytes of the files that are used, by the file itself and by used files. It is
+    /// called once for each name, after the file that uses the name has been read. The answer is `None` if
+    /// a file is outside the grammar, is missing, or would be the seventeenth of a chain;
+    /// [`CMap::parse_explained`] gives the reason.
     ///
     /// ```
     /// use hayro_cmap::{CMap, CMapName};
@@ -38,7 +38,7 @@ impl CMap {
         CMap::parse_explained(data, get_cmap).ok()
     }
 
-    /// Reads a CMap file as [`CMap::parse`] does, and says why there is no map.
+    /// Reads a CMap file as [`CMap::parse`] does; the error is the reason why there is no map.
     ///
     /// ```
     /// use hayro_cmap::{CMap, Reason};
@@ -55,9 +55,11 @@ impl CMap {
         ParseOptions::new().parse(data, get_cmap)
     }
 
-    /// Reads a file, and those that it uses, past their faults: the map of what they say, and each
-    /// fault, those of a file once. Of a file that [`CMap::parse`] accepts it gives the same map, and no fault; of another
-    /// one the first fault is one for which that is refused, or in a text in rows one before it.
+    /// Reads a file, and the files that it uses, past their faults. It gives the map of everything else,
+    /// and each fault; the faults of each file are listed once. For a file that [`CMap::parse`] accepts, the
+    /// map is the same and there is no fault. For any other file, the first fault is one for which
+    /// [`CMap::parse_explained`] refuses the file; in a text in rows it may be an earlier one. docs/FORMATS.md
+    /// of the project defines how reading goes on, and what a text in rows is.
     ///
     /// ```
     /// let file = b"begincidchar <41> 5 <42> /x <43> 7 endcidchar";
@@ -73,9 +75,9 @@ impl CMap {
         ParseOptions::new().salvage(data, get_cmap)
     }
 
-    /// Reads the file of a name, which `get_cmap` gives as those that it uses. So what the file says of
-    /// itself is the map's [metadata](CMap::metadata). Without a file Identity-H and Identity-V are
-    /// made, and any other name is `Ok(None)`.
+    /// Reads the file of a name, so that the map has its [metadata](CMap::metadata). `get_cmap` gives this
+    /// file and the files that it uses. If there is no file of the name, Identity-H and Identity-V are made
+    /// without one, and any other name is `Ok(None)`.
     ///
     /// ```
     /// use hayro_cmap::{CMap, CMapName};
@@ -92,8 +94,8 @@ impl CMap {
         ParseOptions::new().open(name, get_cmap)
     }
 
-    /// The names of the files that a file uses, in the order of the uses; `None` where it is outside
-    /// the grammar.
+    /// The names of the files that a file uses, in the order of the uses; `None` if it is outside the
+    /// grammar.
     ///
     /// ```
     /// let names = hayro_cmap::CMap::uses(b"/Base usecmap");

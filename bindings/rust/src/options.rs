@@ -1,4 +1,4 @@
-//! How files are read, and what is read past faults.
+//! Options for reading files, and the result of reading past faults.
 
 use crate::bundle::Bundle;
 use crate::map::CMap;
@@ -28,25 +28,26 @@ impl<'b> ParseOptions<'b> {
         ParseOptions::default()
     }
 
-    /// Over a bundle: binary files are read by its tables, and it has the files whose names `get_cmap`
-    /// doesn't answer.
+    /// Reads over a bundle: its tables serve for binary files, and its files for the names for which
+    /// `get_cmap` gives none.
     pub fn bundle(self, bundle: &'b Bundle) -> ParseOptions<'b> {
         ParseOptions { bundle: Some(bundle), ..self }
     }
 
-    /// Within a budget: the files that are opened may have no more bytes together. A file counts as
-    /// often as it is used, also one of the bundle; what else is in the bundle doesn't count. Where
-    /// they need no file and have none, Identity-H and Identity-V count 177 bytes each.
+    /// Reads within a budget: the opened files together may have at most this many bytes. Each file counts
+    /// as often as it is used. Files of the bundle count only if they are used. If Identity-H and
+    /// Identity-V are read without a file, they count 177 bytes each.
     pub fn budget(self, bytes: u64) -> ParseOptions<'b> {
         ParseOptions { budget: Some(bytes), ..self }
     }
 }
 
-/// What is read of a file past its faults.
+/// A map, and the faults past which its files were read.
 #[derive(Clone, Debug)]
 pub struct Salvaged {
-    /// The map of what the file says apart from its faults.
+    /// The map of everything but the faults.
     pub map: CMap,
-    /// Those of one file are in the order of their offsets, before those of the files that it uses.
+    /// The faults. The faults of a file are listed once, in the order of their offsets, before the faults of
+    /// the files that it uses.
     pub faults: Vec<Refusal>,
 }

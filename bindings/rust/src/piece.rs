@@ -1,14 +1,14 @@
 //! The pieces of texts that are encoded.
 
-/// A piece of a text, and what stands for it in the string.
+/// A piece of a text, and its code in the string.
 #[derive(Clone, Copy, Debug, PartialEq, Eq, Hash)]
 #[non_exhaustive]
 pub struct Piece {
-    /// How many bytes it has in UTF-8.
+    /// How many bytes the piece has in UTF-8.
     pub text_len: usize,
-    /// How many bytes its code has, 1 to 4; 0 for a variation selector for which nothing stands.
+    /// How many bytes its code has, 1 to 4; 0 for a variation selector without a code.
     pub code_len: u8,
-    /// How well the code stands for it.
+    /// How well the code stands for the piece.
     pub grade: Grade,
 }
 
@@ -21,9 +21,9 @@ pub enum Grade {
     Canonical,
     /// The collection's map to Unicode has the piece as the text of the code's CID.
     Collection,
-    /// The code shows a text that looks or means the same; or nothing stands for a variation selector.
+    /// The code shows a text that looks or means the same; or a variation selector gets no code.
     Alike,
-    /// The code is the byte of a character of ASCII that a national version of ISO 646 shows otherwise, as
-    /// `\` where it has ¥.
+    /// The code is the byte of an ASCII character that a national version of ISO 646 shows as another
+    /// character, such as `\` as ¥.
     National,
 }

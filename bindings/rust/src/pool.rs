@@ -3,19 +3,19 @@
 use crate::ffi::Share;
 use std::sync::{Mutex, MutexGuard, PoisonError};
 
-/// So many threads ask at the same time without waiting for each other.
+/// The number of threads that can use a pool at the same time without waiting for each other.
 const SLOTS: usize = 8;
 
-/// Handles of one map, bundle or encoder. A call has one of them for itself.
+/// Handles of one map, bundle or encoder. Each call has one of them for itself.
 ///
-/// Each thread of the program has a slot while it lives, and more threads than slots share some. A slot
-/// gets its handle at the first call.
+/// Each thread of the program has a slot while it lives. If there are more threads than slots, some share a
+/// slot. A slot gets its handle at the first call.
 pub(crate) struct Pool<H> {
     source: Mutex<H>,
     slots: [Slot<H>; SLOTS],
 }
 
-/// Slots lie in cache lines of their own, so that threads don't slow each other down.
+/// A slot. It has a cache line of its own, so that threads don't slow each other down.
 #[repr(align(64))]
 struct Slot<H>(Mutex<Option<H>>);
 
@@ -25,7 +25,7 @@ impl<H: Share> Pool<H> {
         Pool { source: Mutex::new(handle), slots }
     }
 
-    /// Asks by a handle that no other call has. The call mustn't ask the same pool.
+    /// Calls with a handle that no other call has. The call mustn't use the same pool.
     pub(crate) fn ask<R>(&self, call: impl FnOnce(&mut H) -> R) -> R {
         let mut slot = locked(&self.slots[slot_of_thread()].0);
         call(slot.get_or_insert_with(|| self.share()))
@@ -38,23 +38,23 @@ impl<H: Share> Pool<H> {
 }
 
 impl<H: Share> Clone for Pool<H> {
-    /// Another pool of the same.
+    /// Another pool of the same map, bundle or encoder.
     fn clone(&self) -> Pool<H> {
         Pool::new(self.share())
     }
 }
 
-/// The slot of the thread that asks.
+/// The slot of the calling thread.
 fn slot_of_thread() -> usize {
     static TURNS: Turns = Turns::new();
     thread_local! {
         static TURN: Turn = TURNS.take();
     }
-    // A thread that ends has given its slot back, and may still ask.
+    // A thread that is ending may have given its slot back, and may still call.
     TURN.try_with(|turn| turn.slot).unwrap_or(0)
 }
 
-/// How many threads have each slot. A thread that ends gives its slot back.
+/// The number of threads of each slot. A thread that ends gives its slot back.
 struct Turns(Mutex<[usize; SLOTS]>);
 
 /// The slot of a thread.
@@ -68,7 +68,7 @@ impl Turns {
         Turns(Mutex::new([0; SLOTS]))
     }
 
-    /// A slot that no other thread has, if there is one; else one of those that the fewest have.
+    /// A slot with the fewest threads.
     fn take(&'static self) -> Turn {
         let mut threads = locked(&self.0);
         let slot = (0..SLOTS).min_by_key(|&slot| threads[slot]).unwrap_or(0);
@@ -83,7 +83,7 @@ impl Drop for Turn {
     }
 }
 
-/// After a panic within a call a handle is as it is between two calls.
+/// Locks a mutex, even after a panic: the handle is then as it is between two calls.
 fn locked<T>(mutex: &Mutex<T>) -> MutexGuard<'_, T> {
     mutex.lock().unwrap_or_else(PoisonError::into_inner)
 }

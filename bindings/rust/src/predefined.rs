@@ -1,4 +1,4 @@
-//! The predefined CMap files that a system has.
+//! The predefined CMap files of the system.
 
 use crate::extractor::{Extractor, family_of};
 use crate::map::CMap;
@@ -14,16 +14,16 @@ use std::path::{Path, PathBuf};
 use std::vec::Vec;
 use std::{env, fs, io, vec};
 
-/// Where poppler-data, Ghostscript and the packages cmap-adobe-* put the files.
+/// The folders of poppler-data, of Ghostscript, and of the packages cmap-adobe-*.
 const SYSTEM_FOLDERS: [&str; 3] =
     ["/usr/share/poppler/cMap", "/var/lib/ghostscript/CMap", "/usr/share/fonts/cmap"];
 
-/// The predefined CMap file of a name, as 90ms-RKSJ-H; `None` where the system has none.
+/// The predefined CMap file of a name, such as 90ms-RKSJ-H; `None` if the system has none.
 ///
-/// It is looked up in the folders of the environment variable `CMAP_PATH`, with colons between them, and
-/// without the variable where packages of Linux put these files; in each folder first, and then in its
-/// subfolders. A name stands for nothing outside of them, and for no hidden file and none of a hidden
-/// subfolder.
+/// It is looked up in the folders of the environment variable `CMAP_PATH`, separated by colons, or without the
+/// variable where packages of Linux put these files; in each folder first, then in its subfolders. No name
+/// leads out of these folders, to a hidden file, or into a hidden subfolder. An error if a file is there but
+/// can't be read.
 pub fn predefined_file(name: CMapName<'_>) -> io::Result<Option<Vec<u8>>> {
     let name = name.to_bytes();
     if matches!(name, [] | [b'.', ..]) || name.contains(&b'/') || name.contains(&0) {
@@ -41,7 +41,7 @@ pub fn predefined_file(name: CMapName<'_>) -> io::Result<Option<Vec<u8>>> {
     Ok(None)
 }
 
-/// The folders in which files are looked up.
+/// The folders in which predefined CMap files are looked up.
 fn folders() -> Vec<PathBuf> {
     match env::var_os("CMAP_PATH") {
         Some(path) => {
@@ -51,7 +51,7 @@ fn folders() -> Vec<PathBuf> {
     }
 }
 
-/// The folders in a folder that aren't hidden, in the order of their names; none where it can't be read.
+/// The visible folders in a folder, in order; none if it can't be read.
 fn subfolders(folder: &Path) -> Vec<PathBuf> {
     let Ok(entries) = fs::read_dir(folder) else {
         return Vec::new();
@@ -71,7 +71,7 @@ fn subfolders(folder: &Path) -> Vec<PathBuf> {
 pub enum OpenError {
     /// Its file, or one that it uses, is refused.
     Refused(Refusal),
-    /// A file is there, and can't be read.
+    /// A file is there, but can't be read.
     Io(io::Error),
 }
 
@@ -106,9 +106,9 @@ impl From<Refusal> for OpenError {
 }
 
 impl CMap {
-    /// Reads the predefined CMap of a name, and the files that it uses, each as
-    /// [`predefined_file`](crate::predefined_file) finds it. Where the system has no such file,
-    /// Identity-H and Identity-V are made, and any other name is `Ok(None)`.
+    /// Reads the predefined CMap of a name, and the files that it uses, as
+    /// [`predefined_file`](crate::predefined_file) finds them. If the system has no such file, Identity-H
+    /// and Identity-V are made without one, and any other name is `Ok(None)`.
     ///
     /// ```no_run
     /// use hayro_cmap::CMap;
@@ -126,8 +126,8 @@ impl CMap {
 }
 
 impl Extractor {
-    /// The maps of a font as [`Extractor::over`] has them, with those maps of the character collection that
-    /// the system has, as Adobe-Japan1-UCS2 and UniJIS-UTF16-H.
+    /// The maps of a font, as of [`Extractor::over`]. The maps of the character collection, such as
+    /// Adobe-Japan1-UCS2 and UniJIS-UTF16-H, are the ones that the system has.
     ///
     /// ```no_run
     /// use hayro_cmap::{CMap, Extractor};
@@ -146,7 +146,7 @@ impl Extractor {
         Extractor::by_names(encoding, to_unicode, family.as_ref(), open)
     }
 
-    /// The same with the maps of this character collection, as [`Extractor::over_collection`] has them.
+    /// The same with the maps of this character collection, as of [`Extractor::over_collection`].
     ///
     /// ```no_run
     /// use hayro_cmap::{CMap, CidFamily, Extractor};
@@ -166,7 +166,7 @@ impl Extractor {
     }
 }
 
-/// The file of a name, and those that it uses as far as a chain of files may go, by their names.
+/// The file of a name, and the files that it uses, directly or through others, by their names.
 fn files_of(name: CMapName<'_>) -> io::Result<BTreeMap<Vec<u8>, Vec<u8>>> {
     let mut found = BTreeMap::new();
     let mut names = vec![name.to_bytes().to_vec()];

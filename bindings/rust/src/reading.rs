@@ -10,11 +10,11 @@ use crate::refusal::Refusal;
 use std::borrow::Cow;
 use std::collections::HashMap;
 
-/// How many files a chain has at most, the top one included.
+/// The most files of a chain, including the top file.
 pub(crate) const MOST_FILES: usize = 16;
 
 impl ParseOptions<'_> {
-    /// Reads a file, as [`CMap::parse_explained`] does. It needs an answer also for Identity-H and Identity-V.
+    /// Reads a file, as [`CMap::parse_explained`] does. Used names need files, even Identity-H and Identity-V.
     pub fn parse<'a>(
         &self,
         data: &[u8],
@@ -29,8 +29,8 @@ impl ParseOptions<'_> {
 
     /// Reads a file past its faults, as [`CMap::salvage`] does.
     ///
-    /// `get_cmap` isn't asked for a name that only a file at fault uses, where the bundle has it or it
-    /// needs no file.
+    /// `get_cmap` isn't called for a name that only a file at fault uses, if the bundle has the file or the
+    /// name needs none.
     pub fn salvage<'a>(
         &self,
         data: &[u8],
@@ -68,8 +68,8 @@ impl ParseOptions<'_> {
         }
     }
 
-    /// The names of the files that a file uses, in the order of the uses; `None` where it is outside
-    /// the grammar.
+    /// The names of the files that a file uses, in the order of the uses; `None` if it is outside the
+    /// grammar.
     pub fn uses(&self, data: &[u8]) -> Option<Vec<Vec<u8>>> {
         self.tables().ask(|bundle| bundle.uses(data))
     }
@@ -94,12 +94,12 @@ impl ParseOptions<'_> {
     }
 }
 
-/// The files that a file uses, and those that they use. Each name is asked for once.
+/// The files that a file uses, directly or through others. `get_cmap` is called once for each name.
 struct Used<'a, 'o, F> {
     options: &'o ParseOptions<'o>,
     get_cmap: F,
     answers: HashMap<Vec<u8>, Option<&'a [u8]>>,
-    /// How many bytes they have, each file counted once.
+    /// How many bytes the read file and the answers have, each counted once.
     bytes: u64,
     /// Whether Identity-H and Identity-V need files too.
     identities_need_files: bool,
@@ -109,8 +109,8 @@ struct Used<'a, 'o, F> {
 enum NoMap {
     /// These names lead to Identity-H or Identity-V, which needs a file.
     Identity(Vec<Vec<u8>>),
-    /// A file is missing or malformed, a chain is too long, or the budget is passed. Which of these it is
-    /// the library says, by the files that were asked for until then.
+    /// A file is missing or malformed, a chain is too long, or the budget is exceeded. The library reports
+    /// which, from the files that were gathered until then.
     Told,
 }
 
@@ -120,18 +120,18 @@ impl<'a, 'o, F: Fn(CMapName<'_>) -> Option<&'a [u8]>> Used<'a, 'o, F> {
         Used { options, get_cmap, answers, bytes: 0, identities_need_files: true }
     }
 
-    /// Where files are looked up by their names. Identity-H and Identity-V need none.
+    /// The files of a call for which Identity-H and Identity-V need no file.
     fn named(options: &'o ParseOptions<'o>, get_cmap: F) -> Used<'a, 'o, F> {
         Used { identities_need_files: false, ..Used::new(options, get_cmap) }
     }
 
-    /// Asks for the files that a file uses, and for what they use, in the order in which they are read.
+    /// Gathers the files that a file uses, and the files that these use, in the order in which they are read.
     fn gather(&mut self, data: &[u8]) -> Result<(), NoMap> {
         self.bytes = data.len() as u64;
         self.gather_under(data, &[])
     }
 
-    /// The same of a file to which these names lead.
+    /// The same for a file to which these names lead.
     fn gather_under(&mut self, data: &[u8], names: &[Vec<u8>]) -> Result<(), NoMap> {
         if self.bytes > self.options.most() {
             return Err(NoMap::Told);
@@ -147,7 +147,7 @@ impl<'a, 'o, F: Fn(CMapName<'_>) -> Option<&'a [u8]>> Used<'a, 'o, F> {
         Ok(())
     }
 
-    /// Asks for the file to which these names lead, and for what it uses.
+    /// Gathers the file to which these names lead, and the files that it uses.
     fn gather_file(&mut self, names: &[Vec<u8>]) -> Result<(), NoMap> {
         let name = names.last().ok_or(NoMap::Told)?;
         match self.file(name) {
@@ -158,7 +158,7 @@ impl<'a, 'o, F: Fn(CMapName<'_>) -> Option<&'a [u8]>> Used<'a, 'o, F> {
         }
     }
 
-    /// Asks for the files that are missing by these faults: whether one of them is there.
+    /// Gathers the files that are missing by these faults. It returns whether one of them was found.
     fn gather_missing(&mut self, faults: &[Refusal]) -> bool {
         let missing = faults.iter().filter(|fault| fault.cause() == Cause::NoFile);
         let mut is_found = false;
@@ -174,7 +174,7 @@ impl<'a, 'o, F: Fn(CMapName<'_>) -> Option<&'a [u8]>> Used<'a, 'o, F> {
         if may_use(data) { self.options.uses(data) } else { Some(Vec::new()) }
     }
 
-    /// The file of a name: what `get_cmap` answers, else that of the bundle.
+    /// The file of a name: the answer of `get_cmap`, otherwise the file of the bundle.
     fn file(&mut self, name: &[u8]) -> Option<Cow<'a, [u8]>> {
         let answer = (self.get_cmap)(CMapName::from_bytes(name));
         self.answers.insert(name.to_vec(), answer);
@@ -195,7 +195,7 @@ fn is_identity(name: &[u8]) -> bool {
     matches!(CMapName::from_bytes(name), CMapName::IdentityH | CMapName::IdentityV)
 }
 
-/// Whether a file may use another one. A text has the word `usecmap` where it does.
+/// Whether a file may use another one. A text that does has the word `usecmap`.
 fn may_use(data: &[u8]) -> bool {
     const WORD: &[u8] = b"usecmap";
     data.starts_with(b"bcmap") || data.windows(WORD.len()).any(|bytes| bytes == WORD)

@@ -1,4 +1,4 @@
-//! What may be wrong with a file.
+//! The reasons why a file gives no map, and the ways in which parts at fault are read.
 
 use crate::refusal::Refusal;
 use core::fmt::{self, Display, Formatter};
@@ -17,7 +17,7 @@ pub enum Cause {
     OverBudget,
 }
 
-/// What is wrong where the reading of a malformed file stopped.
+/// What is wrong at the place where reading a malformed file stopped.
 #[derive(Clone, Copy, Debug, PartialEq, Eq, Hash)]
 #[non_exhaustive]
 pub enum Reason {
@@ -59,13 +59,14 @@ pub enum Reason {
     StrayDelimiter,
 }
 
-/// What a part at fault is read as, where it shows what was meant. It prints as `the empty text`.
+/// What a part at fault is read as, if the bytes before the fault show it. It is displayed in English, such as
+/// `the empty text`.
 #[derive(Clone, Copy, Debug, PartialEq, Eq, Hash)]
 #[non_exhaustive]
 pub enum ReadAs {
-    /// An empty string in place of a text, as the text without units.
+    /// An empty string as the empty text: its code has no text.
     EmptyText,
-    /// The second code of a codespace range, longer than the first, which gets leading bytes 0.
+    /// A longer second code as the end of a codespace range whose first code has leading bytes 0.
     ExtendedCode,
 }
 
@@ -77,7 +78,7 @@ pub enum Segment {
     Cids,
     /// Texts of codes.
     Texts,
-    /// CIDs of codes without a character.
+    /// CIDs for codes that have no other (notdefs).
     Notdefs,
     /// The writing mode.
     WritingMode,
@@ -88,8 +89,8 @@ pub enum Segment {
 }
 
 impl Refusal {
-    /// The line of the offset in `file`, the text at fault: one more than the line ends before it. A line ends
-    /// with LF, CR or CRLF. `None` for a binary file, and where no offset is known.
+    /// The line of the offset in `file`, the text at fault: one more than the number of line ends before it. A
+    /// line ends with LF, CR or CRLF. `None` for a binary file, and if there is no offset.
     ///
     /// ```
     /// let file = b"begincidchar\r\n<01> x";
@@ -103,8 +104,8 @@ impl Refusal {
         Some(1 + feeds + returns.filter(|after| !after.starts_with(b"\n")).count())
     }
     /// What the part at fault is read as, if `file`, the text at fault, is read past this fault
-    /// ([`CMap::salvage`](crate::CMap::salvage)). `None` where it is lost, and where the bytes before the fault don't
-    /// show it, as for a string that begins a line.
+    /// ([`CMap::salvage`](crate::CMap::salvage)). `None` if the part is lost, or if the bytes before the fault don't
+    /// show what it is read as, such as for a string that begins a line.
     ///
     /// ```
     /// let file = b"beginbfchar <41> <> endbfchar";

@@ -6,8 +6,8 @@ use std::fmt::{self, Debug, Display, Formatter};
 
 /// Why a file gives no map: which file is at fault, and what is wrong with it.
 ///
-/// It prints as `Small-H: byte 27: a CID was expected`, the name of the file at fault first, where the
-/// fault isn't in the file itself.
+/// It is displayed in English, such as `Small-H: byte 27: a CID was expected`. The name of the file at fault
+/// comes first, unless the fault is in the file itself.
 #[derive(Clone, PartialEq, Eq)]
 pub struct Refusal(Fault);
 
@@ -79,21 +79,22 @@ impl Refusal {
         numbered(&REASONS, 2, self.0.reason)
     }
 
-    /// The segment of a malformed binary file, where the reason speaks of one.
+    /// The segment of a malformed binary file, if the reason concerns one.
     pub fn segment(&self) -> Option<Segment> {
         numbered(&SEGMENTS, 1, self.0.segment)
     }
 
-    /// Where the reading of a malformed file stopped, in bytes; `None` with another cause.
+    /// Where reading a malformed file stopped, in bytes; `None` with another cause.
     ///
-    /// In a text it is the end of the token that can't stand there, or the byte that shows that there
-    /// is no token, or the end of the file. In a binary file it is the start of the segment.
+    /// In a text, it is the end of the token at fault, the first byte that shows that there is no token, or
+    /// the end of the file; [`CMap::salvage`](crate::CMap::salvage) reports an unclosed string at its bracket.
+    /// In a binary file, it is the start of the segment at fault.
     pub fn offset(&self) -> Option<usize> {
         (self.cause() == Cause::Malformed).then_some(self.0.offset)
     }
 
-    /// The names that lead to the file at fault, each used by the file before it. There is none where
-    /// the fault is in the file itself.
+    /// The names that lead to the file at fault, each used by the file before it. There are none if the
+    /// fault is in the file itself.
     pub fn names(&self) -> &[Vec<u8>] {
         &self.0.names
     }
@@ -122,7 +123,7 @@ impl Debug for Refusal {
     }
 }
 
-/// A name, as it is printed.
+/// A name, for printing.
 struct Name<'a>(&'a [u8]);
 
 impl Debug for Name<'_> {

@@ -1,11 +1,11 @@
-//! Files that are written.
+//! Writing files.
 
 use crate::builder::{CMapBuilder, Codes, WriteError};
 use crate::ffi;
 use crate::map::CMap;
 
 impl CMapBuilder {
-    /// The file: its text, in the fewest declarations that give each code the same.
+    /// The text of the file, in the fewest declarations that give each code the same.
     pub fn build(&self) -> Result<Vec<u8>, WriteError> {
         self.checked()?;
         ffi::make(self).ok_or(WriteError::NotWritable)
@@ -13,8 +13,8 @@ impl CMapBuilder {
 }
 
 impl CMap {
-    /// One file, which uses no other and answers each code as the map does: its text, in the fewest
-    /// declarations.
+    /// The text of one CMap file, which uses no other and has the answers of the map for each code, in the
+    /// fewest declarations.
     ///
     /// ```
     /// use hayro_cmap::CMap;
@@ -29,7 +29,7 @@ impl CMap {
         self.ask(|map| map.write(None)).ok_or(WriteError::NotWritable)
     }
 
-    /// One file that answers these codes as the map does, and has nothing for others. Codespace ranges stay.
+    /// The same with answers only for these codes. The codespace ranges stay.
     ///
     /// ```
     /// use hayro_cmap::CMap;

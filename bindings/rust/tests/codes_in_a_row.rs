@@ -1,12 +1,12 @@
-//! The CIDs of codes in a row, beside those of one code after another.
+//! The CIDs of consecutive codes, compared with lookups of one code after another.
 
 use hayro_cmap::{CMap, CMapName};
 
-/// What stands for a code without a CID.
+/// The number for a code without a CID.
 const ABSENT: u32 = 77_777;
 
-/// Ranges that overlap, CIDs up to and past 32 bits, a notdef, texts of one character, of two and of
-/// a surrogate alone.
+/// Ranges that overlap, CIDs up to and past 32 bits, a notdef, texts of one character and of two, and a
+/// lone surrogate.
 const FILE: &[u8] = b"/Base usecmap begincidrange <0020> <002F> 500 <0028> <0029> 9
 <FFFFFFF0> <FFFFFFFF> 4294967290 endcidrange begincidchar <0030> 10 endcidchar
 beginnotdefrange <0040> <0057> 3 endnotdefrange beginbfrange <0050> <005F> <0041> endbfrange
@@ -21,7 +21,7 @@ fn map_of_two_layers() -> CMap {
     CMap::parse(FILE, |name| (name == CMapName::Custom(b"Base")).then_some(BASE)).unwrap()
 }
 
-/// What lookups give for the codes from a first one on.
+/// The CIDs that lookups give for the codes from a first code on.
 fn cids_by_lookups(map: &CMap, first: u32, byte_len: u8, count: u32) -> Vec<u32> {
     let cid = |index| map.lookup_cid_code(first.checked_add(index)?, byte_len);
     (0..count).map(|index| cid(index).unwrap_or(ABSENT)).collect()
@@ -39,8 +39,8 @@ fn codes_in_a_row_have_the_cids_of_lookups() {
     }
 }
 
-/// The CIDs of codes of two bytes from a first one on: where runs, layers, gaps, notdefs and texts begin
-/// and end.
+/// The CIDs of codes of two bytes from a first code on, across the ends of runs, layers, gaps, notdefs and
+/// texts.
 const CROSSED: &[(usize, &[u32])] = &[
     (0x10, &[116, 1, 200, 201]),
     (0x1F, &[213, 500]),

@@ -1,4 +1,4 @@
-//! A program for the crate `hayro-cmap` 0.1.1: it names nothing that this crate has besides.
+//! A program for the crate `hayro-cmap` 0.1.1: it uses nothing that only this crate has.
 
 use hayro_cmap::{
     BfString, CMap, CMapName, CharacterCollection, Cid, CidFamily, CidRange, Metadata, WritingMode,
@@ -110,7 +110,7 @@ fn names_are_asked_in_the_order_of_the_uses() {
     };
     let map = CMap::parse(b"/A usecmap /B usecmap", get_cmap).unwrap();
     assert_eq!(*asked.borrow(), [b"A", b"C", b"H", b"B"]);
-    // The base is that of the last use.
+    // The map is based on the file of the last use.
     assert_eq!(map.lookup_cid_code(1, 1), Some(1));
     assert_eq!(map.lookup_cid_code(2, 1), Some(2));
     assert!(CMap::parse(b"/A usecmap /Missing usecmap", get_cmap).is_none());
@@ -150,7 +150,7 @@ fn sixteen_files_are_a_chain() {
         ];
         FILES.get(usize::from(*name.to_bytes().first()? - b'A')).copied()
     };
-    // B to Q are sixteen files.
+    // The text and the files B to Q are seventeen.
     assert!(CMap::parse(b"/B usecmap", next).is_none());
     let map = CMap::parse(b"/C usecmap", next).unwrap();
     assert_eq!(map.lookup_cid_code(1, 1), Some(1));
@@ -229,7 +229,7 @@ fn functions_have_their_types() {
     let _: fn(&[u8], &[u8]) -> CidFamily = CidFamily::from_registry_ordering;
     let _: fn(&CidFamily) -> Option<CMapName<'static>> = CidFamily::ucs2_cmap;
     let _: fn(&'static [u8]) -> CMapName<'static> = CMapName::from_bytes;
-    // Without a bundle in the crate the answer is `None`; with one a map is read over it.
+    // Without a bundle in the crate the answer is `None`; with a bundle the map is read over its file.
     let map = CMap::parse(b"/UniJIS-UTF16-V usecmap", load_embedded);
     assert_eq!(map.is_some(), load_embedded(CMapName::UniJisUtf16V).is_some());
     assert_eq!(load_embedded(CMapName::Custom(b"Else")), None);

@@ -1,5 +1,5 @@
-//! The bundle that is in the crate, or that none is. HAYRO_CMAP_BUNDLE names one of the 65 predefined
-//! files when the crate is built.
+//! The bundle that is embedded in the crate, if there is one. HAYRO_CMAP_BUNDLE names a bundle of the 65
+//! predefined files when the crate is built.
 
 use hayro_cmap::{Bundle, CMap, CMapName, Cause, CidFamily, load_embedded};
 
@@ -36,7 +36,7 @@ fn a_bundle_has_the_predefined_files() {
     assert_eq!(texts.lookup_bf_string(843), Some(hayro_cmap::BfString::Char('あ')));
 }
 
-/// Only `get_cmap` says which files there are.
+/// Only `get_cmap` gives files, even if the crate has a bundle.
 #[test]
 fn a_name_without_an_answer_has_no_file() {
     assert!(CMap::parse(b"/H usecmap", |_| None).is_none());

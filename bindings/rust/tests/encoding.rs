@@ -65,7 +65,7 @@ fn strings_are_whole_codes_or_not() {
     assert!(Extractor::simple(None).encoder().are_codes(b"any bytes \xFF"));
 }
 
-/// A font with codes of one and two bytes, which ends in a piece of each grade, and its map from Unicode.
+/// A font with codes of one and two bytes, with a code for a piece of each grade, and its map from Unicode.
 fn graded() -> Extractor {
     let map = |file: &[u8]| CMap::parse(file, |_| None).unwrap();
     let encoding = b"begincodespacerange <00> <80> <8140> <9FFC> endcodespacerange

@@ -15,26 +15,26 @@ fn japanese() -> Extractor {
     Extractor::new(map(encoding), None, Some(map(collection)))
 }
 
-/// Texts of two characters that overlap, a text with a shorter and a longer code, and one with two codes.
+/// Texts of two characters that overlap, and a text of one character with two codes.
 fn simple() -> Extractor {
     let texts = b"beginbfchar <01> <00610062> <02> <0061> <03> <00620063> <05> <0061> endbfchar";
     Extractor::simple(Some(map(texts)))
 }
 
-/// Codes of two bytes that are CIDs, and the texts of these.
+/// Codes of two bytes that are CIDs, and the texts of the CIDs.
 fn of_cids(collection: &[u8]) -> Extractor {
     let identity = b"begincodespacerange <0000> <FFFF> endcodespacerange
         begincidrange <0000> <FFFF> 0 endcidrange";
     Extractor::new(map(identity), None, Some(map(collection)))
 }
 
-/// The string of a text is these bytes, and is read as the text.
+/// Checks that the string of a text is these bytes, and that it is read as the text.
 fn check_shown(font: &Extractor, text: &str, string: &[u8]) {
     assert_eq!(font.encoder().encode(text).unwrap(), string, "{text}");
     assert_eq!(font.text(string), text);
 }
 
-/// Where a text is refused.
+/// The offset where a text is refused.
 fn refused_at(font: &Extractor, text: &str) -> Option<usize> {
     font.encoder().encode(text).err().map(|EncodeError { offset, .. }| offset)
 }
@@ -56,10 +56,10 @@ fn a_text_is_refused_where_no_string_goes_on() {
 #[test]
 fn texts_of_several_characters_are_tried_in_every_way() {
     let font = simple();
-    // The longest text first would leave the last character.
+    // The longest first piece would leave a `c`, which has no code.
     check_shown(&font, "abc", b"\x02\x03");
     check_shown(&font, "ab", b"\x01");
-    // Of the codes of a text the least one is taken.
+    // The least code of a text is taken.
     check_shown(&font, "aab", b"\x02\x01");
     assert_eq!(refused_at(&font, "abb"), Some(2));
 }
@@ -84,7 +84,7 @@ fn a_missing_character_ends_the_longest_prefix() {
 fn a_map_from_unicode_chooses_glyphs() {
     let glyphs = b"beginbfchar <020E> <3042> <034B> <3042> <04B0> <2F00> endbfchar";
     assert_eq!(of_cids(glyphs).encoder().encode("あ").unwrap(), b"\x02\x0E");
-    // The glyphs that the collection means by these characters.
+    // The glyphs of these characters by the map from Unicode.
     let unicode = b"begincodespacerange <0000> <FFFF> endcodespacerange
         begincidchar <3042> 843 <4E00> 1200 endcidchar";
     let font = of_cids(glyphs).with_unicode(map(unicode));
@@ -105,7 +105,7 @@ const ENCODING: &[u8] = b"1 begincodespacerange <00> <7F> endcodespacerange
 begincidrange <20> <2F> 65 endcidrange beginnotdefrange <30> <3F> 1 endnotdefrange
 beginbfchar <40> <0041> endbfchar";
 
-/// A text of two characters, a surrogate that stands alone, and a unit past 16 bits.
+/// A text of two characters, a lone surrogate, and a text whose unit counts past 16 bits.
 const TO_UNICODE: &[u8] = b"beginbfrange <20> <22> <FFFE> endbfrange
 beginbfchar <20> <00660066> <21> <D800> endbfchar";
 

@@ -9,7 +9,7 @@ fn lint(file: &[u8], to_unicode: bool, shown: &[u32]) -> Vec<Finding> {
     CMap::parse(file, |_| None).expect("it is accepted").lint(file, to_unicode, shown)
 }
 
-/// The warnings, how much each concerns, where first, and which shown codes.
+/// The warnings, each with its count, its first place, and the shown codes that it concerns.
 fn fields(found: &[Finding]) -> Vec<(Warning, u64, Place, usize, Option<u32>)> {
     found.iter().map(|it| (it.warning, it.count, it.first, it.shown, it.first_shown)).collect()
 }

@@ -1,4 +1,4 @@
-//! Predefined files, in folders that `CMAP_PATH` names. They are one test, since the variable is one for all threads.
+//! Predefined files, in folders that `CMAP_PATH` names. There is one test, since all threads share the variable.
 
 use hayro_cmap::{CMap, CMapName, CidFamily, Extractor, predefined_file};
 use std::{env, fs, process};

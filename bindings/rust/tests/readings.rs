@@ -1,4 +1,4 @@
-//! Files over others and over bundles, and files that are read past their faults.
+//! Files over other files and over bundles, and files that are read past their faults.
 
 use hayro_cmap::{Bundle, CMap, CMapName, ParseOptions};
 use std::cell::RefCell;
@@ -24,7 +24,7 @@ fn a_code_of_two_bytes_has_its_cid_over_a_bundle() {
     assert_eq!(map.lookup_cid_code(0x21, 2), Some(6));
 }
 
-/// A code that is cut has none.
+/// A code that is cut short has no CID.
 #[test]
 fn a_string_has_the_cids_of_its_codes() {
     let map = CMap::identity_h();
@@ -33,7 +33,7 @@ fn a_string_has_the_cids_of_its_codes() {
     assert_eq!(cids.collect::<Vec<_>>(), [Some(0x41), Some(0x8140), None]);
 }
 
-/// Each name is asked for once.
+/// `get_cmap` is called once for each name.
 #[test]
 fn files_are_asked_for_in_the_order_of_the_uses() {
     let asked = RefCell::new(Vec::new());
@@ -45,8 +45,8 @@ fn files_are_asked_for_in_the_order_of_the_uses() {
     assert_eq!(asked.into_inner(), [b"A", b"C", b"B"]);
 }
 
-/// What is found of a file over another one past faults: each fault, with the number of the names that lead to it;
-/// and how many layers the map has, and the CIDs of the codes 41 and 42.
+/// The result of reading a file past its faults: each fault, with the number of the names that lead to it; the number
+/// of layers of the map; and the CIDs of the codes 41 and 42.
 type Found = (Vec<(usize, String)>, usize, [Option<u32>; 2]);
 
 fn salvaged(options: ParseOptions<'_>, file: &[u8], name: &str, base: &[u8]) -> Found {
@@ -67,7 +67,7 @@ fn reading_goes_on_after_each_fault() {
     assert_eq!((layers, cids), (2, [Some(5), Some(7)]));
 }
 
-/// After the first chain that is too long no file is opened, so that there is one fault.
+/// No file is opened after the first chain that is too long, so there is one fault.
 #[test]
 fn a_file_that_uses_itself_has_sixteen_layers() {
     let looped = b"/Loop usecmap /Loop usecmap";
@@ -76,7 +76,7 @@ fn a_file_that_uses_itself_has_sixteen_layers() {
     assert_eq!((layers, cids), (16, [None, None]));
 }
 
-/// The budget has room for the top file alone. The base isn't read, and is a layer that says nothing.
+/// The budget is enough only for the top file. The base isn't read, and is a layer without declarations.
 #[test]
 fn a_base_past_the_budget_says_nothing() {
     let options = ParseOptions::new().budget(20);

@@ -1,4 +1,4 @@
-//! Why a file gives no map, and over what it is read.
+//! Refused files, budgets, and reading over files and bundles.
 
 use hayro_cmap::{Bundle, CMap, CMapName, Cause, ParseOptions, ReadAs, Reason, Refusal, Segment};
 use std::cell::RefCell;
@@ -125,7 +125,7 @@ fn files_are_opened_by_name() {
     let map = CMap::open(CMapName::Custom(b"Own"), |_| Some(file)).unwrap().unwrap();
     assert_eq!(map.metadata().name.as_deref(), Some(&b"Own"[..]));
     assert_eq!(map.lookup_cid_code(1, 1), Some(1));
-    // A file goes before the identity.
+    // A file of the name comes before the identity.
     let map = CMap::open(CMapName::IdentityH, |_| Some(file)).unwrap().unwrap();
     assert_eq!(map.metadata().name.as_deref(), Some(&b"Own"[..]));
     let map = CMap::open(CMapName::IdentityH, |_| None).unwrap().unwrap();
@@ -155,7 +155,7 @@ fn a_named_file_uses_an_identity_without_a_file() {
     let map = CMap::open(CMapName::Custom(b"Own"), |name| is_own(name).then_some(&file[..]));
     assert_eq!(map.unwrap().unwrap().lookup_cid_code(0x1234, 2), Some(0x1234));
     assert_eq!(CMap::salvage(file, |_| None).map.lookup_cid_code(0x1234, 2), Some(0x1234));
-    // Another file is asked for with those that it uses.
+    // A text needs the files that it uses, even Identity-V.
     let refusal = CMap::parse_explained(b"/Own usecmap", |name| is_own(name).then_some(&file[..]))
         .unwrap_err();
     assert_eq!(refusal.cause(), Cause::NoFile);
@@ -211,10 +211,10 @@ fn a_bundle_reads_binary_files_and_has_files() {
     let open = |budget| over.budget(budget).open(CMapName::N83pvRksjH, |_| None);
     assert!(open(BINARY.len() as u64).unwrap().is_some());
     assert_eq!(open(BINARY.len() as u64 - 1).unwrap_err().cause(), Cause::OverBudget);
-    // A file of the same name goes before that of the bundle.
+    // A file of `get_cmap` comes before the file of the bundle.
     let map = over.parse(b"/83pv-RKSJ-H usecmap", |_| Some(b"")).unwrap();
     assert_eq!(map.lookup_cid_code(0x20, 2), None);
-    // Without a bundle it is a text.
+    // Without a bundle the file is read as a text.
     let map = CMap::parse(BINARY, |_| None);
     assert_eq!(map.and_then(|map| map.lookup_cid_code(0x20, 2)), None);
 }
@@ -240,7 +240,7 @@ fn a_segment_of_a_binary_file_is_named() {
     let mut cut = BINARY[..25].to_vec();
     let refusal = over.parse(&cut, |_| None).unwrap_err();
     assert_eq!((refusal.reason(), refusal.offset()), (Some(Reason::Header), Some(0)));
-    // The segment's last CID is cut, and the lengths say so.
+    // The segment's last CID is cut short, and the lengths are set to match.
     cut.truncate(24);
     (cut[9], cut[14]) = (24, 14);
     let refusal = over.parse(&cut, |_| None).unwrap_err();

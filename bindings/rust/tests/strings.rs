@@ -10,7 +10,7 @@ use std::sync::Arc;
 
 const JAPANESE: &str = "/usr/share/poppler/cMap/Adobe-Japan1";
 
-/// The files of these names, or none where the package isn't installed.
+/// The files of these names, or none if the package isn't installed.
 fn files(names: &[&str]) -> Option<HashMap<Vec<u8>, Vec<u8>>> {
     if !Path::new(JAPANESE).is_dir() {
         eprintln!("skipped: {JAPANESE} isn't there");
@@ -169,7 +169,7 @@ fn cids_in_a_row_are_those_of_single_codes() {
     map.fill_cids(0, 2, 0, &mut []);
 }
 
-/// Also where `usize` has 32 bits, which the count of all codes passes.
+/// This holds even if `usize` has 32 bits, which the number of all codes exceeds.
 #[test]
 fn a_row_begins_at_the_first_of_all_codes() {
     let map = CMap::parse(b"begincidrange <00000000> <FFFFFFFF> 5 endcidrange", |_| None).unwrap();

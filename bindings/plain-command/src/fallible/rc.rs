@@ -8,12 +8,12 @@ use alloc::rc::Rc;
 pub struct RcSlice<T>(Rc<Vec<T>>);
 
 impl<T> RcSlice<T> {
-    /// The items of a list, which aren't copied. Where memory runs out for the counts the program ends.
+    /// The items of a list, which aren't copied. If there is no memory for the counts, the program ends.
     pub fn from_vec(items: Vec<T>) -> Result<Self, AllocError> {
         Ok(RcSlice(Rc::new(items)))
     }
 
-    /// The same list. It is no `Clone`, whose call can't fail.
+    /// The same list. The call returns a `Result`, as in the port, so the type isn't `Clone`.
     #[allow(clippy::should_implement_trait)]
     pub fn clone(&self) -> Result<Self, AllocError> {
         Ok(RcSlice(Rc::clone(&self.0)))

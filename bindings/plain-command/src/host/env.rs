@@ -7,7 +7,7 @@ use std::env;
 
 /// Why there is no argument.
 pub enum FillError {
-    /// There are fewer.
+    /// There are fewer arguments.
     NotPresent,
     /// It is longer than the buffer for it.
     TooLong,
@@ -15,7 +15,7 @@ pub enum FillError {
 
 /// The arguments.
 pub trait Env {
-    /// Copies the argument at an index to the head of a buffer, and gives its length.
+    /// Copies the argument at an index to the head of a buffer, and returns its length.
     fn arg(&self, index: usize, buffer: &mut [u8]) -> Result<usize, FillError>;
 }
 
@@ -28,7 +28,7 @@ impl Env for HostRuntime {
     }
 }
 
-/// The arguments, if all are UTF-8.
+/// The arguments. If one isn't UTF-8, the error is the one of memory that ran out.
 pub fn args(rt: &HostRuntime) -> Result<std::vec::IntoIter<String>, AllocError> {
     let texts = rt.arguments.iter().map(|argument| argument.to_str().ok_or(AllocError));
     let texts = texts.map(|text| Ok(String::from_std(text?.to_owned())));
@@ -54,7 +54,7 @@ pub fn var(_: &HostRuntime, name: &str) -> Result<String, VarError> {
     }
 }
 
-/// The paths of a list, as the system parts them.
+/// The paths of a list, separated as the system does; paths that aren't UTF-8 are left out.
 pub fn split_paths(list: &str) -> impl Iterator<Item = String> {
     env::split_paths(list)
         .filter_map(|path| path.into_os_string().into_string().ok())

@@ -7,12 +7,12 @@ use std::io::{self, Cursor, ErrorKind, Read};
 
 pub use std::fs::{File, Metadata, Permissions};
 
-/// What has a path; links are followed.
+/// The metadata of a path; links are followed.
 pub fn metadata(_: &HostRuntime, path: &str) -> io::Result<Metadata> {
     fs::metadata(path)
 }
 
-/// What has a path; links aren't followed.
+/// The metadata of a path; links aren't followed.
 pub fn symlink_metadata(_: &HostRuntime, path: &str) -> io::Result<Metadata> {
     fs::symlink_metadata(path)
 }
@@ -22,7 +22,7 @@ pub fn read(_: &HostRuntime, path: &str) -> io::Result<Vec<u8>> {
     fs::read(path).map(Vec::from_std)
 }
 
-/// Gives a file another path.
+/// Renames a file.
 pub fn rename(_: &HostRuntime, from: &str, to: &str) -> io::Result<()> {
     fs::rename(from, to)
 }
@@ -42,7 +42,7 @@ impl TextPath {
     }
 }
 
-/// The path without links.
+/// The absolute path without links; an error if it isn't UTF-8.
 pub fn canonicalize(_: &HostRuntime, path: &str) -> io::Result<TextPath> {
     match fs::canonicalize(path)?.into_os_string().into_string() {
         Ok(text) => Ok(TextPath(text)),
@@ -50,22 +50,22 @@ pub fn canonicalize(_: &HostRuntime, path: &str) -> io::Result<TextPath> {
     }
 }
 
-/// How a file is opened.
+/// Options for opening a file.
 pub struct OpenOptions(fs::OpenOptions);
 
 impl OpenOptions {
-    /// Not at all.
+    /// No options.
     pub fn new() -> Self {
         OpenOptions(fs::OpenOptions::new())
     }
 
-    /// Whether it may be written.
+    /// Whether the file is opened for writing.
     pub fn write(mut self, is_written: bool) -> Self {
         self.0.write(is_written);
         self
     }
 
-    /// Whether it is new.
+    /// Whether the file is created, and must be new.
     pub fn create_new(mut self, is_new: bool) -> Self {
         self.0.create_new(is_new);
         self
@@ -77,9 +77,9 @@ impl OpenOptions {
     }
 }
 
-/// The names in a folder.
+/// Reads folders.
 pub trait Files {
-    /// Reads the names of what is in a folder, each with a zero byte after it.
+    /// The names of the entries of a folder, each with a zero byte after it.
     fn open_dir(&self, path: &str) -> io::Result<Names>;
 }
 

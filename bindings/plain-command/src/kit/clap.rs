@@ -1,4 +1,5 @@
-//! The command line. Calls that add to a list may run out of memory, and matches lend the texts of the words.
+//! The command line. The signatures are the port's: calls that add to a list return a `Result`, though they never fail
+//! here, and matches lend the texts of the words.
 
 use crate::fallible::String;
 use crate::fallible::alloc::{AllocError, Global};
@@ -17,22 +18,22 @@ impl<'a> Command<'a> {
         Command(::clap::Command::new(name), PhantomData)
     }
 
-    /// What it does.
+    /// Its description in the help.
     pub fn about(self, about: &'static str) -> Self {
         Command(self.0.about(about), PhantomData)
     }
 
-    /// Its version, and that it is built of plain Rust.
+    /// Its version, followed by `, in plain Rust`.
     pub fn version(self, version: &str) -> Self {
         Command(self.0.version(&*format!("{version}, in plain Rust").leak()), PhantomData)
     }
 
-    /// Whether it can't be without a subcommand.
+    /// Whether it requires a subcommand.
     pub fn subcommand_required(self, is_required: bool) -> Self {
         Command(self.0.subcommand_required(is_required), PhantomData)
     }
 
-    /// Whether it prints its help where it has no arguments.
+    /// Whether it prints its help if it has no arguments.
     pub fn arg_required_else_help(self, is_required: bool) -> Self {
         Command(self.0.arg_required_else_help(is_required), PhantomData)
     }
@@ -52,7 +53,7 @@ impl<'a> Command<'a> {
         Ok(Command(self.0.subcommand(subcommand.0), PhantomData))
     }
 
-    /// What these words ask for, the first of which is the name of the program.
+    /// The matches of these words. The first word is the name of the program.
     pub fn try_get_matches_from<'w>(self, words: &'w [String]) -> Result<ArgMatches<'w>, Error> {
         let words = words.iter().map(String::as_str);
         self.0.try_get_matches_from(words).map(ArgMatches::of)
@@ -63,7 +64,7 @@ impl<'a> Command<'a> {
 pub struct Arg<'a>(::clap::Arg, PhantomData<&'a str>);
 
 impl Arg<'_> {
-    /// One of this id.
+    /// An argument or an option with this id.
     pub fn new(_: Global, id: &'static str) -> Self {
         Arg(::clap::Arg::new(id), PhantomData)
     }
@@ -88,7 +89,7 @@ impl Arg<'_> {
         Arg(self.0.help(text), PhantomData)
     }
 
-    /// What is done with its values.
+    /// The action for its values.
     pub fn action(self, action: ArgAction) -> Self {
         Arg(self.0.action(action), PhantomData)
     }
@@ -98,32 +99,32 @@ impl Arg<'_> {
         Arg(self.0.num_args(count), PhantomData)
     }
 
-    /// What its values may be.
+    /// The parser of its values.
     pub fn value_parser(self, parser: impl Into<::clap::builder::ValueParser>) -> Self {
         Arg(self.0.value_parser(parser.into()), PhantomData)
     }
 
-    /// Whether it has to be there.
+    /// Whether it is required.
     pub fn required(self, is_required: bool) -> Self {
         Arg(self.0.required(is_required), PhantomData)
     }
 
-    /// It has to be there unless another one is.
+    /// It is required unless the argument or option with this id is present.
     pub fn required_unless_present(self, id: &'static str) -> Result<Self, AllocError> {
         Ok(Arg(self.0.required_unless_present(id), PhantomData))
     }
 }
 
-/// What words ask for.
+/// The arguments, options and the subcommand of a command line.
 pub struct ArgMatches<'w> {
     found: ::clap::ArgMatches,
-    /// The texts of arguments and options that have texts.
+    /// The texts of arguments and options, by their ids.
     texts: HashMap<std::string::String, std::vec::Vec<&'w str>>,
     subcommand: Option<(std::string::String, Box<ArgMatches<'w>>)>,
 }
 
 impl<'w> ArgMatches<'w> {
-    /// The texts live as long as the program: there is one command line.
+    /// The texts live as long as the program, which has one command line.
     fn of(mut found: ::clap::ArgMatches) -> Self {
         let mut texts = HashMap::new();
         for id in found.ids() {
@@ -137,7 +138,7 @@ impl<'w> ArgMatches<'w> {
         ArgMatches { found, texts, subcommand }
     }
 
-    /// The name of the subcommand, and what is asked of it.
+    /// The name and the matches of the subcommand.
     pub fn subcommand(&self) -> Option<(&str, &ArgMatches<'w>)> {
         self.subcommand.as_ref().map(|(name, below)| (name.as_str(), &**below))
     }

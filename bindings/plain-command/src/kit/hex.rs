@@ -1,6 +1,6 @@
 //! Hexadecimal digits.
 
-/// Writes the bytes of pairs of digits; an error where there are other bytes, or not two for each byte.
+/// Writes the bytes of pairs of digits. An error if there are other bytes, or not two digits for each byte.
 pub fn decode_to_slice(digits: &[u8], bytes: &mut [u8]) -> Result<(), ()> {
     let pairs = digits.chunks_exact(2);
     if !pairs.remainder().is_empty() || pairs.len() != bytes.len() {

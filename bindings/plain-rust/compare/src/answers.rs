@@ -1,4 +1,4 @@
-//! What is asked of a crate about an input, and what it answers. Both crates have the same calls, so the questions are
+//! The questions to a crate about an input, and the answers. Both crates have the same calls, so the questions are
 //! written once.
 
 use crate::inputs::Input;
@@ -9,14 +9,15 @@ use std::fmt::Write;
 /// Files by their names.
 pub type Files = HashMap<Vec<u8>, Vec<u8>>;
 
-/// What a crate answers, question by question.
+/// The answers of a crate, question by question.
 #[derive(Debug, Default, PartialEq)]
 pub struct Answers {
     pub has_map: bool,
-    /// CIDs, codes and the bounds of ranges; `u64::MAX` for none.
+    /// CIDs, codes, ends of ranges, characters, units, lengths and flags; `u64::MAX` for none.
     numbers: Vec<u64>,
-    /// Reasons, metadata and texts.
+    /// Refusals, layers, texts and files, in lines.
     text: String,
+    /// How many answers `text` has.
     texts: u64,
 }
 
@@ -34,7 +35,7 @@ impl Answers {
         self.numbers.len() as u64 + self.texts
     }
 
-    /// The first answer that another crate gives otherwise.
+    /// The first answer that differs in another crate.
     pub fn first_difference(&self, other: &Answers) -> String {
         let mut lines = self.text.lines().zip(other.text.lines()).enumerate();
         let mut numbers = self.numbers.iter().zip(&other.numbers).enumerate();
@@ -58,13 +59,13 @@ macro_rules! questions {
                 Refusal, Salvaged, StringCode, WriteError,
             };
 
-            /// What the crate answers about an input, over these files and this bundle.
+            /// The answers of the crate about an input, over these files and, for most inputs, this bundle.
             pub fn answers(files: &Files, bundle: &Bundle, input: &Input) -> Answers {
                 let mut answers = Answers::default();
                 let mut numbers = Numbers::new(input.seed);
                 let bundle = (numbers.below(3) > 0).then_some(bundle);
                 let options = options(bundle, &mut numbers);
-                // The bindings may take a file of the bundle where a file at fault uses it, before they ask.
+                // If a file at fault uses a file of the bundle, the bindings may take it without a call of `get_cmap`.
                 let get_cmap = |name: CMapName<'_>| match (bundle, name) {
                     (_, CMapName::IdentityH | CMapName::IdentityV) => None,
                     (None, _) | (_, CMapName::Custom(_)) => {
@@ -107,7 +108,7 @@ macro_rules! questions {
                 answers.shown(format_args!("{:?}", refusal.names()));
             }
 
-            /// The files that it uses, and the map of a file of its own name.
+            /// The names that the input uses, and whether the input has a map when it is opened by the name Own.
             fn ask_names<'a>(
                 options: &ParseOptions<'_>,
                 input: &'a Input,
@@ -162,7 +163,7 @@ macro_rules! questions {
                 }
             }
 
-            /// What the top layer declares, but for ranges of many codes, as a file is made of it.
+            /// A file with the declarations of the top layer, except ranges of more than 4096 codes.
             fn declared_file(map: &CMap) -> CMapBuilder {
                 let mut file = CMapBuilder::new().collection("Adobe", "Test", 1);
                 if let Some(name) = &map.metadata().name {
@@ -203,7 +204,7 @@ macro_rules! questions {
                 }
             }
 
-            /// All codes of a range and its neighbours; but for a whole file only its ends, and some in a row.
+            /// The ends of a range, its neighbours, and the first 20 codes; for a whole file up to 65,536 codes.
             fn ask_range(
                 map: &CMap,
                 first: u32,
@@ -246,8 +247,8 @@ macro_rules! questions {
                 }
             }
 
-            /// The codes of strings, with their texts: the map is that of the font, its ToUnicode CMap and that of
-            /// its collection.
+            /// The codes of a string, with their texts. The map serves as the font's CMap, as its ToUnicode CMap,
+            /// and as the map of its collection.
             fn ask_strings(map: &CMap, numbers: &mut Numbers, answers: &mut Answers) {
                 let mut string: Vec<u8> = (0..60).map(|_| numbers.next() as u8).collect();
                 for layer in map.layers() {

@@ -1,25 +1,25 @@
-//! Inputs: whole files, spoiled windows of them, and generated files.
+//! Inputs: whole files, spoiled windows of these files, and generated files.
 
 use crate::answers::Files;
 use crate::numbers::Numbers;
 
-/// What is read.
+/// The bytes of a file to read.
 pub struct Input {
-    /// What it is, for a report.
+    /// A description, for a report.
     pub what: String,
     pub data: Vec<u8>,
-    /// Whether all codes that it declares are asked for.
+    /// Whether it is a whole file: then more of its codes are looked up.
     pub is_whole: bool,
     pub seed: u64,
 }
 
-/// How an input is made of an index.
+/// The inputs, by their index.
 pub struct Inputs {
-    /// Whole files: texts and files in the binary form.
+    /// Whole files, texts and binary ones, with their descriptions.
     files: Vec<(String, Vec<u8>)>,
 }
 
-/// The most bytes that a window of a file has.
+/// The most bytes of a window of a file.
 const WINDOW: usize = 3000;
 
 impl Inputs {
@@ -39,7 +39,7 @@ impl Inputs {
         self.files.len() as u64
     }
 
-    /// The input of an index: first each whole file, then others.
+    /// The input of an index: first the whole files, then others.
     pub fn input(&self, index: u64, seed: u64) -> Input {
         if let Some((what, data)) = self.files.get(index as usize) {
             return Input { what: what.clone(), data: data.clone(), is_whole: true, seed: index };
@@ -57,7 +57,7 @@ impl Inputs {
     }
 }
 
-/// A window of a file, with up to five changes. A file in the binary form keeps its head, in which its length is set.
+/// A window of a file, with up to five changes. A binary file keeps its head, in which the length is mostly set.
 fn spoiled(file: &[u8], numbers: &mut Numbers) -> Vec<u8> {
     const HEAD: usize = 10;
     if !file.starts_with(b"bcmap") {
@@ -100,7 +100,7 @@ fn changed(data: &[u8], numbers: &mut Numbers) -> Vec<u8> {
     data
 }
 
-/// Sections of texts: the word after `begin` and `end`, and what an entry has.
+/// Sections of texts: the word after `begin` and `end`, and the parts of an entry.
 const SECTIONS: [(&str, &[Part]); 7] = [
     ("codespacerange", &[Part::Code, Part::Code]),
     ("cidrange", &[Part::Code, Part::Code, Part::Cid]),

@@ -1,10 +1,10 @@
-//! Compares what the crate of plain Rust answers with what the bindings over the proved library do:
+//! Compares the answers of the crate of plain Rust with the answers of the bindings over the proved library:
 //!
 //!     compare FOLDER BUNDLE COUNT SEED
 //!
-//! Each file in FOLDER and its subfolders is read whole, and so is each file of BUNDLE in the binary form; then COUNT
-//! inputs are: spoiled windows of these files, and generated files. Sums of the plain crate that overflow end it, and so
-//! does the first answer that differs. SEED is where the generated inputs begin.
+//! Each file in FOLDER and its subfolders is read whole, and so are the binary files of the same names in BUNDLE.
+//! COUNT inputs follow: spoiled windows of these files, and generated files. The seed of such an input is its index
+//! plus SEED. A sum that overflows in the plain crate ends the program, and so does the first answer that differs.
 
 mod answers;
 mod inputs;
@@ -45,7 +45,7 @@ fn files_below(folder: &Path, files: &mut Files) -> io::Result<()> {
     Ok(())
 }
 
-/// Asks both crates, and ends the program where they differ.
+/// Asks both crates, and ends the program if their answers differ.
 fn compare(files: &Files, bundle: &Bundles, input: &Input, counts: &Counts) {
     let plain = plain_answers(files, &bundle.plain, input);
     let proved = proved_answers(files, &bundle.proved, input);

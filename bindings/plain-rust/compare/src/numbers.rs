@@ -1,4 +1,4 @@
-//! Pseudorandom numbers, the same ones for the same seed.
+//! Pseudorandom numbers, the same numbers for the same seed.
 
 /// The state of xorshift64*, by G. Marsaglia and S. Vigna.
 #[derive(Clone)]

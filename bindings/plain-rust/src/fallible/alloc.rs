@@ -1,4 +1,4 @@
-//! The allocator, and how a call that takes memory fails.
+//! The allocator, and the errors of calls that take memory.
 
 use core::error::Error;
 use core::fmt::{self, Display, Formatter};
@@ -28,7 +28,7 @@ impl From<::alloc::collections::TryReserveError> for AllocError {
 /// Memory ran out for a value, which is handed back.
 #[derive(Clone, Copy, Debug)]
 pub struct AllocFailed<T> {
-    /// The value that found no room.
+    /// The value that isn't stored.
     pub value: T,
 }
 

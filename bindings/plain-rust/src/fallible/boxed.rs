@@ -5,7 +5,7 @@ use core::ops::{Deref, DerefMut};
 
 /// A value in memory of its own.
 ///
-/// It is held as a list of one item, for which memory can be taken without an end of the program.
+/// It is an array of one item in a box of `alloc`: memory for an array can be requested without ending the program.
 #[derive(PartialEq, Eq, PartialOrd, Ord, Hash)]
 pub struct Box<T>(::alloc::boxed::Box<[T; 1]>);
 
@@ -23,12 +23,12 @@ impl<T> Box<T> {
         }
     }
 
-    /// The value in a list of one item of `alloc`, without a copy.
+    /// The value in an array of one item in a box of `alloc`, without a copy.
     pub fn into_std(self) -> ::alloc::boxed::Box<[T; 1]> {
         self.0
     }
 
-    /// The value that is alone in a list of `alloc`, without a copy.
+    /// The value of an array of one item in a box of `alloc`, without a copy.
     pub fn from_std(one: ::alloc::boxed::Box<[T; 1]>) -> Self {
         Box(one)
     }

@@ -1,4 +1,4 @@
-//! Collections in the order of their items.
+//! Queues, maps and sets.
 
 use crate::fallible::alloc::{AllocFailed, Global};
 use alloc::collections;
@@ -9,7 +9,7 @@ use core::borrow::Borrow;
 pub struct BinaryHeap<T: Ord>(collections::BinaryHeap<T>);
 
 impl<T: Ord> BinaryHeap<T> {
-    /// No item; it takes no memory.
+    /// The empty queue, which takes no memory.
     pub fn new(_: Global) -> Self {
         BinaryHeap(collections::BinaryHeap::new())
     }
@@ -23,7 +23,7 @@ impl<T: Ord> BinaryHeap<T> {
         Ok(())
     }
 
-    /// Takes the greatest item out.
+    /// Removes the greatest item, and returns it.
     pub fn pop(&mut self) -> Option<T> {
         self.0.pop()
     }
@@ -34,19 +34,19 @@ impl<T: Ord> BinaryHeap<T> {
     }
 }
 
-/// How many entries a part of a map has at most.
+/// The most entries of a part of a map.
 const MOST_ENTRIES: usize = 512;
 
 /// Values by their keys.
 ///
-/// The entries lie in the order of their keys, in parts of at most 512. So a new one moves few others, and a key is
-/// found by halving.
+/// The entries lie in the order of their keys, in parts of at most 512. So a new entry moves few others, and a
+/// binary search finds a key.
 pub struct BTreeMap<K, V> {
     parts: Vec<Vec<(K, V)>>,
 }
 
 impl<K: Ord, V> BTreeMap<K, V> {
-    /// No entry; it takes no memory.
+    /// The empty map, which takes no memory.
     pub fn new(_: Global) -> Self {
         BTreeMap { parts: Vec::new() }
     }
@@ -74,7 +74,7 @@ impl<K: Ord, V> BTreeMap<K, V> {
         self.get(key).is_some()
     }
 
-    /// Gives a key its value; the value that it had.
+    /// Gives a key its value. It returns the value that the key had.
     pub fn insert(&mut self, key: K, value: V) -> Result<Option<V>, AllocFailed<(K, V)>> {
         let index = self.part_of(&key);
         let Ok(part) = part_with_room(&mut self.parts, index, &key) else {
@@ -89,7 +89,7 @@ impl<K: Ord, V> BTreeMap<K, V> {
         }
     }
 
-    /// Takes a key out; the value that it had.
+    /// Removes a key. It returns the value that the key had.
     pub fn remove<Q: Ord + ?Sized>(&mut self, key: &Q) -> Option<V>
     where
         K: Borrow<Q>,
@@ -114,7 +114,7 @@ impl<K: Ord, V> BTreeMap<K, V> {
     }
 }
 
-/// The part at an index, or the one after it, in which the key has its place, with room for one more entry.
+/// The part in which a key has its place, at an index or after it, with memory for one more entry.
 fn part_with_room<'p, K: Ord, V>(
     parts: &'p mut Vec<Vec<(K, V)>>,
     index: usize,
@@ -143,12 +143,12 @@ fn part_with_room<'p, K: Ord, V>(
 pub struct BTreeSet<T>(BTreeMap<T, ()>);
 
 impl<T: Ord> BTreeSet<T> {
-    /// No item; it takes no memory.
+    /// The empty set, which takes no memory.
     pub fn new(alloc: Global) -> Self {
         BTreeSet(BTreeMap::new(alloc))
     }
 
-    /// Whether an item is there.
+    /// Whether the set has an item.
     pub fn contains<Q: Ord + ?Sized>(&self, item: &Q) -> bool
     where
         T: Borrow<Q>,
@@ -156,7 +156,7 @@ impl<T: Ord> BTreeSet<T> {
         self.0.contains_key(item)
     }
 
-    /// Adds an item; whether it wasn't there.
+    /// Adds an item. It returns whether the item is new.
     pub fn insert(&mut self, item: T) -> Result<bool, AllocFailed<T>> {
         match self.0.insert(item, ()) {
             Ok(before) => Ok(before.is_none()),
@@ -169,7 +169,7 @@ impl<T: Ord> BTreeSet<T> {
 pub struct VecDeque<T>(collections::VecDeque<T>);
 
 impl<T> VecDeque<T> {
-    /// No item; it takes no memory.
+    /// The empty queue, which takes no memory.
     pub fn new(_: Global) -> Self {
         VecDeque(collections::VecDeque::new())
     }
@@ -183,7 +183,7 @@ impl<T> VecDeque<T> {
         Ok(())
     }
 
-    /// Takes the first item off.
+    /// Removes the first item, and returns it.
     pub fn pop_front(&mut self) -> Option<T> {
         self.0.pop_front()
     }

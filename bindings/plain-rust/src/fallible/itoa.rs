@@ -2,7 +2,7 @@
 
 /// The digits of a number, which take no memory.
 pub struct Buffer {
-    /// They stand at its end.
+    /// The digits are at its end.
     bytes: [u8; 20],
 }
 

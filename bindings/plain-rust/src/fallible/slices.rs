@@ -2,7 +2,7 @@ use core::ops::RangeTo;
 
 /// `map` of an array, with a function that can fail.
 pub trait TryEach<T, const N: usize> {
-    /// What the function gives for each item; the first error, after which it isn't called again.
+    /// The results of the function for the items, or the first error. After an error the function isn't called again.
     fn try_each<U, E>(self, f: impl FnMut(T) -> Result<U, E>) -> Result<[U; N], E>;
 }
 
@@ -20,12 +20,12 @@ impl<T, const N: usize> TryEach<T, N> for [T; N] {
     }
 }
 
-/// What takes items off the front of a slice. Slices of Rust 1.87 have it as `split_off` and `split_off_first`.
+/// Removes items from the start of a slice, like `split_off` and `split_off_first` of slices in Rust 1.87.
 pub trait TakeFront<'a, T> {
-    /// The items of the range, which are taken off; `None` where there are fewer, and then all stay.
+    /// Removes the items of the range, and returns them; `None` if there are fewer, and then all stay.
     fn take_front(&mut self, range: RangeTo<usize>) -> Option<&'a [T]>;
 
-    /// The first item, which is taken off.
+    /// Removes the first item, and returns it.
     fn take_one(&mut self) -> Option<&'a T>;
 }
 

@@ -2,11 +2,11 @@ use alloc::collections::TryReserveError;
 use alloc::vec::Vec;
 use core::mem;
 
-/// More ascending runs than these aren't merged, but sorted anew.
+/// The most runs that are merged. If there are more, the keys are sorted as a whole.
 const MOST_RUNS: usize = 32;
 
-/// The indices of keys in their order; those of equal keys stay in order. A few runs that ascend already, or descend,
-/// are merged two by two, which takes little time.
+/// The indices of the keys, in the order of the keys; the indices of equal keys ascend. A few runs that ascend or
+/// descend already are merged two by two, which takes little time.
 pub(super) fn sorted_indices<K: Ord + Copy>(
     keys: impl ExactSizeIterator<Item = K>,
 ) -> Result<Vec<usize>, TryReserveError> {
@@ -34,7 +34,7 @@ pub(super) fn with_capacity<T>(capacity: usize) -> Result<Vec<T>, TryReserveErro
     Ok(items)
 }
 
-/// Where the runs end whose keys ascend, up to one more than may be merged. A run that descends strictly is reversed.
+/// The ends of the runs of ascending keys, at most one more than are merged. A strictly descending run is reversed.
 fn ascending_runs<K: Ord>(pairs: &mut [(K, usize)]) -> Result<Vec<usize>, TryReserveError> {
     let mut ends = with_capacity(MOST_RUNS + 1)?;
     let mut start = 0;
@@ -52,7 +52,7 @@ fn ascending_runs<K: Ord>(pairs: &mut [(K, usize)]) -> Result<Vec<usize>, TryRes
     Ok(ends)
 }
 
-/// Merges each two runs into as many places.
+/// Merges the runs two by two into `merged`, which has as many places.
 fn merge_pairs<K: Ord + Copy>(pairs: &[(K, usize)], ends: &mut Vec<usize>, merged: &mut [(K, usize)]) {
     let mut start = 0;
     let count = ends.len().div_ceil(2);
@@ -66,7 +66,7 @@ fn merge_pairs<K: Ord + Copy>(pairs: &[(K, usize)], ends: &mut Vec<usize>, merge
     ends.truncate(count);
 }
 
-/// Merges two runs into as many places; of equal keys that of the left one comes first.
+/// Merges two runs into `places`, which are as many; of two equal keys the one of the left run comes first.
 fn merge<K: Ord + Copy>(
     mut left: &[(K, usize)],
     mut right: &[(K, usize)],

@@ -14,7 +14,7 @@ impl String {
         String(::alloc::string::String::new())
     }
 
-    /// The empty text, with room for this many bytes.
+    /// The empty text, with memory for this many bytes.
     pub fn with_capacity(alloc: Global, capacity: usize) -> Result<Self, AllocError> {
         let mut text = String::new(alloc);
         text.0.try_reserve_exact(capacity)?;
@@ -33,7 +33,7 @@ impl String {
         String(text)
     }
 
-    /// What `format!` prints.
+    /// The text that `format!` makes.
     pub fn from_fmt(alloc: Global, printed: Arguments<'_>) -> Result<Self, AllocError> {
         let mut text = String::new(alloc);
         text.write_fmt(printed)?;
@@ -73,12 +73,12 @@ impl String {
         Ok(())
     }
 
-    /// Adds what a value prints.
+    /// Adds the text that a value displays.
     pub fn write(&mut self, value: impl Display) -> Result<(), AllocError> {
         self.write_fmt(format_args!("{value}"))
     }
 
-    /// Adds what `write!` prints. A value that fails to print itself counts as memory that ran out.
+    /// Adds the text that `write!` makes. An error of a value's `Display` counts as memory that ran out.
     pub fn write_fmt(&mut self, printed: Arguments<'_>) -> Result<(), AllocError> {
         Adding(self).write_fmt(printed).map_err(|fmt::Error| AllocError)
     }
@@ -86,7 +86,7 @@ impl String {
 
 /// `to_string` into a text.
 pub trait Printed: Display {
-    /// What the value prints.
+    /// The text that the value displays.
     fn to_string_in(&self, alloc: Global) -> Result<String, AllocError> {
         let mut text = String::new(alloc);
         text.write(self)?;

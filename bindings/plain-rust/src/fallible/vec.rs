@@ -15,7 +15,7 @@ impl<T> Vec<T> {
         Vec(::alloc::vec::Vec::new())
     }
 
-    /// The empty list, with room for this many items.
+    /// The empty list, with memory for this many items.
     pub fn with_capacity(alloc: Global, capacity: usize) -> Result<Self, AllocError> {
         let mut items = Vec::new(alloc);
         items.0.try_reserve_exact(capacity)?;
@@ -44,18 +44,18 @@ impl<T> Vec<T> {
         &mut self.0
     }
 
-    /// For how many items there is room, those in the list included.
+    /// How many items the list can have without more memory.
     #[inline]
     pub fn capacity(&self) -> usize {
         self.0.capacity()
     }
 
-    /// Makes room for further items.
+    /// Takes memory for further items, or for more.
     pub fn reserve(&mut self, additional: usize) -> Result<(), AllocError> {
         Ok(self.0.try_reserve(additional)?)
     }
 
-    /// Makes room for further items, and for no more of them.
+    /// Takes memory for further items, and not for more.
     pub fn reserve_exact(&mut self, additional: usize) -> Result<(), AllocError> {
         Ok(self.0.try_reserve_exact(additional)?)
     }
@@ -70,7 +70,7 @@ impl<T> Vec<T> {
         Ok(())
     }
 
-    /// Adds an item at the end, for which there is room.
+    /// Adds an item at the end; memory for it was taken before.
     #[inline]
     pub fn push_reserved(&mut self, value: T) {
         debug_assert!(self.0.len() < self.0.capacity());
@@ -102,7 +102,7 @@ impl<T> Vec<T> {
         self.reserve(1)
     }
 
-    /// Takes the last item off.
+    /// Removes the last item, and returns it.
     #[inline]
     pub fn pop(&mut self) -> Option<T> {
         self.0.pop()
@@ -118,7 +118,7 @@ impl<T> Vec<T> {
         self.0.truncate(len);
     }
 
-    /// Sorts the items. Equal ones are in no order of their own.
+    /// Sorts the items; equal items may change their order.
     pub fn sort(&mut self) -> Result<(), AllocError>
     where
         T: Ord,
@@ -146,13 +146,13 @@ impl<T> Vec<T> {
         Ok(())
     }
 
-    /// Of items of equal keys that follow each other the first one stays.
+    /// Drops each item whose key equals the key of the item before it.
     pub fn dedup_by_key<K: PartialEq>(&mut self, key: impl FnMut(&mut T) -> K) {
         self.0.dedup_by_key(key);
     }
 
-    /// Gives memory back, where more than half of it isn't used. That takes a copy, since `shrink_to_fit` of `alloc`
-    /// ends the program where memory runs out; where there is none for the copy, the list stays as it is.
+    /// Gives memory back if more than half of it is unused. This takes a copy, since `shrink_to_fit` of `alloc` ends
+    /// the program if memory runs out. If there is no memory for the copy, the list stays as it is.
     pub fn shrink_to_fit(&mut self) {
         let mut exact = ::alloc::vec::Vec::new();
         if self.0.len() < self.0.capacity() / 2 && exact.try_reserve_exact(self.0.len()).is_ok() {
@@ -163,7 +163,7 @@ impl<T> Vec<T> {
 }
 
 impl<T: Clone> Vec<T> {
-    /// The list of this many copies of an item.
+    /// A list with `len` copies of an item.
     pub fn from_elem(alloc: Global, item: T, len: usize) -> Result<Self, AllocError> {
         let mut items = Vec::with_capacity(alloc, len)?;
         items.0.resize(len, item);
@@ -317,7 +317,7 @@ mod tests {
         assert_eq!(items.as_slice(), sorted);
     }
 
-    /// Checks a sort of pairs by their first halves.
+    /// Checks `sort_by_key` by the first halves of pairs.
     fn check_sort(items: &[(u32, usize)]) {
         let mut expected = items.to_vec();
         expected.sort_by_key(|item| item.0);

@@ -1,4 +1,4 @@
-//! What the program `cmap_query` does.
+//! The modules of the program `cmap_query`.
 
 pub mod answers;
 pub mod arguments;

@@ -1,6 +1,6 @@
-//! Arguments that spell numbers.
+//! Arguments that are numbers.
 
-/// The number that decimal digits spell, where it fits.
+/// The number with these decimal digits, if it fits in 64 bits.
 pub fn decimal(digits: &str) -> Option<u64> {
     if digits.starts_with('+') { None } else { digits.parse().ok() }
 }

@@ -12,7 +12,7 @@ pub fn read_all<R: Read>(alloc: Global, input: &mut R) -> Result<Vec<u8>, Failur
     Ok(Vec::from_slice(alloc, &bytes)?)
 }
 
-/// The first `len` bytes, and those after them; `None` where there are fewer.
+/// The first `len` bytes, and the bytes after them; `None` if there are fewer.
 pub fn split_bundle(bytes: &[u8], len: u64) -> Option<(&[u8], &[u8])> {
     bytes.split_at_checked(usize::try_from(len).ok()?)
 }
