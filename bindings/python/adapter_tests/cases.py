@@ -143,7 +143,7 @@ COLLECTIONS = [
         "日本",
     ),
     (
-        "texts of five digits",
+        "strings of five digits",
         composite(Name("Identity-H"), to_unicode(b"2 beginbfchar <0001> <20BB7> <0002> <0042> endbfchar")),
         b"\0\1\0\2",
         "\U00020BB7B",

@@ -24,7 +24,7 @@ for name in ("pypdf", "PyPDF2"):
     except ImportError:
         pass
 if not LIBRARIES:
-    raise unittest.SkipTest("neither pypdf nor PyPDF2 is there (Debian's python3-pypdf)")
+    raise unittest.SkipTest("neither pypdf nor PyPDF2 is installed (Debian's python3-pypdf)")
 
 from made import Name, Stream, composite, pdf, simple, to_unicode
 

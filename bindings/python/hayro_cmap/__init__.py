@@ -5,12 +5,12 @@
     with hayro_cmap.CMap.open("90ms-RKSJ-H") as cmap:
         print([code.cid for code in cmap.decode(bytes.fromhex("93FA967B8CEA"))])
 
-An `Extractor` finds the texts of the strings of a font, and the strings of texts. `to_unicode`, `CMapWriter` and
+An `Extractor` converts the strings of a font to texts, and texts to strings. `to_unicode`, `CMapWriter` and
 `CMap.write` write CMap files.
 
-Files may be untrusted: each call returns on any bytes. A file that isn't accepted raises `Refused`; MemoryError is
+Files may be untrusted: each call returns on any bytes. A file that isn't accepted raises `Refused`. MemoryError is
 raised if memory runs out. The package calls the C library of this project: the file that the environment variable
-HAYRO_CMAP_LIBRARY names, otherwise the one in this package's folder, otherwise the system's.
+HAYRO_CMAP_LIBRARY names, otherwise the file in this package's folder, otherwise the system's library.
 """
 
 from ._bundle import Bundle

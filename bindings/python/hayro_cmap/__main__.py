@@ -1,8 +1,9 @@
 """Prints the codes of strings, with their CIDs and texts.
 
-FILE is the path of a CMap file, or the name of one in the folders of --base or in the bundle, or of a predefined CMap:
-one in the folders of the environment variable CMAP_PATH, else in those of the system. A code without a text of its own
-has that of its CID in the CMap to Unicode of its collection, as Adobe-Japan1-UCS2, if that is there.
+FILE is the path of a CMap file, or the name of a file in the folders of --base or in the bundle, or the name of a
+predefined CMap. Predefined CMaps are looked up in the folders of the environment variable HAYRO_CMAP_PATH or CMAP_PATH,
+otherwise in the system's folders. A code without a text of its own has the text that the collection's CMap, such as
+Adobe-Japan1-UCS2, gives its CID, if that CMap is found.
 """
 
 import argparse
@@ -20,9 +21,9 @@ def arguments():
     )
     parser.add_argument("file", metavar="FILE", type=os.fsencode)
     parser.add_argument("strings", metavar="HEX", nargs="+", type=string_of, help="two digits for each byte")
-    parser.add_argument("--base", metavar="FOLDER", action="append", default=[], help="where used files are")
-    parser.add_argument("--bundle", metavar="FILE", help="a bundle, for files in binary form and for used files")
-    parser.add_argument("--budget", metavar="N", type=int, help="the most bytes that all files may have together")
+    parser.add_argument("--base", metavar="FOLDER", action="append", default=[], help="a folder with used files")
+    parser.add_argument("--bundle", metavar="FILE", help="a bundle, for binary files and for used files")
+    parser.add_argument("--budget", metavar="N", type=int, help="the maximum number of bytes of all files together")
     parser.add_argument("--version", action="version", version=f"hayro_cmap {__version__}")
     return parser.parse_args()
 
@@ -35,7 +36,7 @@ def string_of(digits):
 
 
 def message_of(fault):
-    """What a fault says; a path in it as a text."""
+    """The message of a fault, in which a path is a str."""
     if isinstance(fault, OSError) and isinstance(fault.filename, bytes):
         return f"{ascii(os.fsdecode(fault.filename))[1:-1]}: {fault.strerror}"
     return fault
@@ -47,12 +48,12 @@ def read(path):
 
 
 def map_of(file, **over):
-    """The map of a path, or of a name, which has no slash."""
+    """The map of the file with a path, or with a name, which has no slash."""
     return CMap.parse(read(file), **over) if os.path.isfile(file) or b"/" in file else CMap.open(file, **over)
 
 
 def files_of(folders, bundle):
-    """The files of these folders, then those of the bundle, then the predefined CMaps."""
+    """Gives the files of these folders, then the bundle's files, then the predefined CMaps."""
     given, others = folder(*folders), beside(bundle)
 
     def file_of(name):
@@ -63,7 +64,7 @@ def files_of(folders, bundle):
 
 
 def texts_of(cmap, files, bundle):
-    """The map of CIDs to texts of the collection; None where there is none, or it is refused."""
+    """The collection's map from CIDs to texts; None if there is no such map, or it is refused."""
     try:
         return cmap.collection(files, bundle)
     except Refused:
@@ -71,7 +72,7 @@ def texts_of(cmap, files, bundle):
 
 
 def print_string(cmap, texts, string):
-    """A line for each code of a string."""
+    """Prints a line for each code of a string."""
     for code in cmap.decode(string):
         text = cmap.text(code.code)
         if text is None and texts is not None and code.cid is not None:

@@ -1,4 +1,4 @@
-"""CMap files over a base that is handed in, as the entry UseCMap of a stream in a PDF file gives it."""
+"""CMap files over a base that is passed in, such as the entry UseCMap of a stream in a PDF file gives."""
 
 from typing import Any, List, Optional, Tuple, Type
 
@@ -7,13 +7,13 @@ from ._faults import Refused
 from ._reading import NO_FILES, Files, names_in
 from ._values import bytes_of
 
-#: The name of the base, and its use, for a text that uses none.
+#: The name of the base, and the operator that uses it, for a file that uses no base.
 NAME = b"UseCMap"
 USE = b"/" + NAME + b" usecmap\n"
 
 
 class Base:
-    """Gives one file for each name, and keeps the last name that was asked for."""
+    """Gives the same file for every name, and keeps the last requested name."""
 
     def __init__(self, data: bytes):
         self.data = data
@@ -34,7 +34,7 @@ def parsed(kind: Type, data, base, files: Optional[Files] = NO_FILES, bundle: Op
 
 
 def strict_file(kind: Type, base, files: Optional[Files], bundle: Optional[Bundle], budget) -> bytes:
-    """The base as one file that uses no other."""
+    """The base as a single file that uses no other file."""
     if isinstance(base, kind):
         return base.write()
     base = bytes_of(base)
@@ -44,7 +44,7 @@ def strict_file(kind: Type, base, files: Optional[Files], bundle: Optional[Bundl
 def salvaged(
     kind: Type, data, base, files: Optional[Files] = NO_FILES, bundle: Optional[Bundle] = None, budget=None, most=None
 ):
-    """The map of a file over a base, read past the faults of both, and these, at most `most` of each."""
+    """The map of a file over a base, both read past their faults, and these faults, at most `most` of each file."""
     file, of_base = salvaged_file(kind, base, files, bundle, budget, most)
     given = Base(file)
     cmap, faults = kind.salvage(data, given, bundle, budget, most_faults=most)
@@ -58,7 +58,7 @@ def salvaged(
 def salvaged_file(
     kind: Type, base, files: Optional[Files], bundle: Optional[Bundle], budget, most
 ) -> Tuple[bytes, List[Refused]]:
-    """The base as one file that uses no other, read past its faults, and these."""
+    """The base as a single file that uses no other file, read past its faults, and these faults."""
     if isinstance(base, kind):
         return base.write(), []
     cmap, faults = kind.salvage(base, files, bundle, budget, most_faults=most)
@@ -67,17 +67,17 @@ def salvaged_file(
 
 
 def over_base(cmap: Any, data: bytes, bundle: Optional[Bundle]) -> bytes:
-    """The file of this map, which uses none, as one that uses the base."""
+    """The file of this map, which uses no base, changed so that it uses the base."""
     is_binary = bundle is not None and data[:5] == b"bcmap"
     return USE + (cmap.write() if is_binary else data)
 
 
 def with_use(budget: Optional[int]) -> Optional[int]:
-    """The budget of a file that uses the base, where that of the file alone is this one."""
+    """The budget with the operator that uses the base, from the budget without it."""
     return None if budget is None else budget + len(USE)
 
 
 def below(name: bytes, fault: Refused) -> Refused:
-    """A fault of the base, as one of the file that uses it by this name."""
+    """A fault of the base, reported for the file that uses the base by this name."""
     message, cause, names, *rest = fault.args
     return type(fault)(message, cause, (name, *names), *rest)

@@ -1,4 +1,4 @@
-"""The texts of a map by the numbers of its codes, all at once."""
+"""All texts of a map, by the numbers of their codes."""
 
 import array
 import functools
@@ -12,15 +12,15 @@ from ._map import CMap
 from ._reading import NO_FILES
 from ._room import Room
 
-#: A map whose codes are all numbers of four bytes.
+#: A map in which all codes have four bytes.
 NUMBERS = b"1 begincodespacerange <00000000> <FFFFFFFF> endcodespacerange"
 
-#: How many codes are looked up together.
+#: The number of codes that are looked up together.
 CHUNK = 4096
 
 
 def texts_by_code(cmap: CMap, last: int) -> Dict[int, str]:
-    """The texts of the codes up to the last one."""
+    """The texts of the codes up to `last`."""
     found: Dict[int, str] = {}
     codes = codes_up_to(cmap, last)
     with Extractor(numbers(), to_unicode=cmap, files=NO_FILES) as font:
@@ -33,7 +33,7 @@ def texts_by_code(cmap: CMap, last: int) -> Dict[int, str]:
 
 
 def codes_up_to(cmap: CMap, last: int) -> Iterator[int]:
-    """The codes up to the last one of declarations of texts."""
+    """The codes up to `last` in declarations of texts."""
     return itertools.chain.from_iterable(range(first, min(end, last) + 1) for first, end in with_texts(cmap))
 
 

@@ -5,13 +5,14 @@ from typing import Iterable, Iterator, List, Tuple
 
 from ._codespaces import Codespaces
 
-#: The first and the last of numbers in a row.
+#: The first and the last number of a range.
 Range = Tuple[int, int]
 
 
 def candidates(encoding, to_unicode, collection) -> Iterator[bytes]:
-    """Codes in codespace ranges of the encoding, in the order of their lengths, then of their bytes: all that the maps
-    give a text, and perhaps others, of which a later declaration or another range decides."""
+    """Codes in codespace ranges of the encoding, in the order of their lengths, then of their bytes. They include all
+    codes to which the maps give a text. Others may be among them: a later declaration may replace the one found here,
+    and the bytes may begin with a shorter code."""
     layers = encoding.layers
     codespaces = [it for layer in layers for it in layer.codespaces]
     of_codes, of_cids = with_texts(to_unicode), with_texts(collection)
@@ -26,12 +27,12 @@ def candidates(encoding, to_unicode, collection) -> Iterator[bytes]:
 
 
 def with_texts(cmap) -> List[Range]:
-    """The codes of declarations of texts. The last unit of a text counts on over 65,536 codes at most."""
+    """The codes in declarations of texts. The last unit of a text counts on over at most 65,536 codes."""
     return union((first, min(last, first + 0xFFFF)) for first, last in cmap._declared_codes())
 
 
 def union(ranges: Iterable[Range]) -> List[Range]:
-    """The same numbers in order, in as few ranges as can be."""
+    """The same numbers in order, in the fewest ranges."""
     found: List[Range] = []
     for first, last in sorted(ranges):
         if found and first <= found[-1][1] + 1:
@@ -42,7 +43,7 @@ def union(ranges: Iterable[Range]) -> List[Range]:
 
 
 def counted(cids, with_text: List[Range]) -> Iterator[Range]:
-    """The codes of declarations of CIDs that have one of these CIDs."""
+    """The codes to which declarations of CIDs give one of these CIDs."""
     lasts = [last for _, last in with_text]
     for it in cids:
         most = it.cid + it.last - it.first
@@ -53,7 +54,7 @@ def counted(cids, with_text: List[Range]) -> Iterator[Range]:
 
 
 def same(notdefs, with_text: List[Range]) -> Iterator[Range]:
-    """The codes of notdefs whose CID is one of these."""
+    """The codes of notdefs with one of these CIDs."""
     firsts = [first for first, _ in with_text]
     for it in notdefs:
         before = bisect.bisect_right(firsts, it.cid)
@@ -62,7 +63,7 @@ def same(notdefs, with_text: List[Range]) -> Iterator[Range]:
 
 
 def codes_in(first: int, last: int, codespaces: Codespaces) -> Iterator[int]:
-    """The codes of a row that lie in a codespace range."""
+    """The codes from `first` to `last` that lie in a codespace range."""
     for start, end, byte_len in codespaces.parts(first, last):
         if byte_len:
             yield from range(start, end + 1)

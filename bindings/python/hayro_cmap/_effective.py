@@ -1,4 +1,4 @@
-"""Which text each code of a map has, over all declarations of its layers."""
+"""The text of each code of a map, from the declarations of all layers."""
 
 import contextlib
 import heapq
@@ -6,13 +6,13 @@ from typing import Dict, Iterable, Iterator, List, NamedTuple, Sequence, Tuple
 
 from ._codespaces import PLACES, Codespaces
 
-#: The last units that a text may have, by whether a high surrogate stands before them.
+#: The ranges of the last unit of a text: without a high surrogate before the unit, and after a high surrogate.
 SINGLE_UNITS = [(0x0000, 0xD7FF), (0xE000, 0xFFFF)]
 LOW_SURROGATES = [(0xDC00, 0xDFFF)]
 
 
 class TextRun(NamedTuple):
-    """Codes in a row that have texts: those from `first` to `last`, of `byte_len` bytes."""
+    """The consecutive codes from `first` to `last`, of `byte_len` bytes, which have texts."""
 
     first: int
     last: int
@@ -22,8 +22,8 @@ class TextRun(NamedTuple):
 
 
 class TextRow(NamedTuple):
-    """Codes in a row that have texts, whatever their lengths are. Each is `start` and one character more: that of
-    `first` is `character`, and it counts on from code to code."""
+    """Consecutive codes of any length, which have texts. Each text is `start` and one more character. This character is
+    `character` for the code `first`, and counts on from code to code."""
 
     first: int
     last: int
@@ -32,7 +32,7 @@ class TextRow(NamedTuple):
 
 
 def effective(declared, codespaces) -> Iterator[TextRun]:
-    """The texts of declarations, of which the first one that has a code decides, in the order of the codes."""
+    """The texts of codes, in the order of the codes. The first declaration that contains a code decides."""
     lengths = Codespaces(codespaces)
     for row in text_rows(declared):
         for first, last, byte_len in by_length(row.first, row.last, lengths):
@@ -40,7 +40,7 @@ def effective(declared, codespaces) -> Iterator[TextRun]:
 
 
 def text_rows(declared) -> Iterator[TextRow]:
-    """The same as rows, of which those of one declaration share what their texts begin with."""
+    """The same as rows. The rows of a declaration share the string `start`."""
     given = [it for it in declared if it.first <= it.last]
     made: Dict[int, List[TextRow]] = {}
     for start, end, index in decided(given):
@@ -53,7 +53,7 @@ def text_rows(declared) -> Iterator[TextRow]:
 
 
 def decided(declared: Sequence) -> List[Tuple[int, int, int]]:
-    """Codes in a row, the first and the last one, with the index of the declaration that decides on all of them."""
+    """Ranges of codes: the first code, the last code, and the index of the declaration that decides for all of them."""
     order = iter(sorted(range(len(declared)), key=lambda index: declared[index].first))
     bounds = sorted({it.first for it in declared} | {it.last + 1 for it in declared})
     open_: List[int] = []
@@ -71,7 +71,7 @@ def decided(declared: Sequence) -> List[Tuple[int, int, int]]:
 
 
 def joined(rows: Iterable[Tuple[int, int, int]]) -> List[Tuple[int, int, int]]:
-    """Rows that lie side by side and have the same third number, as one."""
+    """Merges adjacent rows with the same third number."""
     found: List[Tuple[int, int, int]] = []
     for first, last, number in rows:
         if found and found[-1][2] == number and found[-1][1] + 1 == first:
@@ -82,21 +82,22 @@ def joined(rows: Iterable[Tuple[int, int, int]]) -> List[Tuple[int, int, int]]:
 
 
 def rows_of(declaration) -> List[TextRow]:
-    """The codes of a declaration that have texts."""
+    """The rows of the codes to which a declaration gives texts."""
     units = declaration.text.encode("utf-16-be", "surrogatepass")
     if not units:
         return []
     unit = int.from_bytes(units[-2:], "big")
     start, ranges, character = last_units(units[:-2])
-    # a unit and this is the code whose text ends with the unit
+    # the sum of a unit and this is the code whose text ends with the unit
     further = declaration.first - unit
     found = [(max(declaration.first, low + further), min(declaration.last, high + further)) for low, high in ranges]
     return [TextRow(first, last, start, character + first - further) for first, last in found if first <= last]
 
 
 def last_units(before: bytes) -> Tuple[str, List[Tuple[int, int]], int]:
-    """The characters before the last one of a text with these units before its last unit, the ranges of units that make
-    a text with them, and the character of the unit 0. There are no ranges where a surrogate stands alone."""
+    """How a text ends that has these units before its last unit: the characters before its last character, the ranges
+    of possible last units, and the number to which the unit is added for the last character. There are no ranges if a
+    surrogate stands alone."""
     with contextlib.suppress(UnicodeDecodeError):
         return before.decode("utf-16-be"), SINGLE_UNITS, 0
     high = int.from_bytes(before[-2:], "big")
@@ -107,14 +108,14 @@ def last_units(before: bytes) -> Tuple[str, List[Tuple[int, int]], int]:
 
 
 def text_at(text: str, offset: int) -> str:
-    """A text whose last unit is greater by an offset."""
+    """The text with the last unit increased by an offset."""
     units = text.encode("utf-16-be")
     return (units[:-2] + (int.from_bytes(units[-2:], "big") + offset).to_bytes(2, "big")).decode("utf-16-be")
 
 
 def by_length(first: int, last: int, codespaces: Codespaces) -> List[Tuple[int, int, int]]:
-    """Codes in a row, cut where the length of their bytes changes. A code has as many as the shortest codespace range
-    that has it; else the fewest that write it, and no fewer than the shortest codes have."""
+    """The codes from `first` to `last` in parts, each with one length. A code has the length of the shortest codespace
+    range that contains it, otherwise the fewest bytes in which it fits, but at least as many as the shortest codes."""
     lengths = codespaces.lengths or [1]
     if len(lengths) == 1 and last < 256 ** lengths[0]:
         return [(first, last, lengths[0])]
@@ -126,7 +127,8 @@ def by_length(first: int, last: int, codespaces: Codespaces) -> List[Tuple[int, 
 
 
 def by_size(first: int, last: int, fewest: int) -> Iterator[Tuple[int, int, int]]:
-    """Codes in a row, cut where more bytes are needed to write them than before, and `fewest` at least."""
+    """The codes from `first` to `last` in parts, each with the fewest bytes in which its codes fit, at least
+    `fewest`."""
     for byte_len in range(fewest, PLACES + 1):
         start, end = max(first, 256 ** (byte_len - 1) if byte_len > fewest else 0), min(last, 256**byte_len - 1)
         if start <= end:

@@ -1,4 +1,4 @@
-"""The strings of texts."""
+"""Encoding of texts as strings."""
 
 import enum
 from ctypes import c_size_t
@@ -9,39 +9,39 @@ from ._library import NO_ROOM, OK, EncodedPiece, Handle
 from ._map import CMap
 from ._owned import Owned, checked, library, put
 
-#: How many bytes a string has at first, for each byte of the text: codes have one or two, mostly.
+#: The initial size of the buffer of a string, for each byte of the text: most codes have one or two bytes.
 ROOM_EACH = 2
 
 
 class Grade(enum.IntEnum):
-    """How well a code stands for a piece of a text, the best grade first."""
+    """How well a code represents a piece of a text. The best grade is first."""
 
     STATED = 0
-    """The ToUnicode CMap has the piece as the text of the code."""
+    """The ToUnicode CMap gives the code this text."""
     CANONICAL = 1
-    """The code has the CID that the map from Unicode gives to the character."""
+    """The code has the CID that the map from Unicode gives the character."""
     COLLECTION = 2
-    """The collection's map to Unicode has the piece as the text of the code's CID."""
+    """The collection's map to Unicode gives the code's CID this text."""
     ALIKE = 3
-    """The code shows a text that looks or means the same; or a variation selector gets no code."""
+    """The code shows a text with the same look or meaning, or a variation selector gets no code."""
     NATIONAL = 4
-    """The code is the byte of an ASCII character that a national version of ISO 646 shows as another character, such as
-    a backslash as U+00A5."""
+    """The code is the byte of an ASCII character that a national version of ISO 646 replaces, such as a backslash,
+    shown as U+00A5."""
 
 
 class Piece(NamedTuple):
-    """A piece of a text that is encoded."""
+    """A piece of an encoded text."""
 
     #: Its characters.
     text: str
-    #: The bytes of its code; none for a variation selector without a code.
+    #: The bytes of its code; empty for a variation selector without a code.
     code: bytes
-    #: How well the code stands for it.
+    #: How well the code represents it.
     grade: Grade
 
 
 class Encoder(Owned):
-    """Finds the strings of texts in a font. It keeps no maps."""
+    """Encodes texts as strings of a font. It keeps no maps."""
 
     _what = "the extractor"
     _free = staticmethod(library.hayro_cmap_encoder_free)
@@ -67,7 +67,7 @@ class Encoder(Owned):
         return string
 
     def encode_lossy(self, text: str, missing: bytes) -> bytes:
-        """The same with `missing` for each character that can't be encoded."""
+        """The same, with `missing` for each character that can't be encoded."""
         data = utf8_of(text)
         arguments = (data, len(data), missing, len(missing))
         with self._held() as encoder:
@@ -77,7 +77,7 @@ class Encoder(Owned):
         return string
 
     def pieces(self, text: str) -> List[Piece]:
-        """The pieces of a text, whose codes `encode` gives one after another."""
+        """The pieces of a text. The codes of the pieces make up the string that `encode` gives."""
         data, string, made, start, end = utf8_of(text), self.encode(text), [], 0, 0
         for piece in self._pieces(text, data):
             characters = data[start : start + piece.text_len].decode()
@@ -98,7 +98,7 @@ class Encoder(Owned):
 
 
 def utf8_of(text: str) -> bytes:
-    """The bytes of a text. Unencodable where it has a lone surrogate."""
+    """The bytes of a text in UTF-8. Raises Unencodable for a lone surrogate."""
     try:
         return str.encode(text)
     except UnicodeEncodeError as fault:
@@ -106,5 +106,5 @@ def utf8_of(text: str) -> bytes:
 
 
 def unencodable(text: str, data: bytes, offset: c_size_t) -> Unencodable:
-    """That a text is refused at an offset of its bytes, which are `data`."""
+    """The exception for a text, whose bytes are `data`, that is refused at an offset of these bytes."""
     return Unencodable(text, len(data[: offset.value].decode()))

@@ -1,11 +1,11 @@
-"""The encodings of simple fonts (ISO 32000-1, Annex D): the name of the glyph of each code."""
+"""The encodings of simple fonts (ISO 32000-1, Annex D): a glyph name for each code."""
 
 from typing import List, Optional
 
 
 def table(text: str) -> List[Optional[str]]:
-    """The names of the glyphs of the codes 0 to 255, of names in the order of their codes. A number stands before the
-    name of the glyph of this code; without one the code is the next one."""
+    """The glyph names of the codes 0 to 255. The text lists names in the order of their codes. A number is the code of
+    the next name; a name without a number has the next code."""
     names: List[Optional[str]] = [None] * 256
     code = 0
     for word in text.split():
@@ -32,7 +32,7 @@ STANDARD = table(
     """
 )
 
-#: WinAnsiEncoding, in which unused codes are bullets.
+#: WinAnsiEncoding, in which unused codes above 126 are bullets.
 WIN_ANSI = table(
     """
     32 space exclam quotedbl numbersign dollar percent ampersand quotesingle parenleft parenright asterisk plus
@@ -160,7 +160,7 @@ ZAPF_DINGBATS = table(
     """
 )
 
-#: The encodings that a font may name.
+#: The encodings that a font may refer to by name.
 BY_NAME = {
     "StandardEncoding": STANDARD,
     "WinAnsiEncoding": WIN_ANSI,

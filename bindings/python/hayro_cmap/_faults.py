@@ -1,4 +1,4 @@
-"""Why a file gives no map."""
+"""The exceptions of the package, and the reasons for which a file is refused."""
 
 import bisect
 import enum
@@ -12,20 +12,20 @@ from ._values import Buffer, bytes_of, shown
 
 
 class Cause(enum.IntEnum):
-    """What is wrong with the file at fault."""
+    """The kind of the fault of a file."""
 
     MALFORMED = 1
-    """It is outside the grammar."""
+    """It doesn't follow the grammar."""
     NO_FILE = 2
     """No file has its name."""
     CHAIN_LENGTH = 3
-    """It would be the seventeenth of a chain of files that use each other."""
+    """It would be the seventeenth file in a chain of files that use each other."""
     PAST_BUDGET = 4
-    """It has more bytes than are left of the budget."""
+    """It exceeds the rest of the budget."""
 
 
 class Reason(enum.IntEnum):
-    """What is wrong at the place where reading a malformed file stopped."""
+    """The reason why the reading of a malformed file stopped at a place."""
 
     END_WITHIN_SECTION = 2
     CODE_EXPECTED = 3
@@ -48,7 +48,7 @@ class Reason(enum.IntEnum):
 
 
 class Segment(enum.IntEnum):
-    """A segment of a binary file, by what it holds."""
+    """A segment of a binary file, by its contents."""
 
     CIDS = 1
     TEXTS = 2
@@ -59,16 +59,16 @@ class Segment(enum.IntEnum):
 
 
 class ReadAs(enum.IntEnum):
-    """What a part at fault is read as, where it shows what was meant."""
+    """How a part at fault is read, if its meaning is clear."""
 
     EMPTY_TEXT = 1
-    """An empty string in place of a text, as the text without units."""
+    """An empty string in place of a text is read as the text without units."""
     EXTENDED_CODE = 2
-    """The second code of a codespace range, longer than the first, which gets leading bytes 0."""
+    """The second code of a codespace range is longer than the first code, which gets leading bytes 0."""
 
     @property
     def words(self) -> str:
-        """The same in English, after "read as"."""
+        """The same in English, for use after "read as"."""
         return "the empty text" if self is ReadAs.EMPTY_TEXT else "a range whose first code has leading bytes 0"
 
 
@@ -77,14 +77,14 @@ LINE_END = re.compile(rb"\r\n?|\n")
 
 
 class Lines:
-    """Where the lines of a text end. A binary file has none."""
+    """The ends of the lines of a text. A binary file has no lines."""
 
     def __init__(self, data: bytes):
         self._data = data
 
     @functools.cached_property
     def _ends(self) -> Optional[List[int]]:
-        """Where the lines end, once one is asked for."""
+        """The offsets at which lines end, found on first use."""
         return None if self._data[:5] == b"bcmap" else [it.start() for it in LINE_END.finditer(self._data)]
 
     def line(self, offset: Optional[int]) -> Optional[int]:
@@ -93,7 +93,8 @@ class Lines:
 
 
 class Refused(ValueError):
-    """A file, or one that it uses, is malformed or missing, or exceeds a limit. The text says which and why."""
+    """A file, or a file that it uses, is malformed or missing, or exceeds a limit. The message names the file and the
+    reason."""
 
     def __init__(
         self,
@@ -106,24 +107,24 @@ class Refused(ValueError):
         opened: Optional[bytes] = None,
     ):
         super().__init__(message, cause, names, offset, reason, segment, opened)
-        #: What is wrong, in English, as the library says it.
+        #: The library's message in English.
         self.message = message
-        #: What is wrong with the file at fault.
+        #: The kind of the fault.
         self.cause = cause
-        #: The names that lead to it, each used by the file before; none for the file itself.
+        #: The names that lead to the file at fault, each used by the file before it; empty for the first file.
         self.names = names
-        #: Where the reading of a malformed file stopped, in bytes from its start; else None.
+        #: The offset in bytes at which the reading of a malformed file stopped; otherwise None.
         self.offset = offset
-        #: What is wrong there; None where the file isn't malformed.
+        #: The reason at this offset; None if the file isn't malformed.
         self.reason = reason
-        #: The segment of a binary file in which that is; else None.
+        #: The segment of a binary file at this offset; otherwise None.
         self.segment = segment
         #: The name by which the first file was opened, if it was.
         self.opened = opened
 
     @property
     def words(self) -> str:
-        """What is wrong, without the offset at the beginning of the message."""
+        """The message without the offset at its beginning."""
         start = f"byte {self.offset}: "
         return self.message[len(start) :] if self.message.startswith(start) else self.message
 
@@ -135,9 +136,10 @@ class Refused(ValueError):
         return Lines(bytes_of(data)).line(self.offset)
 
     def read_as(self, data: Buffer) -> Optional[ReadAs]:
-        """What the part at fault is read as, if `data`, the bytes of the file at fault, is read past this fault.
+        """How the part at fault is read if `data`, the bytes of the file at fault, is read past this fault.
 
-        None where it is lost, and where the bytes before the fault don't show it, as for a string that begins a line.
+        None if the part is lost, or if the bytes before the fault don't determine it, such as for a string that begins
+        a line.
         """
         if self.reason is None:
             return None
@@ -152,7 +154,7 @@ class Refused(ValueError):
 
 
 class NotABundle(ValueError):
-    """The bytes are no bundle."""
+    """The bytes aren't a bundle."""
 
 
 class Unencodable(ValueError):
@@ -162,12 +164,12 @@ class Unencodable(ValueError):
         super().__init__(text, offset)
         #: The text.
         self.text = text
-        #: An index of the text: of the fronts of the text that strings show, the longest ends there.
+        #: `text[:offset]` is the longest prefix that can be encoded.
         self.offset = offset
 
     def __str__(self) -> str:
-        return f"no string shows {self.text!r} past index {self.offset}"
+        return f"{self.text!r} can't be encoded from index {self.offset} on"
 
 
 class NotWritable(ValueError):
-    """No CMap file can express the answers."""
+    """No CMap file can express the map, or the name."""

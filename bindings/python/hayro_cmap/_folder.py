@@ -1,4 +1,4 @@
-"""Files of folders, read when they are asked for."""
+"""Files in folders, read when they are requested."""
 
 import os
 from typing import Callable, Dict, Optional, Union
@@ -11,9 +11,9 @@ Path = Union[str, "os.PathLike[str]"]
 def folder(*paths: Path) -> Callable[[Name], Optional[bytes]]:
     """Gives the files in these folders and their subfolders, each read when it is requested by name.
 
-    A name stands for a file that existed when the folders were listed, and never for one outside of them. Hidden files
-    and subfolders, whose names begin with a dot, are skipped. The first folder that has a name counts, and in a folder
-    the first path. Raises OSError if a folder can't be read.
+    Only files that existed when the folders were listed are found, and no file outside of the folders. Hidden files and
+    subfolders, whose names begin with a dot, are skipped. If several files have a name, the first folder has
+    precedence, and within a folder the first path. Raises OSError if a folder can't be read.
     """
     found: Dict[bytes, bytes] = {}
     for path in paths:
@@ -31,15 +31,15 @@ def folder(*paths: Path) -> Callable[[Name], Optional[bytes]]:
 
 
 def raised(fault):
-    """Raises the fault of a folder that can't be read."""
+    """Raises the OSError of a folder that can't be read."""
     raise fault
 
 
 def files_below(path, failed=raised):
-    """The paths of all files in a folder and its subfolders, but for hidden ones. A link to a folder isn't followed. Of
-    a folder that can't be read `failed` is called with the OSError."""
+    """The paths of all files in a folder and its subfolders, except hidden ones. A link to a folder isn't followed. If
+    a folder can't be read, `failed` is called with the OSError."""
     for below, subfolders, names in os.walk(path, onerror=failed):
-        # the walk goes on to those that are left
+        # os.walk descends into the subfolders that remain
         subfolders[:] = seen(subfolders)
         for name in seen(names):
             file = os.path.join(below, name)

@@ -1,6 +1,6 @@
-"""The CMaps of a font of a PDF file, and how its codes have texts by them (ISO 32000-1, 9.10.2).
+"""The CMaps of a font of a PDF file, and the texts that they give its codes (ISO 32000-1, 9.10.2).
 
-Nothing here reads a PDF file: what a font has comes as names and bytes, of whatever reads them.
+This module reads no PDF file: its callers pass the font's entries as names and bytes.
 """
 
 import bisect
@@ -17,46 +17,46 @@ from ._reading import NO_FILES
 from ._room import Row
 from ._source import IDENTITIES, CMapSource, opened
 
-#: How many faults of a CMap are kept: a small stream may have millions.
+#: The maximum number of faults that are kept of a CMap: a small stream may have millions.
 MOST_FAULTS = 1_000
 
-#: How many files a chain of CMaps may have.
+#: The maximum number of files in a chain of CMaps.
 MOST_IN_CHAIN = 16
 
-#: The registries and orderings whose CIDs have a text, where the system has the map (ISO 32000-1, 9.10.2).
+#: The character collections whose CIDs have texts, if the system has the map (ISO 32000-1, 9.10.2).
 COLLECTIONS = {b"Adobe-GB1", b"Adobe-CNS1", b"Adobe-Japan1", b"Adobe-Korea1", b"Adobe-KR"}
 
-#: How many characters the text of a code may have, and what a longer one is written in, at least.
+#: The maximum number of characters in the text of a code, and a string in which a longer text may be written.
 MOST_OF_TEXT = 1 << 10
 LONG_TEXT = re.compile(rb"<[0-9A-Fa-f\0\t\n\f\r ]{2048}|\([^()<>\[\]]{1024}")
 
-#: A hexadecimal string of five digits, and any one.
+#: A hexadecimal string of five digits, and any hexadecimal string.
 FIVE_DIGITS = re.compile(rb"<[\0\t\n\f\r ]*[0-9A-Fa-f]{5}[\0\t\n\f\r ]*>")
 HEXADECIMAL = re.compile(rb"<([0-9A-Fa-f\0\t\n\f\r ]*)>")
 
-#: A hexadecimal string that isn't closed.
+#: A hexadecimal string without its closing bracket.
 UNCLOSED = re.compile(rb"<[0-9A-Fa-f]+(?=[\0\t\n\f\r ]*(?:[<\[\]]|end))")
 
-#: The last code that four bytes write.
+#: The greatest code of four bytes.
 LAST_CODE = (1 << 32) - 1
 
-#: How many bytes a code has that is a character.
+#: The length in bytes of codes that are characters.
 UNICODE_BYTES = 2
 
 
 class Source(enum.Enum):
-    """Where the text of a code comes from."""
+    """The source of the text of a code."""
 
     TO_UNICODE = "ToUnicode"
-    #: The codes are characters, as a ToUnicode entry without texts says.
+    #: The code is the character, according to a ToUnicode entry without texts.
     UNICODE_CODES = "codes that are Unicode"
     COLLECTION = "collection"
     GLYPH_NAME = "glyph name"
     #: The characters or the glyph names of the embedded program.
     FONT_PROGRAM = "font program"
-    #: The number that a glyph has for a name.
+    #: The glyph name, which is a number.
     GLYPH_NUMBER = "glyph number"
-    #: The text that the file gives for marked content with the code (ISO 32000-1, 14.9.4).
+    #: The replacement text of the marked content in which the code is shown (ISO 32000-1, 14.9.4).
     ACTUAL_TEXT = "ActualText"
     NONE = "none"
 
@@ -67,19 +67,19 @@ class Source(enum.Enum):
 
 
 class Fault(NamedTuple):
-    """Why a CMap of a font is refused."""
+    """The reason why a CMap of a font is refused."""
 
     #: The key of the CMap, "ToUnicode" or "Encoding".
     of: str
-    #: The number of the object of its stream; 0 where it is none.
+    #: The number of the object of its stream; 0 if it isn't a stream.
     number: int
-    #: Where reading stopped, in bytes of the decoded stream, and its line; None where it isn't malformed.
+    #: The place where reading stopped: its offset in the decoded stream and its line; None if the CMap isn't malformed.
     offset: Optional[int]
     line: Optional[int]
-    #: The names of the CMaps by `UseCMap` that lead to the one at fault.
+    #: The names by which `usecmap` leads to the CMap at fault.
     names: Tuple[bytes, ...]
     reason: str
-    #: What the part at fault is read as, past the fault; None where it is lost, or the stream doesn't show it.
+    #: How the part at fault is read past the fault; None if it is lost, or if the stream doesn't determine it.
     read_as: Optional[ReadAs] = None
 
     def __str__(self) -> str:
@@ -92,16 +92,16 @@ class Fault(NamedTuple):
 
 
 class Read(NamedTuple):
-    """What is read of a CMap of a font."""
+    """A CMap of a font after it is read."""
 
-    #: The map, or None where it has faults, or there is no CMap.
+    #: The map; None if the CMap has faults, or there is no CMap.
     strict: Optional[CMap]
-    #: The map of what it says apart from its faults.
+    #: The map that is read past the faults; None if it can't be read.
     lenient: Optional[CMap]
     faults: List[Fault]
-    #: The decoded stream; no bytes for a predefined CMap.
+    #: The decoded stream; empty for a predefined CMap.
     data: bytes = b""
-    #: Whether the map past faults has characters for texts of five digits.
+    #: Whether `lenient` reads strings of five digits as numbers of characters.
     has_five_digits: bool = False
 
 
@@ -109,15 +109,15 @@ NOTHING = Read(None, None, [])
 
 
 class FontMaps:
-    """The CMaps of a font, each read when it is first asked for. A subclass says what the font has."""
+    """The CMaps of a font. Each is read on first use. A subclass provides the font's entries."""
 
-    #: Whether it is a composite font; the codes of a simple one are bytes.
+    #: Whether it is a composite font. The codes of a simple font are bytes.
     is_composite: bool
-    #: What a composite font has for its Encoding; None where that is neither a name nor a stream.
+    #: The entry Encoding of a composite font; None if it is neither a name nor a stream.
     encoding_source: Optional[CMapSource]
-    #: What the font has under ToUnicode, or None.
+    #: The entry ToUnicode, or None.
     to_unicode_source: Optional[CMapSource]
-    #: The character collection of the CIDFont of a composite font, as b"Adobe-Japan1", or None.
+    #: The character collection of the CIDFont of a composite font, such as b"Adobe-Japan1", or None.
     collection_of_cid_font: Optional[bytes]
     #: Whether the CIDToGIDMap of the CIDFont is a stream.
     has_glyph_stream: bool
@@ -129,7 +129,7 @@ class FontMaps:
 
     @functools.cached_property
     def encoding(self) -> Read:
-        """The CMap of a composite font, over those of `UseCMap`; nothing of a simple one."""
+        """The CMap of a composite font, over the CMaps that it uses; `NOTHING` for a simple font."""
         if not self.is_composite:
             return NOTHING
         source = self.encoding_source
@@ -139,22 +139,22 @@ class FontMaps:
 
     @functools.cached_property
     def encoding_layers(self) -> List[Layer]:
-        """What the files of the CMap of a composite font give; nothing of a simple one."""
+        """The layers of the CMap of a composite font; none for a simple font."""
         return [] if self.encoding.lenient is None else self.encoding.lenient.layers
 
     @functools.cached_property
     def to_unicode(self) -> Read:
-        """The ToUnicode CMap; nothing where the font has none."""
+        """The ToUnicode CMap; `NOTHING` if the font has none."""
         source = self.to_unicode_source
-        # a name there stands for no text: writers of PDF give Identity-H
+        # a name gives no texts: PDF writers put Identity-H here
         return NOTHING if source is None or source.name is not None else read(source, "ToUnicode")
 
     @functools.cached_property
     def collection(self) -> Optional[bytes]:
-        """The character collection of a composite font, as b"Adobe-Japan1" (ISO 32000-1, 9.7.3).
+        """The character collection of a composite font, such as b"Adobe-Japan1" (ISO 32000-1, 9.7.3).
 
-        It is that of a predefined CMap. Under Identity-H, Identity-V or a stream it is that of the CIDFont: the codes
-        are CIDs of that font, while the CMap's own collection is Adobe-Identity.
+        A predefined CMap gives its own collection. Under Identity-H, Identity-V or a stream, the CIDFont gives the
+        collection: its glyphs have these CIDs, and the CMap's own collection is mostly Adobe-Identity.
         """
         if not self.is_composite:
             return None
@@ -179,7 +179,7 @@ class FontMaps:
 
     @functools.cached_property
     def texts_of_cids(self) -> Optional[CMap]:
-        """The map of the CIDs of its collection to texts, as Adobe-Japan1-UCS2; None where there is none."""
+        """The collection's map from CIDs to texts, such as Adobe-Japan1-UCS2; None if there is no such map."""
         if self.collection not in COLLECTIONS or self.encoding.lenient is None:
             return None
         try:
@@ -191,8 +191,8 @@ class FontMaps:
     def has_unicode_codes(self) -> bool:
         """Whether the codes of two bytes of a composite font are characters.
 
-        They are if ToUnicode is the name Identity-H or Identity-V, or has CIDs and no texts, and the CMap or the map
-        from CIDs to glyphs is a stream of the file. Without such a stream codes are numbers of glyphs.
+        They are characters if ToUnicode is the name Identity-H or Identity-V, or has CIDs and no texts, and the CMap or
+        the map from CIDs to glyphs is a stream of the file. Without such a stream, codes are numbers of glyphs.
         """
         if not self.is_composite or not (self._is_stream or self.has_glyph_stream):
             return False
@@ -209,17 +209,17 @@ class FontMaps:
         encoding, name = self.encoding.lenient, self._encoding_name
         mode = None if encoding is None else encoding._first_writing_mode()
         if mode is None and name is not None:
-            # a predefined CMap that isn't at hand has its writing mode in its name
+            # the name of a predefined CMap that isn't found ends with its writing mode
             return name.endswith(b"V")
         return mode is WritingMode.VERTICAL
 
     def extractor(self, lenient: bool = False) -> Extractor:
-        """The CMaps of the font, by which strings have texts.
+        """An extractor with the CMaps of the font.
 
-        A ToUnicode CMap with faults gives no text, but with `lenient` what it says apart from them. Where a composite
-        font has no CMap that can be had, strings are cut by the codespace ranges of the ToUnicode CMap, and without
-        these into codes of two bytes. Its `encode` goes by the map from Unicode to the collection, where the system has
-        that.
+        A ToUnicode CMap with faults gives no texts; with `lenient`, it is read past its faults. If a composite font has
+        no readable CMap, strings are split into codes by the codespace ranges of the ToUnicode CMap, and without such
+        ranges into codes of two bytes. `encode` of the extractor uses the map from Unicode to the collection, if the
+        system has that map.
         """
         to_unicode = self.to_unicode.lenient if lenient else self.to_unicode.strict
         extractor = Extractor(self._cutting, to_unicode=to_unicode, collection=self.texts_of_cids, files=NO_FILES)
@@ -229,7 +229,7 @@ class FontMaps:
 
     @functools.cached_property
     def _cutting(self) -> Optional[CMap]:
-        """The map that cuts strings into codes and gives these CIDs; None of a simple font."""
+        """The map that splits strings into codes and gives the codes CIDs; None for a simple font."""
         if not self.is_composite or self.encoding.lenient is not None:
             return self.encoding.lenient
         left = self.to_unicode.lenient
@@ -237,7 +237,7 @@ class FontMaps:
         return left if has_ranges else CMap.identity()
 
     def _kept_extractor(self, lenient: bool) -> Extractor:
-        """The extractor of its CMaps alone, made once: most codes have a text without the map of the collection."""
+        """An extractor without the collection's map, made once: most codes have a text without that map."""
         if lenient not in self._extractors:
             to_unicode = self.to_unicode.lenient if lenient else self.to_unicode.strict
             self._extractors[lenient] = Extractor(self._cutting, to_unicode=to_unicode, files=NO_FILES)
@@ -245,11 +245,11 @@ class FontMaps:
 
     @property
     def code_length(self) -> Optional[int]:
-        """How many bytes each code has; None where codes have several lengths."""
+        """The length of each code in bytes; None if codes have several lengths."""
         return 1 if not self.is_composite else self._kept_extractor(True)._code_length
 
     def text_by_maps(self, row: Row, lenient: bool = True) -> Tuple[Optional[str], Source]:
-        """The text that the CMaps give a code, to which ToUnicode gives the one of this row, and its source."""
+        """The text that the CMaps give a code, and its source. The row has the text from the ToUnicode CMap."""
         code, byte_len, cid, text = row
         if text is not None:
             return text, Source.TO_UNICODE
@@ -262,13 +262,13 @@ class FontMaps:
         return text, Source.NONE if text is None else Source.COLLECTION
 
     def _has_empty_text(self, code: int) -> bool:
-        """Whether the ToUnicode CMap declares the empty text for a code of which it has no other text."""
+        """Whether the ToUnicode CMap declares the empty text for a code."""
         index = bisect.bisect_right(self._empty_texts, (code, LAST_CODE)) - 1
         return index >= 0 and code <= self._empty_texts[index][1]
 
     @functools.cached_property
     def _empty_texts(self) -> List[Tuple[int, int]]:
-        """The codes for which the ToUnicode CMap declares the empty text, which is a fault, in rows that lie apart."""
+        """The codes for which the ToUnicode CMap declares the empty text, which is a fault, as disjoint ranges."""
         read, found = self.to_unicode, []
         layers = read.lenient.layers if read.faults and read.lenient is not None else []
         for first, last in sorted((it.first, it.last) for layer in layers for it in layer.texts if not it.text):
@@ -280,7 +280,7 @@ class FontMaps:
 
 
 class GivenMaps(FontMaps):
-    """The CMaps of a font of which this is known. It can be pickled."""
+    """The CMaps of a font with the given entries. The object can be pickled."""
 
     def __init__(
         self,
@@ -306,25 +306,26 @@ class GivenMaps(FontMaps):
 
     @property
     def is_identity(self) -> bool:
-        """Whether the encoding is Identity-H or Identity-V, by which codes are CIDs."""
+        """Whether the encoding is Identity-H or Identity-V: codes are CIDs."""
         return self._encoding_name in IDENTITIES
 
     @property
     def has_to_unicode(self) -> bool:
-        """Whether there is a stream under ToUnicode."""
+        """Whether the entry ToUnicode is a stream."""
         return self.to_unicode_source is not None and self.to_unicode_source.name is None
 
     def codes(self, string: bytes) -> Iterator[Tuple[Code, Optional[str]]]:
-        """The whole codes of a string, each with the text that the ToUnicode CMap gives it, past its faults."""
+        """The whole codes of a string, each with its text in the ToUnicode CMap, which is read past its faults."""
         return (it for it in self._kept_extractor(True).characters(string) if not it[0].cut_short)
 
     def text_of_cid(self, cid: int) -> Optional[str]:
-        """The text of a CID in the map of the collection."""
+        """The text of a CID in the collection's map."""
         return None if self.texts_of_cids is None else self.texts_of_cids.text(cid)
 
     @functools.cached_property
     def texts(self) -> Dict[int, str]:
-        """The texts that the ToUnicode CMap gives codes of one byte, or of two, past its faults."""
+        """The texts that the ToUnicode CMap, read past its faults, gives codes: one byte in a simple font, otherwise
+        two."""
         last, to_unicode = 0xFFFF if self.is_composite else 0xFF, self.to_unicode.lenient
         found = {} if to_unicode is None else to_unicode.texts_by_code(last)
         for first, end in self._empty_texts:
@@ -334,17 +335,17 @@ class GivenMaps(FontMaps):
 
 
 def is_character(code: int) -> bool:
-    """Whether a code of two bytes is a character: it is neither 0 nor a surrogate."""
+    """Whether a code of two bytes can be a character: it is neither 0 nor a surrogate."""
     return code != 0 and not 0xD800 <= code <= 0xDFFF
 
 
 def read(source: CMapSource, of: str) -> Read:
-    """What is read of a CMap under this key of a font."""
+    """Reads the CMap at a key of a font."""
     return read_name(source.name, of) if source.name is not None else read_stream(source, of)
 
 
 def read_name(name: bytes, of: str) -> Read:
-    """What is read of a predefined CMap."""
+    """Reads a predefined CMap."""
     try:
         cmap = opened(name)
     except Refused as fault:
@@ -353,10 +354,10 @@ def read_name(name: bytes, of: str) -> Read:
 
 
 def read_stream(source: CMapSource, of: str) -> Read:
-    """What is read of a CMap in a stream, over the one that it is based on (ISO 32000-1, 9.7.5.3)."""
+    """Reads a CMap in a stream, with its base (ISO 32000-1, 9.7.5.3)."""
     number, data = source.number, source.data
     if data is None:
-        return Read(None, None, [Fault(of, number, None, None, (), source.unreadable or "it is no stream")])
+        return Read(None, None, [Fault(of, number, None, None, (), source.unreadable or "it isn't a stream")])
     below = NOTHING if source.base is None else read(source.base, of)
     try:
         cmap, refusals = CMap.salvage(data, source.files, base=below.lenient, most_faults=MOST_FAULTS + 1)
@@ -369,7 +370,7 @@ def read_stream(source: CMapSource, of: str) -> Read:
         if read_as != data:
             past_faults, _ = CMap.salvage(read_as, source.files, base=below.lenient, most_faults=0)
     except NotWritable as fault:
-        return Read(None, None, [Fault(of, number, None, None, (), f"what it is based on can't be used: {fault}")])
+        return Read(None, None, [Fault(of, number, None, None, (), f"its base can't be used: {fault}")])
     lines = Lines(data)
     faults = [fault_of(it, of, number, data, lines) for it in itertools.islice(refusals, MOST_FAULTS)]
     if len(refusals) > MOST_FAULTS:
@@ -379,16 +380,18 @@ def read_stream(source: CMapSource, of: str) -> Read:
 
 
 def has_long_texts(cmap: CMap, data: bytes) -> bool:
-    """Whether a code has a text that is too long: a range of few bytes gives it to many codes."""
+    """Whether the text of a code is too long: a range of few bytes may give it to many codes."""
     if len(data) <= MOST_OF_TEXT or not LONG_TEXT.search(data):
         return False
     return any(len(row.start) >= MOST_OF_TEXT for row in cmap._text_rows())
 
 
 def with_whole_characters(data: bytes) -> bytes:
-    """The same CMap with each text of five digits in UTF-16, if no other string has an odd number of digits.
+    """The CMap with each string of five digits replaced by its character in UTF-16, if all other strings have an even
+    number of digits.
 
-    Some producers write the number of a character past U+FFFF so, as `<20BB7>`, which is the bytes 20 BB 70.
+    Some producers write the number of a character above U+FFFF in this way, such as `<20BB7>`, which stands for the
+    bytes 20 BB 70.
     """
     if FIVE_DIGITS.search(data) is None:
         return data
@@ -399,8 +402,8 @@ def with_whole_characters(data: bytes) -> bytes:
 
 
 def with_closed_strings(data: bytes) -> bytes:
-    """The same CMap with a bracket after each hexadecimal string that has none, where another one, an array or the end
-    of a section follows its digits."""
+    """The CMap with the closing bracket added to each hexadecimal string that lacks it before another string, a bracket
+    of an array, or the end of a section."""
     return UNCLOSED.sub(rb"\g<0>>", data)
 
 
@@ -410,19 +413,19 @@ def digits_of(written: bytes) -> bytes:
 
 
 def in_utf_16(digits: bytes) -> Optional[bytes]:
-    """The hexadecimal string of the character whose number is written with five digits; None of other numbers."""
+    """The hexadecimal string in UTF-16 of the character with a number of five digits; None for other numbers."""
     return b"<%b>" % chr(int(digits, 16)).encode("utf-16-be").hex().encode() if len(digits) == 5 else None
 
 
 def fault_of(refused: Refused, of: str, number: int, data: bytes, lines: Lines) -> Fault:
-    """Why a CMap of these bytes and lines is refused, or what it is read past."""
+    """The fault for an exception about a CMap with these bytes and lines."""
     line = None if refused.names else lines.line(refused.offset)
     read_as = None if refused.names else refused.read_as(data)
     return Fault(of, number, refused.offset, line, refused.names, refused.words, read_as)
 
 
 def unicode_or_none(encoding: CMap, collection: Optional[bytes]) -> Optional[CMap]:
-    """The map from Unicode to the CIDs of the collection of a font; None where there is none."""
+    """The map from Unicode to the CIDs of a font's collection; None if there is no such map."""
     try:
         return encoding.unicode(name=collection)
     except Refused:

@@ -1,4 +1,4 @@
-"""A font of a PDF file that another library reads: its CMaps, its glyphs, and the texts of its codes by both."""
+"""A font of a PDF file that another library reads: its CMaps, its glyphs, and the texts that both give its codes."""
 
 import functools
 import zlib
@@ -19,46 +19,45 @@ from ._glyphs import (
 from ._programs import GlyphsOfCids, Program
 from ._room import Row
 
-#: How many bytes the stream of a font program may have, and how many times longer than its raw bytes one is taken to be
-#: that the library decodes.
+#: The maximum number of bytes of a font program, and the assumed ratio of decoded to raw bytes if the library decodes.
 MOST_OF_PROGRAM = 1 << 26
 MOST_TIMES = 16
 
 
 class Objects:
-    """The objects of PDF files, as a library has them. A call may raise what the library raises."""
+    """Access to the objects of PDF files in another library. A call may raise the library's exceptions."""
 
     def object(self, value: Any) -> Any:
-        """The object itself, where a value only refers to it."""
+        """The object to which a reference leads, or the value itself."""
         raise NotImplementedError
 
     def at(self, holder: Any, key: str) -> Any:
-        """What a dictionary or a stream has at a key; None where it has nothing, or is neither."""
+        """The value at a key of a dictionary or a stream; None if there is no value, or the holder is neither."""
         raise NotImplementedError
 
     def name(self, value: Any) -> Optional[str]:
-        """A name; None of any other object."""
+        """The text of a name; None for any other object."""
         raise NotImplementedError
 
     def decoded(self, value: Any) -> Optional[bytes]:
-        """The bytes of a stream, none where there are too many; None of any other object."""
+        """The bytes of a stream, empty if there are too many; None for any other object."""
         raise NotImplementedError
 
 
 def bounded(raw: bytes, is_deflated: bool, decode: Callable[[], bytes]) -> bytes:
-    """What `decode` gives of the raw bytes of a stream; no bytes where there are more than a limit."""
+    """The decoded bytes of a stream with these raw bytes; empty if they exceed a limit."""
     if is_deflated:
         try:
             data = zlib.decompressobj().decompress(raw, MOST_OF_PROGRAM + 1)
             return data if len(data) <= MOST_OF_PROGRAM else b""
         except zlib.error:
-            pass  # the library may know more
+            pass  # the library may be able to decode them
     return decode() if len(raw) <= MOST_OF_PROGRAM // MOST_TIMES else b""
 
 
 class GivenGlyphs(FontGlyphs):
-    """The glyphs of a font whose objects a library reads, when they are first asked for. What can't be read is left
-    out: a library has no one exception for it."""
+    """The glyphs of a font whose objects another library reads, on first use. Unreadable parts are left out, whatever
+    exception the library raises."""
 
     def __init__(self, is_composite: bool, font: Callable[[], Any], objects: Objects, budget: Callable[[], Budget]):
         self.is_composite = is_composite
@@ -74,7 +73,7 @@ class GivenGlyphs(FontGlyphs):
         return KeptGlyphs, (self.is_composite, self._texts())
 
     def _texts(self) -> Dict[int, Found]:
-        """The texts of all codes, or of a composite font of all CIDs."""
+        """The texts of all codes of a simple font, or of all CIDs of a composite font."""
         try:
             cids = self.glyphs_of_cids.cids() if self.is_composite and self.glyphs_of_cids is not None else ()
         except Exception:
@@ -84,7 +83,7 @@ class GivenGlyphs(FontGlyphs):
         return {number: it for number, it in found if it[0] is not None}
 
     def _at(self, *keys: str) -> Any:
-        """What the font has at a key, or further down at more of them."""
+        """The value in the font at a path of keys."""
         return functools.reduce(self._objects.at, keys, self._font())
 
     @functools.cached_property
@@ -97,7 +96,7 @@ class GivenGlyphs(FontGlyphs):
 
     @functools.cached_property
     def _encoding_name(self) -> Optional[str]:
-        """The name of the encoding, or of the one that Differences is over."""
+        """The name of the encoding, or of the base encoding of Differences."""
         return self._objects.name(self._at("Encoding")) or self._objects.name(self._at("Encoding", "BaseEncoding"))
 
     @functools.cached_property
@@ -125,12 +124,12 @@ class GivenGlyphs(FontGlyphs):
         return names_of_codes(self._encoding_name, self.differences, self._built_in)
 
     def _built_in(self) -> Names:
-        """The encoding that the font has of itself."""
+        """The font's built-in encoding."""
         has_own_glyphs = self.is_symbolic or self.subtype == "Type3"
         return built_in_names(self._names_of_program(), self.base_font or "", has_own_glyphs)
 
     def _names_of_program(self) -> Optional[Names]:
-        """The encoding of its Type 1 or CFF program."""
+        """The glyph names in the encoding of its Type 1 or CFF program."""
         try:
             type1 = self._decoded("FontDescriptor", "FontFile")
             if type1 is not None:
@@ -149,7 +148,7 @@ class GivenGlyphs(FontGlyphs):
         return Program(other or b"", is_cff=True, budget=self._budget())
 
     def _decoded(self, *keys: str) -> Optional[bytes]:
-        """The bytes of a stream, none where it can't be decoded; None where there is none."""
+        """The bytes of a stream, empty if it can't be decoded; None if there is no stream."""
         try:
             return self._objects.decoded(self._at(*keys))
         except Exception:
@@ -161,7 +160,7 @@ class GivenGlyphs(FontGlyphs):
 
 
 class KeptGlyphs:
-    """The texts that a font has by its glyphs, of its codes, or of a composite font of its CIDs."""
+    """The texts that the glyphs give the codes of a simple font, or the CIDs of a composite font."""
 
     def __init__(self, is_composite: bool, texts: Dict[int, Found]):
         self._given = self._is_composite, self._texts = is_composite, texts
@@ -175,7 +174,7 @@ class KeptGlyphs:
 
 
 class GivenFont:
-    """The CMaps and the glyphs of a font. It can be pickled: then the texts of its glyphs are found."""
+    """The CMaps and the glyphs of a font. It can be pickled; pickling looks up the texts of all glyphs."""
 
     def __init__(self, maps: GivenMaps, glyphs: Union[GivenGlyphs, KeptGlyphs]):
         self.maps, self._glyphs = maps, glyphs
@@ -184,16 +183,16 @@ class GivenFont:
         return type(self), (self.maps, self._glyphs)
 
     def text(self, code: int, byte_len: int, cid: Optional[int]) -> Optional[str]:
-        """The text of a code with this CID, past the faults of the CMaps."""
+        """The text of a code with this CID. CMaps are read past their faults."""
         to_unicode = self.maps.to_unicode.lenient
         own = None if to_unicode is None else to_unicode.text(code)
         return self.text_of((code, byte_len, cid, own))
 
     def text_of(self, row: Row) -> Optional[str]:
-        """The text of a code, to which the ToUnicode CMap gives the one of this row."""
+        """The text of a code. The row has the text from the ToUnicode CMap."""
         return text_and_source(self.maps, self._glyphs, row)[0]
 
     def text_of_glyph(self, cid: int) -> Optional[str]:
-        """The text of a CID of which no code is known: that of the collection, or of its glyph."""
+        """The text of a CID without a known code, from the collection's map or from its glyph."""
         text = self.maps.text_of_cid(cid)
         return self._glyphs.text_by_glyph(0, cid)[0] if text is None else text

@@ -1,7 +1,8 @@
-"""The texts of simple fonts by the names of their glyphs (ISO 32000-1, 9.6.6 and 9.10.2).
+"""The texts that glyph names give the codes of simple fonts (ISO 32000-1, 9.6.6 and 9.10.2).
 
-The names come of the encoding of the font, or of the font program. Their texts are those of the Adobe Glyph List, which
-fontTools has. Names that are numbers have no texts there; what they may stand for is a guess.
+The names come from the encoding of the font, or from the font program. The texts come from the Adobe Glyph List, which
+is part of fontTools, and from a list of names of TeX. Names that are numbers aren't in these lists; their texts are
+guesses.
 """
 
 import functools
@@ -13,10 +14,10 @@ from typing import Any, Callable, Dict, Iterable, List, Optional, Tuple, Union
 from ._encodings import BY_NAME, EXPERT, STANDARD, SYMBOL, ZAPF_DINGBATS
 from ._sfnt import Sfnt
 
-#: Whether names of glyphs have texts: whether fontTools is there.
+#: Whether fontTools is installed: without it, glyph names have no texts.
 HAS_GLYPH_LIST = importlib.util.find_spec("fontTools") is not None
 
-#: Names of glyphs in the mathematical fonts of TeX, which no list of Adobe's has, with their texts.
+#: Glyph names in the mathematical fonts of TeX that aren't in the Adobe Glyph List, with their texts.
 TEX = {
     "angbracketleft": "\u27e8",
     "angbracketright": "\u27e9",
@@ -48,39 +49,40 @@ TEX = {
     "visiblespace": "\u2423",
 }
 
-#: What ends the names of larger forms of their brackets.
+#: The endings of the names of larger forms in TeX, such as bracketleftbig.
 LARGER = re.compile("(big|Big|bigg|Bigg)$")
 
-#: The names of the glyphs of the codes 0 to 255, or None.
+#: The glyph names of the codes 0 to 255; None for a code without a glyph name.
 Names = List[Optional[str]]
 
-#: The flag of a font descriptor that says that a font has other glyphs than those of Latin text.
+#: The flag of a font descriptor for glyphs outside the standard Latin character set.
 SYMBOLIC = 1 << 2
 
-#: An entry of the encoding of a Type 1 font program, as in `dup 65 /A put`; a number may have a base, as 8#101.
+#: An entry of the encoding of a Type 1 font program, such as `dup 65 /A put`. A number may have a base, such as 8#101.
 ENTRY = re.compile(rb"dup\s+(?:(\d+)#)?(\w+)\s*/([^\s/\[\](){}<>%]+)\s+put\b")
 ENCODING = re.compile(rb"/Encoding\s+(StandardEncoding\b|.*?(?:\breadonly|\bdef)\b)", re.DOTALL)
 
-#: The encodings of Adobe that the first places stand for where an encoding of a CFF font program may stand.
+#: The predefined encodings of CFF font programs: a smaller offset of the encoding is an index of this list.
 OF_CFF = (STANDARD, EXPERT)
 
-#: A component of a name that is the number of a character, in letters of any case.
+#: A component of a name with the number of a character in hexadecimal digits of either case.
 BY_NUMBER = re.compile("(?<![^_])(uni|u)([0-9A-Fa-f]{4,})(?![^._])")
 
-#: Names that are a number after letters, as a65 and cid_65, and two hexadecimal digits after a letter, as G4E.
+#: Names with a decimal number after letters, such as a65 and cid_65, or with two hexadecimal digits after a letter,
+#: such as G4E.
 DECIMAL = re.compile("(cid_|[A-Za-z]{0,2})([0-9]{1,5})")
 HEXADECIMAL = re.compile("([A-Za-z])([0-9A-Fa-f]{2})")
 
-#: The characters of Latin-1 that are printed.
+#: The printable characters of Latin-1.
 PRINTED = frozenset([*range(0x20, 0x7F), *range(0xA0, 0x100)])
 
-#: The longest encoding of a Type 1 font program that is read.
+#: How many bytes of a Type 1 font program are searched for its encoding.
 MOST_OF_ENCODING = 1 << 16
 
 
 def names_of_codes(encoding: Optional[str], differences: Dict[int, str], built_in: Callable[[], Names]) -> Names:
-    """The names of the glyphs of a simple font: those of Differences over the encoding of a name, or over the one that
-    the font has of itself (ISO 32000-1, 9.6.6)."""
+    """The glyph names of a simple font: its Differences replace names of the encoding with this name, or of the
+    built-in encoding (ISO 32000-1, 9.6.6)."""
     names = list(BY_NAME.get(encoding or "") or built_in())
     for code, name in differences.items():
         names[code] = name
@@ -88,8 +90,8 @@ def names_of_codes(encoding: Optional[str], differences: Dict[int, str], built_i
 
 
 def names_of_differences(entries: Iterable[Union[int, str, None]]) -> Dict[int, str]:
-    """The names of the glyphs of codes in an array Differences (ISO 32000-1, 9.6.6.1), whose entries are the numbers of
-    codes, names, or None for anything else."""
+    """The glyph names of codes in an array Differences (ISO 32000-1, 9.6.6.1). An entry is a code, a name, or None for
+    any other object."""
     found: Dict[int, str] = {}
     code = 0
     for it in entries:
@@ -103,8 +105,8 @@ def names_of_differences(entries: Iterable[Union[int, str, None]]) -> Dict[int, 
 
 
 def built_in_names(of_program: Optional[Names], base_font: str, has_own_glyphs: bool) -> Names:
-    """The encoding that a font has of itself: that of its program, or of the standard font of its name. A symbolic font
-    and a Type 3 font have glyphs of their own."""
+    """The built-in encoding of a font, from its program, or from the standard font with its name. A symbolic font and a
+    Type 3 font have their own glyphs."""
     base = base_font.rpartition("+")[2]
     if of_program is not None:
         return of_program
@@ -116,15 +118,14 @@ def built_in_names(of_program: Optional[Names], base_font: str, has_own_glyphs: 
 
 
 def of_font_file(kind: Optional[str], decoded: Callable[[], bytes]) -> Optional[Names]:
-    """The encoding of a program that isn't Type 1 or TrueType, in a stream of this Subtype, or None where there is none
-    that is known."""
+    """The encoding of a program in a stream FontFile3 with this Subtype; None if no encoding is found."""
     if kind == "Type1C":
         return of_cff(decoded())
     return of_cff(Sfnt(decoded()).table(b"CFF ")) if kind == "OpenType" else None
 
 
 def of_type1(program: bytes) -> Optional[Names]:
-    """The encoding of a Type 1 font program, which stands before its encrypted part (Adobe Type 1 Font Format, 2.2)."""
+    """The encoding in the clear part of a Type 1 font program (Adobe Type 1 Font Format, 2.2)."""
     clear = program.partition(b"eexec")[0][:MOST_OF_ENCODING]
     found = ENCODING.search(clear)
     if found is None:
@@ -140,7 +141,7 @@ def of_type1(program: bytes) -> Optional[Names]:
 
 
 def cff_font(program: bytes) -> Any:
-    """The font of a CFF font program, as fontTools reads it; None without fontTools, or where it is malformed."""
+    """The font of a CFF font program, read by fontTools; None without fontTools, or if the program is malformed."""
     try:
         from fontTools import cffLib
     except ImportError:
@@ -149,7 +150,7 @@ def cff_font(program: bytes) -> Any:
     try:
         fonts.decompile(io.BytesIO(program), None)
         return fonts[0] if fonts[0].charset else None
-    except Exception:  # fontTools has no exception of its own for a program that is malformed
+    except Exception:  # fontTools raises many kinds of exceptions for malformed programs
         return None
 
 
@@ -172,7 +173,8 @@ def of_cff(program: bytes) -> Optional[Names]:
 
 
 def codes_of_cff(data: bytes) -> Tuple[List[int], List[Tuple[int, int]]]:
-    """The codes of the glyphs of an encoding, from glyph 1 on, and the codes of further names by their numbers."""
+    """The codes of the glyphs of an encoding, from glyph 1 on, and pairs of a code and a string number for more
+    names."""
     kind, count, place = data[0], data[1], 2
     if kind & 0x7F == 0:
         codes = list(data[place : place + count])
@@ -187,7 +189,7 @@ def codes_of_cff(data: bytes) -> Tuple[List[int], List[Tuple[int, int]]]:
 
 @functools.lru_cache(maxsize=None)
 def glyph_list() -> Any:
-    """The Adobe Glyph List of fontTools, which takes time to load, or None."""
+    """The Adobe Glyph List of fontTools, loaded on first use because loading takes time; None without fontTools."""
     try:
         from fontTools import agl
     except ImportError:
@@ -197,9 +199,9 @@ def glyph_list() -> Any:
 
 @functools.lru_cache(maxsize=1 << 16)
 def text_of_glyph(name: str, is_dingbat: bool = False) -> Optional[str]:
-    """The text of the name of a glyph, by the Adobe Glyph List and the rules that go with it, or None.
+    """The text of a glyph name, by the Adobe Glyph List, its rules, and the names of TeX; otherwise None.
 
-    The digits of `uni20AC` and `u1040C` may also be small letters.
+    The hexadecimal digits of names such as `uni20AC` and `u1040C` may also be small letters.
     """
     agl = glyph_list()
     if agl is None:
@@ -210,17 +212,18 @@ def text_of_glyph(name: str, is_dingbat: bool = False) -> Optional[str]:
 
 
 def texts_of_names(names: Names, base_font: str) -> List[Optional[str]]:
-    """The texts of the names of glyphs in a font of this name."""
+    """The texts of glyph names in a font with this name."""
     is_dingbat = "Dingbats" in base_font
     return [None if name is None else text_of_glyph(name, is_dingbat) for name in names]
 
 
 def guessed_texts(names: Dict[int, str]) -> Dict[int, str]:
-    """The texts of codes whose glyphs have numbers for names, if each number is that of a character of Latin-1.
+    """The texts of codes whose glyph names are numbers, which are read as numbers of characters in Latin-1.
 
-    All names have to be of one form: a decimal number, or two hexadecimal digits, after the same letters. Of two forms
-    that fit it is the one by which more numbers are their codes, or else the decimal one. All numbers have to be those
-    of characters that are printed; but where each one is its code, as in bitmap fonts of TeX, others have no text.
+    All names must have one form: a decimal number, or two hexadecimal digits, after the same letters. If both forms
+    fit, the form with more numbers that equal their codes is taken, and the decimal form if the counts are equal. All
+    numbers must be printable characters, unless each number equals its code, as in bitmap fonts of TeX: then the other
+    numbers have no text.
     """
     given = {code: name for code, name in names.items() if name != ".notdef"}
     if any(map(text_of_glyph, given.values())):
@@ -231,7 +234,8 @@ def guessed_texts(names: Dict[int, str]) -> Dict[int, str]:
 
 
 def numbers_of(names: Dict[int, str], form: "re.Pattern[str]", base: int) -> Dict[int, int]:
-    """The numbers that the names of glyphs of codes are in one form; none where one of them isn't of it."""
+    """The numbers in the glyph names of codes, read in one form; none if a name has another form, or a number isn't
+    printable."""
     found = {code: form.fullmatch(name) for code, name in names.items()}
     if len({it and it[1] for it in found.values()}) != 1 or None in found.values():
         return {}

@@ -1,4 +1,4 @@
-"""The C library: where it is found, and the types of its calls."""
+"""The C library: its location, and the types of its calls."""
 
 import ctypes
 import os
@@ -20,8 +20,8 @@ from ctypes import (
 )
 from pathlib import Path
 
-#: The name of the library in a system, with the first number of the project's version; and that of the file in the
-#: package's folder, where a wheel brings the library.
+#: The name of the system's library, which has the major version except on Windows; and the name of the file that a
+#: wheel installs in the package's folder.
 SONAME, IN_PACKAGE = {
     "win32": ("hayro_cmap.dll", "hayro_cmap.dll"),
     "darwin": ("libhayro_cmap.1.dylib", "libhayro_cmap.dylib"),
@@ -235,7 +235,7 @@ CALLS = {
 
 
 def places():
-    """The paths at which the library is looked for, in this order."""
+    """The paths at which the library is looked up, in this order."""
     asked = os.environ.get("HAYRO_CMAP_LIBRARY")
     if asked:
         return [asked]
@@ -247,21 +247,22 @@ def places():
 
 
 def load():
-    """The library, with the types of its calls. ImportError where there is none, or one that lacks a call."""
+    """Loads the library and sets the types of its calls. Raises ImportError if no library is found that has all
+    calls."""
     faults = []
     for path in places():
         try:
             return typed(ctypes.CDLL(path))
         except (OSError, AttributeError) as fault:
             faults.append(str(fault))
-    # the declarations above may be loaded without the package
+    # imported here, so that this file can also be loaded without the package
     from ._run import missing
 
     raise missing("the C library of hayro_cmap isn't found: " + "; ".join(faults))
 
 
 def typed(library):
-    """The library, with the types of its calls."""
+    """The library, after the types of its calls are set."""
     for name, (result, parameters) in CALLS.items():
         call = getattr(library, name)
         call.restype, call.argtypes = result, parameters

@@ -1,4 +1,4 @@
-"""What looks wrong in a file that has a map."""
+"""Warnings about an accepted file."""
 
 import functools
 from ctypes import c_uint32
@@ -10,21 +10,21 @@ from ._values import code_number
 
 
 class Finding(NamedTuple):
-    """A warning about a file, with what it concerns."""
+    """A warning about a file, with the parts that it concerns."""
 
     #: The name of the warning, as `cmap check --lint` reports it.
     warning: str
-    #: How many codes, declarations, sections or strings it concerns; 1 where it concerns the file.
+    #: The number of codes, declarations, sections or strings that it concerns; 1 if it concerns the file.
     count: int
-    #: The first code, or the first one of the first declaration; None for a warning about something else.
+    #: The first code, or the first code of the first declaration; None for a warning about something else.
     first: Optional[int] = None
-    #: The same code, or the last one of the first declaration.
+    #: The same code, or the last code of the first declaration.
     last: Optional[int] = None
-    #: How many bytes these codes have.
+    #: The length of these codes in bytes.
     byte_len: Optional[int] = None
     #: The offset of the first section or string, in bytes; None for a warning about something else.
     offset: Optional[int] = None
-    #: How many of the shown codes it concerns, and the lowest of them.
+    #: The number of shown codes that it concerns, and the lowest of them.
     shown: int = 0
     first_shown: Optional[int] = None
 
@@ -51,6 +51,7 @@ def warning_name(warning: int) -> str:
 
 
 def shown_codes(codes: Iterable[int]):
-    """The numbers of codes as an array, in ascending order, each once; one item more, so that it is never empty."""
+    """The numbers of codes as an array, in ascending order, without duplicates. An extra item keeps it from being
+    empty."""
     ordered = sorted({code_number(code) for code in codes})
     return (c_uint32 * (len(ordered) + 1))(*ordered), len(ordered)

@@ -1,4 +1,4 @@
-"""Maps of codes."""
+"""The map of a CMap file."""
 
 import enum
 import functools
@@ -54,19 +54,19 @@ from ._values import (
     number,
 )
 
-#: A hayro_cmap_code: its fields have no gaps between them.
+#: A hayro_cmap_code. It has no padding.
 CODE = struct.Struct("=IIBBBB")
 
 #: A hayro_cmap_text_range.
 DECLARED = struct.Struct("@IIN")
 
-#: How many codes are kept: strings repeat them, and to make one takes longer than to find it.
+#: The number of codes in a cache: strings repeat codes, and a look-up takes less time than a new object.
 KEPT_CODES = 4096
 
-#: The greatest code whose text is given with those of all others, where nothing else is asked for.
+#: The default of the greatest code in `CMap.texts_by_code`.
 MOST_BY_CODE = 0xFFFF
 
-#: How many bytes the text of a map is written to at first.
+#: The initial size of the buffer of a written file, in bytes.
 TEXT_ROOM = 65536
 
 
@@ -80,9 +80,9 @@ class WritingMode(enum.IntEnum):
 class Code(NamedTuple):
     """A code of a string."""
 
-    #: The number of its bytes, big-endian.
+    #: Its bytes as a big-endian number.
     code: int
-    #: How many bytes it has, 1 to 4.
+    #: Its length in bytes, 1 to 4.
     byte_len: int
     #: Its CID, or None. Codespace ranges are ignored.
     cid: Optional[int]
@@ -96,7 +96,8 @@ class Code(NamedTuple):
 
 
 class Codespace(NamedTuple):
-    """A codespace range: codes of `byte_len` bytes, each byte between the bytes of `low` and `high` at its place."""
+    """A codespace range: codes of `byte_len` bytes. Each byte lies between the bytes of `low` and `high` at its
+    place."""
 
     low: int
     high: int
@@ -104,7 +105,7 @@ class Codespace(NamedTuple):
 
 
 class Metadata(NamedTuple):
-    """The metadata of a file; None for what it doesn't give."""
+    """The metadata of a file. A missing entry is None."""
 
     #: The CMapName.
     name: Optional[bytes]
@@ -118,22 +119,23 @@ class Metadata(NamedTuple):
 
 
 class CidRange(NamedTuple):
-    """A declaration of CIDs for codes of `byte_len` bytes, from `first` to `last`; for none if `first` is greater."""
+    """A declaration of CIDs for the codes of `byte_len` bytes from `first` to `last`. It is empty if `first` is greater
+    than `last`."""
 
     first: int
     last: int
-    #: The CID of `first`. It counts on from code to code; all codes of a notdef have the same one.
+    #: The CID of `first`. It counts on from code to code. All codes of a notdef have the same CID.
     cid: int
     byte_len: int
 
 
 class TextRange(NamedTuple):
-    """A declaration of texts for the codes from `first` to `last`; for none if `first` is greater."""
+    """A declaration of texts for the codes from `first` to `last`. It is empty if `first` is greater than `last`."""
 
     first: int
     last: int
-    #: The text of `first` as the file has it, so that a surrogate may stand alone. Its last unit of UTF-16 counts on
-    #: from code to code.
+    #: The text of `first`, as the file has it: a surrogate may stand alone. Its last unit of UTF-16 counts on from code
+    #: to code.
     text: str
 
 
@@ -145,7 +147,7 @@ class CodeRange(NamedTuple):
 
 
 class Layer:
-    """What one file of a map declares. Its declarations are read when they are first used, while the map is open."""
+    """The declarations of one file of a map. They are read on first use, while the map is open."""
 
     def __init__(self, cmap: "CMap", index: int):
         self._cmap, self._index = cmap, index
@@ -159,7 +161,8 @@ class Layer:
 
     @functools.cached_property
     def cids(self) -> Tuple[CidRange, ...]:
-        """Its declarations of CIDs: first for codes of one byte, then of two, and so on, in the order of the file."""
+        """Its declarations of CIDs: first for codes of one byte, then of two, and so on, each in the order of the
+        file."""
         return self._cid_ranges(library.hayro_cmap_cid_ranges)
 
     @functools.cached_property
@@ -175,7 +178,7 @@ class Layer:
         return tuple(TextRange(it.first, it.last, text) for it, text in zip(declared, texts))
 
     def _declared_texts(self):
-        """Its declarations of texts, without these."""
+        """Its declarations of texts, with the lengths of the texts only."""
         return self._cmap._listed(library.hayro_cmap_text_ranges, DeclaredTexts, self._index)
 
     def _cid_ranges(self, call):
@@ -186,7 +189,7 @@ class Layer:
         )
 
     def _texts_of(self, count, most):
-        """The texts of so many declarations, each of at most `most` units."""
+        """The texts of the first `count` declarations, each of at most `most` units."""
         room, needed, texts = (c_uint16 * (most + 1))(), c_size_t(), []
         with self._cmap._held() as handle:
             for index in range(count):
@@ -196,10 +199,11 @@ class Layer:
 
 
 class CMap(Owned):
-    """The map of a CMap file and the files that it uses. `close`, the end of `with`, or of the last reference frees it.
+    """The map of a CMap file and the files that it uses. It is freed by `close`, at the end of `with`, or with the last
+    reference.
 
-    Several threads may use one map, one at a time. With `share` each thread has a map of its own, so that they look up
-    at the same time. Names are bytes; a call that takes a name also takes a str, which stands for its UTF-8.
+    Several threads may use one map, one at a time. With `share`, each thread has its own handle, so that lookups run at
+    the same time. Names are bytes; a call that takes a name also takes a str, which is encoded as UTF-8.
     """
 
     _what = "the map"
@@ -221,17 +225,17 @@ class CMap(Owned):
     ) -> "CMap":
         """Reads a CMap file: a text or, with a bundle, also a binary file.
 
-        A used file is the one of `files` with its name, otherwise the one of the bundle. `files` is a mapping, or a
-        callable that is called once for each name and returns the file, or None. All files that are read may have at
-        most `budget` bytes together; at most one file beyond the budget is requested from a callable. Files of the
-        bundle count if they are read; the bundle itself doesn't.
+        Used files are looked up by name in `files`, then in the bundle. `files` is a mapping, or a callable that is
+        called once for each name and returns the file, or None. All files that are read may have at most `budget` bytes
+        together; at most one file beyond the budget is requested from a callable. Files of the bundle count if they are
+        read; the bundle itself doesn't.
 
-        `base` is the base of the file, such as the entry UseCMap of a stream in a PDF file gives it. It replaces the
+        `base` is the base of the file, for example from the entry UseCMap of a stream in a PDF file. It replaces the
         base that the file names, and is used even if the file names none. It is a map, or the bytes of a file, which
         may use files of `files`. In a fault, the base has the name that the file uses, or UseCMap.
 
-        Raises Refused if the file, or one that it uses, is malformed, missing or past a limit; NotWritable if no single
-        file can express the base, as in `write`.
+        Raises Refused if the file, or a file that it uses, is malformed or missing, or exceeds a limit. Raises
+        NotWritable if no single file can express the base, as in `write`.
         """
         if base is not None:
             return _based.parsed(cls, data, base, files, bundle, budget)
@@ -248,14 +252,15 @@ class CMap(Owned):
         base: Union["CMap", Buffer, None] = None,
         most_faults: Optional[int] = None,
     ) -> "Salvaged":
-        """Reads a CMap file and the files that it uses past their faults: the map of everything else, and each fault.
+        """Reads a CMap file and the files that it uses past their faults. The result has the map of everything else,
+        and each fault.
 
-        The faults of a file are listed once, however often it is used. For a file that `parse` accepts, the map is the
-        same and there is no fault. For any other file, the first fault is one for which `parse` refuses it, or in a
-        text in rows an earlier one. The parameters are those of `parse`; a callable isn't called for a name that only a
-        file at fault uses, if the bundle has the name or it needs no file. The faults of a `base` come last.
-        `most_faults` limits the list, for the file with the files that it uses, and for a `base`: a file of a megabyte
-        may have a million faults.
+        The faults of a file are listed once, however often the file is used. For a file that `parse` accepts, the map
+        is the same and there is no fault. For any other file, the first fault is the fault for which `parse` refuses
+        the file, or in a text in rows an earlier fault. The parameters are the same as for `parse`, but a callable
+        isn't called for a name that only a file at fault uses, if the bundle has the name or the name needs no file.
+        The faults of a `base` come last. `most_faults` limits the number of faults of the file with the files that it
+        uses, and of a `base`: a file of a megabyte may have a million faults.
         """
         if most_faults is not None:
             most_faults = number(most_faults, 0, 2**32, "most_faults")
@@ -273,13 +278,13 @@ class CMap(Owned):
         bundle: Optional[Bundle] = None,
         budget: Optional[int] = None,
     ) -> "CMap":
-        """Reads the file of a name, as `parse` does: that of `files`, otherwise that of the bundle.
+        """Reads the file with a name, from `files` or otherwise from the bundle, as `parse` does.
 
-        If neither has one, Identity-H and Identity-V are made, and any other name is Refused. Without `files`, the
-        system's predefined CMaps are used for names that the bundle doesn't have, as `predefined` finds them. If only a
-        name is given, the last maps that were read are cached while their files stay unchanged.
+        If neither has the file, Identity-H and Identity-V need none, and any other name is Refused. Without `files`,
+        names that the bundle doesn't have are looked up among the system's predefined CMaps, as by `predefined`. If
+        only a name is given, a cache has the last maps, each while its files stay unchanged.
 
-        A path, such as a pathlib.Path, names a file directly: OSError if that can't be read.
+        A path, such as a pathlib.Path, names a file directly. Raises OSError if this file can't be read.
         """
         if isinstance(name, os.PathLike):
             with open(name, "rb") as opened:
@@ -303,13 +308,13 @@ class CMap(Owned):
 
     @classmethod
     def identity(cls, vertical: bool = False) -> "CMap":
-        """The predefined CMap Identity-H, or Identity-V: codes of two bytes are CIDs."""
+        """The predefined CMap Identity-H, or Identity-V if `vertical` is true: codes of two bytes are CIDs."""
         handle = Handle()
         checked(library.hayro_cmap_identity(handle, bool(vertical)))
         return cls(handle)
 
     def decode(self, text: Buffer) -> List[Code]:
-        """The codes of a string, one after another (ISO 32000-1, 9.7.6.2)."""
+        """The codes of a string, in order (ISO 32000-1, 9.7.6.2)."""
         text = bytes_of(text)
         codes, made, taken = (CodeInString * (len(text) + 1))(), c_size_t(), c_size_t()
         self._ask(library.hayro_cmap_decode, text, len(text), codes, len(codes), made, taken)
@@ -330,14 +335,14 @@ class CMap(Owned):
         return cid.value if has_cid else None
 
     def cids(self, first: int, count: int, byte_len: int) -> List[Optional[int]]:
-        """What `cid` gives for `count` consecutive codes from `first` on."""
+        """The results of `cid` for `count` consecutive codes from `first` on."""
         first, byte_len = code_number(first), code_length(byte_len)
         count = number(count, 0, 2**32 - first, "the number of codes")
         one, other = (self._row(first, count, byte_len, absent) for absent in (0, 1))
         return [cid if cid == same else None for cid, same in zip(one, other)]
 
     def _row(self, first, count, byte_len, absent):
-        """The CIDs of codes in a row, with `absent` for a code that has none."""
+        """The CIDs of consecutive codes, with `absent` for a code without a CID."""
         row = (c_uint32 * (count + 1))()
         self._ask(library.hayro_cmap_cids, first, byte_len, absent, row, count)
         return row[:count]
@@ -348,38 +353,38 @@ class CMap(Owned):
         return None if text is None else text.decode()
 
     def codes_of_cid(self, cid: int, byte_len: int) -> List[CodeRange]:
-        """All codes that have this CID, as `cid` gives it for codes of `byte_len` bytes: ranges in order, each as long
-        as possible. They include declared codes that don't fit in `byte_len` bytes."""
+        """All codes to which `cid` gives this CID for `byte_len` bytes, as ranges in order, each as long as possible.
+        They include declared codes that don't fit in `byte_len` bytes."""
         codes = self._listed(library.hayro_cmap_codes_of_cid, CodesInRow, cid_number(cid), code_length(byte_len))
         return [CodeRange(it.first, it.last) for it in codes]
 
     def lint(self, text: Buffer = b"", to_unicode: bool = False, shown: Iterable[int] = ()) -> List[Finding]:
-        """What looks wrong in the file of the map: the warnings of `cmap check --lint`, in its order, each at most
-        once, except the one about the name of the file.
+        """The warnings of `cmap check --lint` about the file of the map, in the same order, each at most once, except
+        the warning about the name of the file.
 
-        `text` is the file, if it is a text; without it there are no warnings about the spelling of a text. `to_unicode`
-        tells that the map is a ToUnicode CMap. `shown` has the numbers of the codes that are shown with the font: a
-        finding counts those that it concerns. A declaration concerns the codes between its ends (`no-text` only those
-        without a text), a string the codes of its entry.
+        `text` is the file, if it is a text. Without it, there are no warnings about the spelling of a text.
+        `to_unicode` declares that the map is a ToUnicode CMap. `shown` has the numbers of the codes that are shown with
+        the font; a finding counts the shown codes that it concerns. A declaration concerns the codes between its ends
+        (`no-text` only the codes without a text), a string the codes of its entry.
         """
         text, (codes, count) = bytes_of(text), shown_codes(shown)
         found = self._listed(library.hayro_cmap_lint, Found, text, len(text), bool(to_unicode), codes, count)
         return [finding_of(it) for it in found]
 
     def write(self, codes: Optional[Iterable[Union[Buffer, Code]]] = None) -> bytes:
-        """The text of one CMap file, which uses no other and has the answers of the map for each code.
+        """The text of a single CMap file, which uses no other file and has the answers of the map for each code.
 
-        With `codes` it has answers only for these, each a bytes object of one to four bytes or a code of `decode`:
-        `cmap.write(cmap.decode(string))` is for the codes of a string. Codespace ranges stay.
+        With `codes`, it has answers for these codes only, each a bytes object of one to four bytes or a code of
+        `decode`: `cmap.write(cmap.decode(string))` is for the codes of a string. Codespace ranges stay.
 
-        Raises NotWritable if no single file has these answers, for example if a code has no CID but a text in one
-        layer, and a CID in a lower one.
+        Raises NotWritable if no single file has these answers, for example if a code has a text but no CID in one
+        layer, and a CID in a lower layer.
         """
         table = chosen(() if codes is None else codes)
         count = 0 if codes is None else len(table)
         text = self._put(library.hayro_cmap_write, table, count, room_len=TEXT_ROOM)
         if text is None:
-            raise NotWritable("no one CMap file answers as the map does")
+            raise NotWritable("no single CMap file has the answers of the map")
         return text
 
     def collection(
@@ -388,8 +393,8 @@ class CMap(Owned):
         """The map from the CIDs of the character collection to Unicode, such as Adobe-Japan1-UCS2 (ISO 32000-1,
         9.10.2).
 
-        `name` is the collection, such as Adobe-Japan1; by default it is that of the first layer that gives one. None if
-        no layer does, or no file has the name of the map; `files` and `bundle` are those of `open`.
+        `name` is the collection, such as Adobe-Japan1; by default, the first layer with a collection gives it. None if
+        no layer has a collection, or no file has the name of the map. `files` and `bundle` are the same as for `open`.
         """
         named = self._collection_name(name)
         return None if named is None else opened_or_none(named + b"-UCS2", files, bundle)
@@ -398,10 +403,10 @@ class CMap(Owned):
         self, files: Optional[Files] = None, bundle: Optional[Bundle] = None, name: Optional[Name] = None
     ) -> Optional["CMap"]:
         """The map from Unicode to the CIDs of the character collection, such as UniJIS-UTF16-H, or UniJIS-UTF16-V if
-        the file gives vertical writing. Another handle of this map, if the file's own name begins with Uni.
+        the file gives vertical writing. If the file's own name begins with Uni, another handle of this map.
 
-        None if the collection has none: only Japan1, GB1, CNS1, Korea1, KR and Japan2 of Adobe have one. The parameters
-        are those of `collection`.
+        None if the collection has no such map: only Adobe's collections Japan1, GB1, CNS1, Korea1, KR and Japan2 have
+        one. The parameters are the same as for `collection`.
         """
         it = self.metadata
         if it.name is not None and it.name.startswith(b"Uni"):
@@ -411,7 +416,7 @@ class CMap(Owned):
         return None if asked is None else opened_or_none(asked, files, bundle)
 
     def _collection_name(self, name: Optional[Name]) -> Optional[bytes]:
-        """The name of the character collection, as Adobe-Japan1: this one, if it is given."""
+        """The name of the character collection, such as Adobe-Japan1: `name` if it is given."""
         if name is not None:
             return name_of(name)
         said = (layer.metadata for layer in self.layers)
@@ -425,7 +430,7 @@ class CMap(Owned):
 
     @property
     def effective_writing_mode(self) -> WritingMode:
-        """The writing mode of a font's strings: that of the first layer that gives one, otherwise horizontal."""
+        """The writing mode of a font's strings, from the first layer that gives it; otherwise horizontal."""
         return self._first_writing_mode() or WritingMode.HORIZONTAL
 
     def __repr__(self) -> str:
@@ -440,17 +445,17 @@ class CMap(Owned):
         return [Layer(self, index) for index in range(count)]
 
     def texts(self, codespaces: Optional[Iterable[Codespace]] = None) -> List[TextRun]:
-        """The texts of all codes that have one, over all layers: what `text` gives, as runs in the order of the codes.
+        """The texts of all codes, over all layers, with the results of `text`, as runs in the order of the codes.
 
-        No two runs have a code in common. A text belongs to the number of a code; `codespaces`, by default all
-        codespace ranges of the map, give the number of bytes: that of the shortest range that contains the code,
-        otherwise the fewest bytes in which it fits, but at least as many as the shortest codes have.
+        The runs are disjoint. A text belongs to the number of a code. `codespaces`, by default all codespace ranges of
+        the map, give the length of the code: it is the length of the shortest range that contains the code, otherwise
+        the fewest bytes in which the code fits, but at least the length of the shortest codes.
         """
         return list(self._text_runs(codespaces))
 
     def items(self, codespaces: Optional[Iterable[Codespace]] = None) -> Iterator[Tuple[bytes, str]]:
-        """Each code that has a text: its bytes, by `texts` of these codespace ranges, and the text.
-        `dict(cmap.items())` has all texts of a map."""
+        """Each code with a text: its bytes, with the length that `texts` gives it, and the text. `dict(cmap.items())`
+        has all texts of a map."""
         return (
             (code.to_bytes(run.byte_len, "big"), text_at(run.text, code - run.first))
             for run in self.texts(codespaces)
@@ -458,30 +463,30 @@ class CMap(Owned):
         )
 
     def texts_by_code(self, last: int = MOST_BY_CODE) -> Dict[int, str]:
-        """The texts of the codes up to `last`, what `text` gives for those that have one, by their numbers.
+        """The texts of the codes up to `last`, by the numbers of the codes, with the results of `text`.
 
-        No more than `last` + 1 codes are looked up, by default all of two bytes: a file of a few bytes may give each of
-        2^32 codes a text.
+        At most `last` + 1 codes are looked up, by default all codes of two bytes: a file of a few bytes may give each
+        of 2^32 codes a text.
         """
         from ._by_code import texts_by_code
 
         return texts_by_code(self, code_number(last))
 
     def _text_runs(self, codespaces: Optional[Iterable[Codespace]]) -> Iterator[TextRun]:
-        """What `texts` gives, made one by one."""
+        """The runs of `texts`, computed lazily."""
         given = None if codespaces is None else [codespace_of(it) for it in codespaces]
         return effective(self._deciding_texts(), self._all_codespaces() if given is None else given)
 
     def _text_rows(self) -> Iterator[TextRow]:
-        """The texts of all codes that have one, whatever lengths the codes have."""
+        """The texts of all codes, without the lengths of the codes."""
         return text_rows(self._deciding_texts())
 
     def _deciding_texts(self) -> List[TextRange]:
-        """The declarations of texts of all layers, of which the first one that has a code decides."""
+        """The declarations of texts of all layers. The first declaration that contains a code decides."""
         return [it for layer in self.layers for it in reversed(layer.texts)]
 
     def _put(self, call, *arguments, **options):
-        """The bytes that a call on the map puts to a room, or None."""
+        """The bytes that a call on the map writes to a buffer, or None."""
         with self._held() as handle:
             return put(call, handle, *arguments, **options)
 
@@ -501,7 +506,7 @@ class CMap(Owned):
         return None if mode == NO_MODE else WritingMode(mode)
 
     def _first_writing_mode(self) -> Optional[WritingMode]:
-        """That of the first layer that gives one."""
+        """The writing mode of the first layer that gives it."""
         modes = map(self._writing_mode, range(self._ask(library.hayro_cmap_layers)))
         return next((it for it in modes if it is not None), None)
 
@@ -523,12 +528,12 @@ class CMap(Owned):
         return found
 
     def _listed(self, call, kind, *arguments):
-        """The values of this type that a call on the map puts to a room; none where it has no answer."""
+        """The values of this type that a call on the map writes to a buffer; none if it has no answer."""
         room, count = self._filled(call, kind, *arguments)
         return room[:count]
 
     def _filled(self, call, kind, *arguments):
-        """This room, and how many values of the type there are."""
+        """The buffer, and the number of values in it."""
         needed, status = c_size_t(16), NO_ROOM
         while status == NO_ROOM:
             room = (kind * needed.value)()
@@ -538,24 +543,24 @@ class CMap(Owned):
 
 @functools.lru_cache(maxsize=KEPT_CODES)
 def code_of_fields(code, cid, byte_len, in_codespace, has_cid, cut_short):
-    """The code of the fields of a hayro_cmap_code."""
+    """The code with the fields of a hayro_cmap_code."""
     return Code(code, byte_len, cid if has_cid else None, bool(in_codespace), bool(cut_short))
 
 
 def codespace_of(given):
-    """A codespace range of three integers."""
+    """A codespace range from three integers."""
     low, high, byte_len = given
     most = 256 ** code_length(byte_len) - 1
     return Codespace(number(low, 0, most, "the low code"), number(high, 0, most, "the high code"), byte_len)
 
 
 def unicode_name(collection: bytes, mode: WritingMode) -> Optional[bytes]:
-    """The name of the CMap from Unicode to the CIDs of a character collection, as Adobe-Japan1, or None."""
+    """The name of the CMap from Unicode to the CIDs of a character collection, such as Adobe-Japan1, or None."""
     return put(library.hayro_cmap_unicode_name, collection, len(collection), mode)
 
 
 def opened_or_none(name, files, bundle):
-    """The map of the file of a name; None where there is no such file."""
+    """The map of the file with a name; None if there is no such file."""
     try:
         return CMap.open(name, files, bundle)
     except Refused as refused:
@@ -565,15 +570,15 @@ def opened_or_none(name, files, bundle):
 
 
 def chosen(codes):
-    """The codes as an array. To the library an empty one stands for all codes, so the first entry has none."""
+    """The codes as an array. For the library, an empty array means all codes, so the first entry is an empty range."""
     numbers = [code_of_bytes(bytes(code) if isinstance(code, Code) else bytes_of(code)) for code in codes]
     entries = (ChosenCodes(code, code, byte_len) for code, byte_len in numbers)
     return (ChosenCodes * (len(numbers) + 1))(ChosenCodes(1, 0, 1), *entries)
 
 
 class Salvaged(NamedTuple):
-    """The map and the faults of a file that is read past its faults."""
+    """The map of a file that is read past its faults, and these faults."""
 
     cmap: CMap
-    #: The faults of a file are in the order of their offsets, before the faults of the files that it uses.
+    #: The faults of a file, in the order of their offsets, precede the faults of the files that it uses.
     faults: List[Refused]

@@ -1,4 +1,4 @@
-"""What the library hands out, and how it is called."""
+"""Handles of the library, and helpers for its calls."""
 
 import contextlib
 import ctypes
@@ -13,14 +13,15 @@ Self = TypeVar("Self", bound="Owned")
 
 
 def checked(status):
-    """The status, unless it says that memory ran out."""
+    """The status of a call. Raises MemoryError if memory ran out."""
     if status == NO_MEMORY:
         raise MemoryError("out of memory")
     return status
 
 
 def put(call, *arguments, room_len=64):
-    """The bytes that a call puts to a room, its last three parameters; None where it has no answer."""
+    """The bytes that a call writes to a buffer, which is passed in its last three parameters; None without an
+    answer."""
     needed, status = ctypes.c_size_t(room_len), NO_ROOM
     while status == NO_ROOM:
         room = ctypes.create_string_buffer(needed.value)
@@ -29,7 +30,7 @@ def put(call, *arguments, room_len=64):
 
 
 class Owned:
-    """A handle of the library, which one call at a time uses, and which is freed once."""
+    """A handle of the library. One call at a time uses it, and it is freed once."""
 
     _what = "the handle"
     _made_by = ""
@@ -40,13 +41,14 @@ class Owned:
         if not isinstance(handle, Handle):
             raise TypeError(f"{self._what} is made by {self._made_by}")
         self._handle = handle
-        # A handler of signals runs in the thread that it interrupts, which would wait for itself at a plain lock.
+        # a signal handler runs in the thread that it interrupts, which would wait for itself at a plain lock
         self._lock = threading.RLock()
         self._is_held = False
 
     @contextlib.contextmanager
     def _held(self):
-        """The handle, for this thread alone. ValueError where it is freed, RuntimeError where this thread holds it."""
+        """The handle, for this thread alone. Raises ValueError if it is closed, RuntimeError if this thread holds
+        it."""
         with self._lock:
             handle, self._is_held = self._free_handle(), True
             try:
@@ -55,12 +57,12 @@ class Owned:
                 self._is_held = False
 
     def _ask(self, call, *arguments):
-        """What a call answers whose first parameter is the handle."""
+        """The result of a call whose first parameter is the handle."""
         with self._lock:
             return call(self._free_handle(), *arguments)
 
     def _free_handle(self):
-        """The handle, which no call has; the lock is held."""
+        """The handle, if no call uses it. The caller holds the lock."""
         if self._is_held:
             raise RuntimeError(f"{self._what} is in use by this thread")
         if self._handle is None:
@@ -68,13 +70,13 @@ class Owned:
         return self._handle
 
     def share(self):
-        """Another handle of the same, for lookups in another thread at the same time. Nothing is copied."""
+        """Another handle of the same object, for lookups in another thread at the same time. Nothing is copied."""
         other = Handle()
         checked(self._ask(type(self)._share, other))
         return type(self)(other)
 
     def close(self):
-        """Frees it, unless others share it. Each later use is a ValueError, but for a second `close`."""
+        """Frees it, unless other handles share it. Later use raises ValueError, except a second `close`."""
         with self._lock:
             if self._is_held:
                 raise RuntimeError(f"{self._what} is in use by this thread")

@@ -1,4 +1,4 @@
-"""The predefined CMap files that a system has."""
+"""The predefined CMap files of the system."""
 
 import collections
 import os
@@ -7,20 +7,21 @@ from typing import Any, Callable, Dict, Iterator, List, NamedTuple, Optional, Tu
 
 from ._values import Name, name_of
 
-#: The environment variables that name the folders; the first one that is set counts.
+#: The environment variables that list the folders. The first variable that is set counts.
 VARIABLES = ("HAYRO_CMAP_PATH", "CMAP_PATH")
 
-#: Where poppler-data, Ghostscript and the packages cmap-adobe-* put the files, also in subfolders.
+#: The folders of poppler-data, Ghostscript and the packages cmap-adobe-*. Their files may be in subfolders.
 SYSTEM_FOLDERS = ("/usr/share/poppler/cMap", "/var/lib/ghostscript/CMap", "/usr/share/fonts/cmap")
 
 
 def predefined(name: Name) -> Optional[bytes]:
-    """The predefined CMap file of a name, such as 90ms-RKSJ-H; None if the system has none.
+    """The predefined CMap file with a name, such as 90ms-RKSJ-H; None if the system has no such file.
 
-    It is looked up in the folders that the environment variable HAYRO_CMAP_PATH lists, separated by colons; if this
-    isn't set, in the folders of CMAP_PATH, which other programs may use otherwise; if neither is set, where packages of
-    Linux put these files. A folder's own files precede the files of its subfolders. No name leads out of these folders,
-    to a hidden file, or into a hidden subfolder. Raises OSError if the file exists and can't be read.
+    The file is looked up in the folders that the environment variable HAYRO_CMAP_PATH lists, separated by colons
+    (semicolons on Windows). If this variable isn't set, CMAP_PATH lists the folders; other programs may give CMAP_PATH
+    another meaning. If neither is set, the folders of Linux packages with these files are searched. A folder's own
+    files precede the files of its subfolders. No name leads out of these folders, to a hidden file, or into a hidden
+    subfolder. Raises OSError if the file exists and can't be read.
     """
     path = path_of(name_of(name))
     if path is None:
@@ -30,12 +31,12 @@ def predefined(name: Name) -> Optional[bytes]:
 
 
 def path_of(name: bytes) -> Optional[bytes]:
-    """The path of the predefined CMap file of a name, or None."""
+    """The path of the predefined CMap file with a name, or None."""
     return next((path for path in places(name) if os.path.isfile(path)), None)
 
 
 def beside(bundle) -> Callable[[bytes], Optional[bytes]]:
-    """Gives the predefined CMap files that a bundle doesn't have; all of them without a bundle."""
+    """Gives the predefined CMap files that a bundle doesn't have, or all of them without a bundle."""
 
     def file_of(name: bytes) -> Optional[bytes]:
         in_bundle = bundle is not None and bundle.file(name) is not None
@@ -45,25 +46,25 @@ def beside(bundle) -> Callable[[bytes], Optional[bytes]]:
 
 
 class Opened(NamedTuple):
-    """A map that was opened by its name, and by which files."""
+    """A map that was opened by its name, and the state of its files at that time."""
 
     cmap: Any
-    #: The path of each name that was asked for, and the time, the length and the number of the file there; or None.
+    #: For each requested name, the path, the time, the length and the inode number of the file; None without a file.
     stamps: Dict[bytes, Optional[Tuple]]
 
 
 class Kept:
-    """The last maps of predefined CMaps that were opened, each while its files stay as they are."""
+    """A cache of the last opened maps of predefined CMaps. A map is valid while its files stay unchanged."""
 
     MOST = 32
 
     def __init__(self):
         self._opened: "collections.OrderedDict[bytes, Opened]" = collections.OrderedDict()
-        # a handler of signals may open a map while its thread has the lock
+        # a signal handler may open a map while its thread has the lock
         self._lock = threading.RLock()
 
     def of(self, name: bytes, opened: Callable):
-        """The map of a name: another handle of the one that is kept, else what `opened` gives over the files."""
+        """The map of a name: another handle of the cached map, or otherwise the result of `opened`."""
         with self._lock:
             kept = self._opened.get(name)
         if kept is not None and all(stamp(asked) == found for asked, found in kept.stamps.items()):
@@ -84,7 +85,7 @@ class Kept:
 
 
 def stamp(name: bytes) -> Optional[Tuple]:
-    """Which file a name stands for, and as of when; None where there is none."""
+    """The file that a name stands for: its path, time, length and inode number; None if there is no file."""
     path = path_of(name)
     try:
         it = None if path is None else os.stat(path)
@@ -94,7 +95,7 @@ def stamp(name: bytes) -> Optional[Tuple]:
 
 
 def places(name: bytes) -> Iterator[bytes]:
-    """Where the file of a name may be."""
+    """The paths at which the file with a name may be."""
     if not name or name.startswith(b".") or b"/" in name or b"\0" in name:
         return
     for folder in folders():
@@ -104,7 +105,7 @@ def places(name: bytes) -> Iterator[bytes]:
 
 
 def subfolders(folder: bytes) -> List[bytes]:
-    """The folders in a folder that aren't hidden, in order; none where it can't be read."""
+    """The subfolders of a folder that aren't hidden, in order; none if the folder can't be read."""
     try:
         with os.scandir(folder) as entries:
             return sorted(

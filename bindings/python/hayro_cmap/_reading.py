@@ -1,4 +1,4 @@
-"""CMap files over the files that they use."""
+"""Reading of CMap files and the files that they use."""
 
 import contextlib
 import ctypes
@@ -14,31 +14,31 @@ from ._library import NO_BUDGET, NO_ROOM, OK, REFUSED, Fault, File, Handle
 from ._owned import checked, library, put
 from ._values import Buffer, Name, bytes_of, name_of, number
 
-#: Files by their names, or what gives the file of a name, and None where there is none.
+#: Files by their names, or a callable that gives the file with a name, or None.
 Files = Union[
     Mapping[bytes, Buffer], Mapping[str, Buffer], Mapping[Name, Buffer], Callable[[bytes], Optional[Buffer]]
 ]
 
 NO_FILES: Files = MappingProxyType({})
 
-#: How many files a chain of files that use each other may have.
+#: The maximum number of files in a chain of files that use each other.
 MOST_IN_CHAIN = 16
 
 
 def budget_of(budget: Optional[int]) -> int:
-    """The budget as the library takes it."""
+    """The budget in the library's form."""
     return NO_BUDGET if budget is None else number(budget, 0, NO_BUDGET, "the budget")
 
 
 def table_of(files: Dict[bytes, bytes]):
-    """The files as an array, with one entry more, so that it is never empty."""
+    """The files as an array. An extra entry keeps it from being empty."""
     entries = (File(name, len(name), data, len(data)) for name, data in files.items())
     return (File * (len(files) + 1))(*entries)
 
 
 @contextlib.contextmanager
 def filled():
-    """A handle that a block fills. Where the block raises, what it holds is freed."""
+    """A handle that the block fills. It is freed if the block raises an exception."""
     handle = Handle()
     try:
         yield handle
@@ -48,14 +48,14 @@ def filled():
 
 
 def explained(data: bytes, files: Dict[bytes, bytes], bundle: Optional[Bundle], budget: int, opened=None) -> Handle:
-    """The handle of the map of a file. Refused where there is none."""
+    """The handle of the map of a file. Raises Refused if there is no map."""
     with filled() as handle:
         explain_to(handle, data, files, bundle, budget, opened)
     return handle
 
 
 def explained_over(data: bytes, files: Optional[Files], bundle: Optional[Bundle], budget: int, opened=None) -> Handle:
-    """The same over all files of a mapping, or those that a callable gives. Each name is asked for once."""
+    """The same with all files of a mapping, or with the files of a callable. Each name is requested once."""
     if not callable(files):
         return explained(data, gathered(files), bundle, budget, opened)
     ask = functools.lru_cache(maxsize=None)(files)
@@ -64,7 +64,7 @@ def explained_over(data: bytes, files: Optional[Files], bundle: Optional[Bundle]
         try:
             return explained(data, found, bundle, budget, opened)
         except Refused as refused:
-            # a file that wasn't asked for, since the others have more bytes than the budget
+            # this file wasn't requested, since the others have more bytes than the budget
             file = ask(refused.names[-1]) if refused.cause == Cause.NO_FILE else None
             if file is None:
                 raise
@@ -72,7 +72,7 @@ def explained_over(data: bytes, files: Optional[Files], bundle: Optional[Bundle]
 
 
 def explain_to(handle: Handle, data: bytes, files, bundle: Optional[Bundle], budget: int, opened):
-    """Puts the map of a file into a handle."""
+    """Fills a handle with the map of a file."""
     table, fault, needed, room_len = table_of(files), Fault(), c_size_t(256), 0
     while needed.value > room_len:
         room_len = needed.value
@@ -87,8 +87,8 @@ def explain_to(handle: Handle, data: bytes, files, bundle: Optional[Bundle], bud
 
 
 def salvage_to(handle: Handle, data: bytes, files: Dict[bytes, bytes], bundle: Optional[Bundle], budget: int):
-    """Puts the map of a file that is read past its faults into a handle, in the place of the one there, and gives the
-    faults as the library has them, with their names, which stand one after another."""
+    """Fills a handle with the map of a file that is read past its faults. It replaces the handle's map. The results are
+    the faults in the library's form, and their concatenated names."""
     table, found, needed, faults, room = table_of(files), c_size_t(8), c_size_t(256), [], b""
     while found.value > len(faults) or needed.value > len(room):
         faults, room = (Fault * (found.value + 1))(), ctypes.create_string_buffer(needed.value + 1)
@@ -103,7 +103,7 @@ def salvage_to(handle: Handle, data: bytes, files: Dict[bytes, bytes], bundle: O
 
 
 def with_names(faults: Iterable[Fault], names: bytes) -> Iterator[Tuple[Fault, bytes]]:
-    """Faults, each with its names, which stand one after another."""
+    """Pairs of a fault and its concatenated names."""
     start = 0
     for fault in faults:
         end = start + sum(fault.name_lens[: fault.names])
@@ -114,8 +114,8 @@ def with_names(faults: Iterable[Fault], names: bytes) -> Iterator[Tuple[Fault, b
 def salvaged_over(
     data: bytes, files: Optional[Files], bundle: Optional[Bundle], budget: int, most_faults: Optional[int]
 ) -> Tuple[Handle, List[Refused]]:
-    """The handle of the map of a file that is read past its faults, and the faults, over all files of a mapping, or
-    those that a callable gives. Each name is asked for once."""
+    """The handle of the map of a file that is read past its faults, and the faults, with all files of a mapping, or
+    with the files of a callable. Each name is requested once."""
     with filled() as handle:
         return handle, salvage_over_to(handle, data, files, bundle, budget, most_faults)
 
@@ -123,7 +123,7 @@ def salvaged_over(
 def salvage_over_to(
     handle: Handle, data: bytes, files: Optional[Files], bundle: Optional[Bundle], budget: int, most_faults
 ) -> List[Refused]:
-    """Puts this map into a handle, and gives the faults."""
+    """Fills a handle with this map, and returns the faults."""
     if not callable(files):
         faults, names = salvage_to(handle, data, gathered(files), bundle, budget)
         return [refusal(*it, None) for it in itertools.islice(with_names(faults, names), most_faults)]
@@ -145,7 +145,7 @@ def salvage_over_to(
 
 
 def refusal(fault: Fault, names: bytes, opened: Optional[bytes]) -> Refused:
-    """What the library says of a fault."""
+    """The exception for a fault of the library."""
     lens = fault.name_lens[: fault.names]
     is_malformed = fault.cause == Cause.MALFORMED
     return Refused(
@@ -160,19 +160,19 @@ def refusal(fault: Fault, names: bytes, opened: Optional[bytes]) -> Refused:
 
 
 def no_file(name: bytes) -> Refused:
-    """That no file has this name."""
+    """The exception for a name that no file has."""
     fault = Fault(cause=Cause.NO_FILE, names=1)
     fault.name_lens[0] = len(name)
     return refusal(fault, name, None)
 
 
 def past_budget(name: bytes) -> Refused:
-    """That the file of this name has more bytes than the budget."""
+    """The exception for a file with this name that exceeds the budget."""
     return refusal(Fault(cause=Cause.PAST_BUDGET, names=0), b"", name)
 
 
 def pieces(text: bytes, lens: List[int]) -> List[bytes]:
-    """The first bytes of a text in pieces of these lengths."""
+    """Consecutive pieces of a text, with these lengths."""
     found, start = [], 0
     for length in lens:
         found.append(text[start : start + length])
@@ -181,9 +181,9 @@ def pieces(text: bytes, lens: List[int]) -> List[bytes]:
 
 
 def uses(data: Buffer, bundle: Optional[Bundle] = None) -> List[bytes]:
-    """The names of the files that a CMap file uses, in order. None of them is asked for.
+    """The names of the files that a CMap file uses, in order. These files aren't read.
 
-    A file in binary form is read by the tables of the bundle. Refused where the file is malformed.
+    A binary file is read with the tables of the bundle. Raises Refused if the file is malformed.
     """
     data = bytes_of(data)
     names, needed, status = c_size_t(16), c_size_t(512), NO_ROOM
@@ -197,7 +197,7 @@ def uses(data: Buffer, bundle: Optional[Bundle] = None) -> List[bytes]:
 
 
 def gathered(files: Optional[Mapping]) -> Dict[bytes, bytes]:
-    """All files of a mapping; none without one. TypeError for what is no mapping."""
+    """All files of a mapping; none for None. Raises TypeError for any other object."""
     found: Dict[bytes, bytes] = {}
     if files is not None and not hasattr(files, "items"):
         raise TypeError(f"files are a mapping from names or a callable, and not {type(files).__name__}")
@@ -207,8 +207,8 @@ def gathered(files: Optional[Mapping]) -> Dict[bytes, bytes]:
 
 
 def fetched(names: List[bytes], most: int, ask, bundle: Optional[Bundle], left: int) -> Dict[bytes, bytes]:
-    """The files of these names and of those that they use, up to `most` in a chain, and up to the one by which they
-    have more than `left` bytes together. Each name is asked for once."""
+    """The files with these names and the files that they use, at most `most` in a chain. The last file is the first one
+    with which they exceed `left` bytes together. Each name is requested once."""
     found: Dict[bytes, bytes] = {}
     asked = set()
     for _ in range(most):
@@ -230,7 +230,7 @@ def fetched(names: List[bytes], most: int, ask, bundle: Optional[Bundle], left: 
 
 
 def names_in(data: bytes, bundle: Optional[Bundle]) -> List[bytes]:
-    """The names that a file uses; none where it is malformed, which its parsing says."""
+    """The names that a file uses; none if it is malformed, which its parsing reports."""
     try:
         return uses(data, bundle)
     except Refused:

@@ -1,4 +1,4 @@
-"""Where the library puts the characters of a string."""
+"""Buffers to which the library writes the characters of a string."""
 
 import struct
 from ctypes import byref, c_char, c_char_p, c_size_t
@@ -8,26 +8,26 @@ from ._library import CharacterInString, Extracted
 from ._map import CMap
 from ._owned import checked, library
 
-#: A hayro_cmap_character: its code, whether it has a text, where that begins and how many bytes it has.
+#: A hayro_cmap_character: its code, whether it has a text, and the start and the length in bytes of this text.
 CHARACTER = struct.Struct("@12sINN")
 
-#: The same with the fields of its code, as `Code` has them but for `has_cid`, which stands before the last one.
+#: The same with the fields of its code, in the order of `CodeInString`.
 FIELDS = struct.Struct("@IIBBBBINN")
 
 #: The offsets of the lowest byte of its `has_text`, and of its `text_start` in words of 8 bytes.
 HAS_TEXT, TEXT_START = 12, 2
 
-#: Without types of its parameters: they would be checked at each call, and a room makes its arguments once.
+#: The call without parameter types: ctypes would check them at each call, and a buffer makes its arguments once.
 extract = library["hayro_cmap_extract"]
 
-#: A code of a string: the number that its bytes write, how many these are, its CID, and its text. Of many it takes much
-#: less time to make than a `Character`.
+#: A code of a string: its bytes as a number, its length in bytes, its CID, and its text. A row takes much less time to
+#: make than a `Character`.
 Row = Tuple[int, int, Optional[int], Optional[str]]
 
 
 class Room:
-    """Room for the characters of strings of at most `most` bytes, and for their texts. It has handles of its own, so
-    that a call that has the room waits for no other."""
+    """A buffer for the characters of strings of at most `most` bytes, and for their texts. It has its own handles, so
+    that a call with the buffer waits for no other call."""
 
     def __init__(self, maps: List[CMap], most: int, text_len: Optional[int] = None):
         self._most, self._text_len = most, 4 * most if text_len is None else text_len
@@ -43,26 +43,26 @@ class Room:
         ]
 
     def fill(self, string: bytes) -> int:
-        """Takes as many characters of a string as there is room for, and gives the status."""
+        """Writes the first characters of a string to the buffer, as many as fit, and returns the status."""
         self._string.value, self._string_len.value = string, len(string)
         return checked(extract(*self._arguments))
 
     def larger(self) -> "Room":
-        """Another one, for longer texts."""
+        """Another buffer, for longer texts."""
         return Room(self._maps, self._most, 2 * self._text_len)
 
     @property
     def taken(self) -> int:
-        """How many bytes the characters have in the string."""
+        """The number of bytes of the string that the characters stand for."""
         return self._extracted.taken
 
     def characters(self) -> Iterator[Tuple[bytes, int, int, int]]:
-        """Of each character its code, as a hayro_cmap_code; whether it has a text; where that begins in `texts`, and
-        how many bytes it has there."""
+        """For each character: the bytes of its hayro_cmap_code, whether it has a text, and the start and the length of
+        this text in `texts`."""
         return CHARACTER.iter_unpack(memoryview(self._characters)[: self._extracted.made * CHARACTER.size])
 
     def rows(self) -> List[Row]:
-        """The characters, of which nothing is kept."""
+        """The characters as rows."""
         texts, made = self.texts, memoryview(self._characters)[: self._extracted.made * FIELDS.size]
         return [
             (code, byte_len, cid if has_cid else None, texts[start : start + text_len].decode() if has_text else None)
@@ -70,7 +70,7 @@ class Room:
         ]
 
     def texts_by_code(self) -> Dict[int, str]:
-        """The texts of the codes that have one."""
+        """The texts of the codes with a text."""
         texts, made = self.texts, memoryview(self._characters)[: self._extracted.made * FIELDS.size]
         return {
             code: texts[start : start + text_len].decode()
@@ -79,7 +79,7 @@ class Room:
         }
 
     def text(self, missing: str) -> str:
-        """The texts, one after another, with `missing` for each character that has none."""
+        """The concatenated texts, with `missing` for each character without a text."""
         end, used = self._extracted.made * CHARACTER.size, self._extracted.used
         has_text = self._characters[HAS_TEXT : end : CHARACTER.size]
         if 0 not in has_text:

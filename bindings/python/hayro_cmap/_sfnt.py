@@ -1,6 +1,6 @@
-"""Tables of TrueType and OpenType font programs (the OpenType Specification), as far as texts and widths need them.
+"""The tables of TrueType and OpenType font programs (the OpenType Specification) that texts and widths need.
 
-Programs may be hostile, so that what is read has limits, and what is malformed is left out.
+Programs may be hostile: reading has limits, and malformed parts are left out.
 """
 
 import struct
@@ -11,33 +11,34 @@ from ._budget import Budget
 #: The first bytes of a program.
 VERSIONS = (b"\x00\x01\x00\x00", b"true", b"OTTO")
 
-#: How many bytes stand before the records of tables, each of which has a tag, a sum, an offset and a length.
+#: The number of bytes before the table records, and a record: a tag, a checksum, an offset and a length.
 HEADER = 12
 RECORD = struct.Struct(">4sLLL")
 
-#: How many tables a program may have, and those that are read.
+#: The maximum number of table records, and the tables that are read.
 MOST_TABLES = 64
 TABLES = (b"cmap", b"post", b"head", b"hhea", b"hmtx", b"CFF ")
 
-#: How many entries of the table `cmap` are looked at, and how many codes one of them may have.
+#: The maximum number of subtables of `cmap`, and of codes in a subtable.
 MOST_SUBTABLES = 64
 MOST_CODES = 1 << 18
 
-#: What stands in the place of a character code: platform and encoding. Those of Unicode, the best ones first.
+#: Subtables of `cmap` by their platform and encoding: the Unicode subtables, the best first; the symbol subtable; and
+#: the subtable of Mac Roman.
 UNICODE = ((3, 10), (0, 6), (0, 4), (3, 1), (0, 3), (0, 2), (0, 1), (0, 0))
 SYMBOL = (3, 0)
 MAC_ROMAN = (1, 0)
 
-#: The versions of the table `post` that have names: those of the Macintosh alone, and others too.
+#: The versions of the table `post` with glyph names: the standard names of the Macintosh alone, or more names.
 POST_MAC, POST_NAMES = 0x00010000, 0x00020000
 
-#: What is raised where a table ends early, or says what can't be.
+#: The exceptions for a table that ends early, or has impossible values.
 MALFORMED_TABLE = (struct.error, IndexError, ValueError, OverflowError)
 
-#: The glyphs of codes.
+#: Glyphs by codes.
 Glyphs = Dict[int, int]
 
-#: Codes from the first to the last one, each with its glyph.
+#: Pairs of a code and its glyph.
 Pairs = Iterable[Tuple[int, int]]
 
 
@@ -51,7 +52,7 @@ class Sfnt:
         count = min(count, MOST_TABLES, max(len(program) - HEADER, 0) // RECORD.size)
         left = len(program)
         for tag, _, offset, length in RECORD.iter_unpack(program[HEADER : HEADER + RECORD.size * count]):
-            # tables don't overlap, so that all of them together are no longer than the program
+            # tables of a sound program don't overlap: together they are no longer than the program
             if tag in TABLES and tag not in self._tables and left > 0:
                 self._tables[tag] = program[offset : offset + min(length, left)]
                 left -= len(self._tables[tag])
@@ -61,11 +62,11 @@ class Sfnt:
         return bool(self._tables)
 
     def table(self, tag: bytes) -> bytes:
-        """The bytes of one of the tables that are read; none where the program hasn't got it."""
+        """The bytes of a table in `TABLES`; empty if the program doesn't have it."""
         return self._tables.get(tag, b"")
 
     def glyphs(self, *encodings: Tuple[int, int]) -> Glyphs:
-        """The glyphs of the codes of an encoding: of the first one, of these platforms and encodings, that has any."""
+        """The glyphs of codes in the first subtable, in the order of these platforms and encodings, that has glyphs."""
         data = self.table(b"cmap")
         try:
             places = subtables(data)
@@ -75,7 +76,8 @@ class Sfnt:
         return next((glyphs for glyphs in found if glyphs), {})
 
     def advances(self) -> List[float]:
-        """The advance widths of the glyphs from 0 on, in thousandths of the size; those after have the last one's."""
+        """The advance widths of the glyphs from 0 on, in thousandths of the font size. All later glyphs have the last
+        width."""
         head, hhea, hmtx = self.table(b"head"), self.table(b"hhea"), self.table(b"hmtx")
         try:
             [units] = struct.unpack_from(">H", head, 18)
@@ -86,7 +88,7 @@ class Sfnt:
             return []
 
     def names(self) -> List[str]:
-        """The names of the glyphs from 0 on, of the table `post`; none without fontTools."""
+        """The names of the glyphs from 0 on, from the table `post`; none without fontTools."""
         try:
             return names_of(self.table(b"post"))
         except (*MALFORMED_TABLE, ImportError):
@@ -94,7 +96,7 @@ class Sfnt:
 
 
 def subtables(cmap: bytes) -> Dict[Tuple[int, int], int]:
-    """Where the subtables of platforms and encodings begin in the table `cmap`."""
+    """The offsets of subtables in the table `cmap`, by their platform and encoding."""
     [count] = struct.unpack_from(">H", cmap, 2)
     places: Dict[Tuple[int, int], int] = {}
     for at in range(4, 4 + 8 * min(count, MOST_SUBTABLES), 8):
@@ -104,7 +106,7 @@ def subtables(cmap: bytes) -> Dict[Tuple[int, int], int]:
 
 
 def glyphs_of(data: bytes, budget: Budget) -> Glyphs:
-    """The glyphs of the codes of a subtable, up to where it is malformed; glyph 0 stands for none."""
+    """The glyphs of codes in a subtable, up to its first malformed part. Glyph 0 means no glyph."""
     read = FORMATS.get(int.from_bytes(data[:2], "big"))
     glyphs: Glyphs = {}
     try:
@@ -122,7 +124,7 @@ def bytes_to_glyphs(data: bytes) -> Pairs:
 
 
 def segments(data: bytes) -> Pairs:
-    """Format 4: segments of codes of two bytes, whose glyphs are counted on or listed."""
+    """Format 4: segments of codes of two bytes. Their glyphs are consecutive or listed."""
     count = min(struct.unpack_from(">H", data, 6)[0] // 2, (len(data) - 16) // 8)
     places = [14, 16 + 2 * count, 16 + 4 * count, 16 + 6 * count]
     columns = (struct.unpack_from(f">{count}H", data, place) for place in places)
@@ -138,26 +140,26 @@ def segments(data: bytes) -> Pairs:
 
 
 def trimmed(data: bytes) -> Pairs:
-    """Format 6: a glyph for each code of one row."""
+    """Format 6: a glyph for each code of a single range."""
     first, count = struct.unpack_from(">HH", data, 6)
     count = min(count, (len(data) - 10) // 2)
     return enumerate(struct.unpack_from(f">{count}H", data, 10), first)
 
 
 def groups(data: bytes) -> Pairs:
-    """Format 12: rows of characters, whose glyphs are counted on."""
+    """Format 12: ranges of characters with consecutive glyphs."""
     [count] = struct.unpack_from(">L", data, 12)
     for at in range(16, 16 + 12 * min(count, (len(data) - 16) // 12), 12):
         first, last, glyph = struct.unpack_from(">LLL", data, at)
         yield from zip(range(first, min(last, 0x10FFFF) + 1), range(glyph, 0x10000))
 
 
-#: How the formats of subtables are read.
+#: The functions that read the formats of subtables.
 FORMATS: Dict[int, Callable[[bytes], Pairs]] = {0: bytes_to_glyphs, 4: segments, 6: trimmed, 12: groups}
 
 
 def names_of(post: bytes) -> List[str]:
-    """The names of the glyphs from 0 on in a table `post`: those of the Macintosh, and those that it spells."""
+    """The names of the glyphs from 0 on in a table `post`: standard names of the Macintosh, and names in the table."""
     [version] = struct.unpack_from(">L", post)
     if version not in (POST_MAC, POST_NAMES):
         return []
@@ -168,14 +170,14 @@ def names_of(post: bytes) -> List[str]:
     [count] = struct.unpack_from(">H", post, 32)
     numbers = struct.unpack_from(f">{count}H", post, 34)
     own, last = list(spelled(post[34 + 2 * count :])), len(standardGlyphOrder) - 1
-    # Prawn's programs lack the last standard name: the names that they spell, which are all used, begin at its number
+    # font programs of Prawn lack the last standard name: their own names, all of them used, begin at its number
     is_short = last in numbers and max(numbers) == last + len(own) - 1
     names = [*standardGlyphOrder[: last if is_short else None], *own]
     return [names[it] if it < len(names) else ".notdef" for it in numbers]
 
 
 def spelled(data: bytes) -> Iterator[str]:
-    """The names that stand one after another, each after its length."""
+    """The names in these bytes, each after a byte with its length."""
     at = 0
     while at < len(data):
         yield data[at + 1 : at + 1 + data[at]].decode("latin-1")

@@ -1,4 +1,4 @@
-"""Where CMaps are read from, in a form that can be pickled."""
+"""Sources of CMaps, in a form that can be pickled."""
 
 from typing import NamedTuple, Optional
 
@@ -11,15 +11,15 @@ IDENTITIES = {b"Identity-H": False, b"Identity-V": True}
 
 
 class CMapSource(NamedTuple):
-    """Where a CMap of a PDF file is read from: the name of a predefined CMap, or the bytes of a stream, with the source
-    of its entry UseCMap as `base`. Unlike a map it can be pickled and compared."""
+    """The source of a CMap of a PDF file: the name of a predefined CMap, or the bytes of a stream, with the source of
+    its entry UseCMap as `base`. Unlike a map, it can be pickled and compared."""
 
     name: Optional[bytes] = None
     data: Optional[bytes] = None
     base: Optional["CMapSource"] = None
-    #: The number of the object of a stream.
+    #: The object number of a stream.
     number: int = 0
-    #: Why a stream can't be decoded.
+    #: The reason why a stream can't be decoded.
     unreadable: Optional[str] = None
 
     def open(self) -> CMap:
@@ -37,7 +37,7 @@ class CMapSource(NamedTuple):
 
     @property
     def files(self) -> Optional[Files]:
-        """The files that a stream may use: without the operator none is looked for."""
+        """The files that a stream may use: none without the operator `usecmap`."""
         return predefined if self.data is not None and b"usecmap" in self.data else None
 
     def _bytes(self) -> bytes:
@@ -47,5 +47,5 @@ class CMapSource(NamedTuple):
 
 
 def opened(name: bytes) -> CMap:
-    """The predefined CMap of a name."""
+    """The predefined CMap with a name."""
     return CMap.identity(IDENTITIES[name]) if name in IDENTITIES else CMap.open(name)

@@ -1,20 +1,20 @@
-"""Values that calls take: checked here, since ctypes cuts an integer to its type without a word."""
+"""Checks of values that calls take: ctypes truncates integers silently."""
 
 import operator
 from typing import Union
 
-#: What holds bytes: bytes, bytearray, memoryview, mmap and the like.
+#: Objects with bytes: bytes, bytearray, memoryview, mmap and other buffers.
 Buffer = Union[bytes, bytearray, memoryview]
 
-#: How many bytes a code may have.
+#: The possible lengths of a code in bytes.
 CODE_LENGTHS = range(1, 5)
 
-#: A name of a file, which is bytes. A str stands for its UTF-8.
+#: The name of a file, in bytes. A str is encoded as UTF-8.
 Name = Union[str, Buffer]
 
 
 def number(value, least, most, what):
-    """The integer, which lies from `least` to `most`. ValueError where it doesn't, TypeError for what is no integer."""
+    """The integer. Raises ValueError unless it lies from `least` to `most`, TypeError if it isn't an integer."""
     value = operator.index(value)
     if not least <= value <= most:
         raise ValueError(f"{what} is {value}, and not from {least} to {most}")
@@ -22,34 +22,34 @@ def number(value, least, most, what):
 
 
 def code_number(code):
-    """A code, which has 32 bits at the most."""
+    """A code, which has at most 32 bits."""
     return number(code, 0, 2**32 - 1, "the code")
 
 
 def cid_number(cid):
-    """A CID, which has 32 bits at the most."""
+    """A CID, which has at most 32 bits."""
     return number(cid, 0, 2**32 - 1, "the CID")
 
 
 def code_length(byte_len):
-    """How many bytes a code has."""
+    """The length of a code in bytes."""
     return number(byte_len, CODE_LENGTHS[0], CODE_LENGTHS[-1], "the length of a code in bytes")
 
 
 def code_of_bytes(data):
-    """The number that the bytes of a code write, and how many they are."""
+    """The bytes of a code as a number, and their number."""
     return int.from_bytes(data, "big"), code_length(len(data))
 
 
 def code_of(code, byte_len):
-    """The same of a code that is given as its bytes, or as a number of `byte_len` bytes."""
+    """The number and the length of a code that is given as bytes, or as a number of `byte_len` bytes."""
     if hasattr(code, "__index__"):
         return number(code, 0, 256**byte_len - 1, "the code"), byte_len
     return code_of_bytes(bytes_of(code))
 
 
 def bytes_of(data):
-    """The bytes of a buffer; a copy of those that could change. TypeError for what holds no bytes."""
+    """The bytes of a buffer. Bytes that may change are copied. Raises TypeError if the object isn't a buffer."""
     return data if type(data) is bytes else bytes(memoryview(data))
 
 
@@ -59,7 +59,7 @@ def name_of(name):
 
 
 def shown(name):
-    """A name as a message shows it: bytes that aren't printable ASCII as \\xHH, and a backslash twice."""
+    """A name in the form of messages: \\xHH for a byte that isn't printable ASCII, and two backslashes for one."""
     return "/" + "".join(
         "\\\\" if byte == 0x5C else chr(byte) if 0x20 <= byte <= 0x7E else f"\\x{byte:02X}" for byte in name
     )

@@ -1,4 +1,4 @@
-"""CMap files that are made of declarations."""
+"""Writing of CMap files from declarations."""
 
 from typing import Iterable, List, Mapping, Optional, Tuple, Union
 
@@ -9,13 +9,13 @@ from ._map import WritingMode
 from ._owned import library, put
 from ._values import Buffer, Name, cid_number, code_length, code_of, name_of, number
 
-#: A code: its one to four bytes, or the number that they write.
+#: A code: its one to four bytes, or the number of these bytes.
 CodeOf = Union[int, Buffer]
 
 #: The registry, the ordering and the supplement of a character collection.
 Collection = Tuple[Name, Name, int]
 
-#: How many bytes a text is written to at first, and how many more for each declaration.
+#: The initial size of the buffer of a file in bytes, and the addition for each declaration.
 ROOM, ROOM_EACH = 1024, 32
 
 
@@ -27,9 +27,9 @@ class CMapWriter:
         writer.cid(b"\\x20", b"\\x7e", 1)
         data = writer.write()
 
-    A declaration is for the codes from a first to a last one. A code is a bytes object of one to four bytes, or a
-    number, for a code of `code_len` bytes. If several declarations of a kind contain a code, the last one decides.
-    Raises ValueError if the two codes have unequal lengths, or the last one precedes the first.
+    A declaration covers the codes from a first to a last code. A code is a bytes object of one to four bytes, or a
+    number for a code of `code_len` bytes. If several declarations of a kind contain a code, the last declaration
+    decides. Raises ValueError if the two codes have unequal lengths, or the last code precedes the first.
 
     The name, the registry and the ordering are bytes, or a str, which is encoded as UTF-8. None isn't written.
     """
@@ -50,21 +50,21 @@ class CMapWriter:
         return f"<CMapWriter {self._name!r}, declarations: {len(self._declarations)}>"
 
     def codespace(self, first: CodeOf, last: CodeOf) -> None:
-        """A codespace range: codes of this length, each byte between the bytes of the two codes at its place."""
+        """Adds a codespace range: codes of this length. Each byte lies between the bytes of both codes at its place."""
         self._declare(CODESPACE_RANGE, first, last)
 
     def cid(self, first: CodeOf, last: CodeOf, cid: int) -> None:
-        """CIDs: the first code has `cid`, and the CIDs count on from code to code."""
+        """Adds CIDs: the first code has `cid`, and the CIDs count on from code to code."""
         self._declare(CID_RANGE, first, last, cid=cid)
 
     def notdef(self, first: CodeOf, last: CodeOf, cid: int) -> None:
-        """A notdef: the CID of each code that has no other."""
+        """Adds a notdef: `cid` is the CID of each code that has no other CID."""
         self._declare(NOTDEF_RANGE, first, last, cid=cid)
 
     def text(self, first: CodeOf, last: CodeOf, text: str) -> None:
-        """Texts: the first code has `text`, whose last unit of UTF-16 counts on from code to code.
+        """Adds texts: the first code has `text`. Its last unit of UTF-16 counts on from code to code.
 
-        Raises ValueError if the text is empty, has a lone surrogate, or counts on to units that are no text.
+        Raises ValueError if the text is empty or has a lone surrogate, or if the last text isn't valid Unicode.
         """
         data = str.encode(text)
         if not data:
@@ -78,14 +78,14 @@ class CMapWriter:
         raise TypeError("the writer can't be copied or pickled")
 
     def write(self) -> bytes:
-        """The text of the file, in the fewest declarations that give each code the same.
+        """The text of the file, with the fewest declarations that have the same effect.
 
-        Raises NotWritable if the name has a byte that no name can have, such as a blank.
+        Raises NotWritable if the name has a byte that can't be part of a name, such as a blank.
         """
         table, count = (Declaration * (len(self._declarations) + 1))(*self._declarations), len(self._declarations)
         data = put(library.hayro_cmap_make, self._facts, table, count, room_len=ROOM + count * ROOM_EACH)
         if data is None:
-            raise NotWritable("no CMap file has this name")
+            raise NotWritable("the name can't be written in a CMap file")
         return data
 
     def _declare(self, kind, first, last, cid=0, text=b""):
@@ -98,15 +98,15 @@ class CMapWriter:
 
 
 def counts_on(text: str, further: int) -> bool:
-    """Whether the last unit of a text, in UTF-16, may be greater by up to `further`: it stays a low surrogate, or on
-    its side of all surrogates."""
+    """Whether the last unit of a text in UTF-16 can increase by `further`: it stays a low surrogate, or on its side of
+    the surrogates."""
     unit = int.from_bytes(text[-1].encode("utf-16-be")[-2:], "big")
     most = next(last for first, last in [*SINGLE_UNITS, *LOW_SURROGATES] if first <= unit <= last)
     return unit + further <= most
 
 
 def facts_of(name, collection, writing_mode):
-    """What a file says of itself, as the library takes it."""
+    """The metadata of a file in the library's form."""
     data = b"" if name is None else name_of(name)
     registry, ordering, supplement = ("", "", 0) if collection is None else collection
     registry, ordering = name_of(registry), name_of(ordering)
@@ -126,14 +126,14 @@ def to_unicode(
     collection: Optional[Collection] = ("Adobe", "UCS", 0),
     codespaces: Optional[Iterable[Tuple[CodeOf, CodeOf]]] = None,
 ) -> bytes:
-    """A ToUnicode CMap, which gives the codes of a font of a PDF file their texts (ISO 32000-1, 9.10.3).
+    """A ToUnicode CMap, which gives texts to the codes of a font in a PDF file (ISO 32000-1, 9.10.3).
 
         to_unicode({1: "A", 2: "ffi"})
 
-    A code is a number, for codes of `code_len` bytes, or a bytes object of one to four bytes. Without `codespaces`,
-    pairs of the first and the last code of a range, one range has all codes of the length. Raises ValueError if codes
-    have several lengths and there are no `codespaces`; if a code lies in none of these; if two codes have the same
-    number, since a text belongs to the number; and as CMapWriter does.
+    A code is a number for a code of `code_len` bytes, or a bytes object of one to four bytes. `codespaces` are pairs of
+    the first and the last code of a range; by default, a single range has all codes of the length. Raises ValueError if
+    codes have several lengths without `codespaces`, if a code lies in no range, or if two codes have the same number,
+    since a text belongs to the number. CMapWriter raises more exceptions.
     """
     writer, codes = CMapWriter(name, collection, code_len=code_len), {}
     for code, text in texts.items():
@@ -151,7 +151,7 @@ def to_unicode(
 
 
 def check_codes(codes: Mapping[int, int], ranges: List[Tuple[Tuple[int, int], Tuple[int, int]]]) -> None:
-    """ValueError where a code, a number with its length, lies in none of the codespace ranges."""
+    """Raises ValueError if a code, a number with its length, lies in no codespace range."""
     bounds = [(low.to_bytes(length, "big"), high.to_bytes(length, "big")) for (low, length), (high, _) in ranges]
     for code, length in codes.items():
         data = code.to_bytes(length, "big")
@@ -160,12 +160,13 @@ def check_codes(codes: Mapping[int, int], ranges: List[Tuple[Tuple[int, int], Tu
 
 
 def lies_in(code: bytes, low: bytes, high: bytes) -> bool:
-    """Whether a code lies in a codespace range: each byte between the two there (ISO 32000-1, 9.7.6.2)."""
+    """Whether a code lies in a codespace range: each byte lies between the bytes at its place (ISO 32000-1,
+    9.7.6.2)."""
     return len(code) == len(low) and all(least <= it <= most for least, it, most in zip(low, code, high))
 
 
 def whole(lengths):
-    """The codespace range of all codes of the one length."""
+    """The codespace range with all codes of the given length. Raises ValueError for several lengths."""
     if len(lengths) > 1:
         raise ValueError("codes have several lengths, and there are no codespace ranges")
     [length] = lengths

@@ -4,11 +4,11 @@
     hayro_cmap.pdfminer.install()
 
 After `install`, hayro_cmap reads the CMaps of each font that pdfminer makes: the ToUnicode CMap, past its faults, and
-for a composite font its predefined or embedded CMap and the map of its character collection. If these give a code no
-text, the glyph gives it, by its name or the embedded program. `uninstall` undoes this, and the context manager
-`installed` does both. Fonts that exist already don't change.
+for a composite font its predefined or embedded CMap and its collection's map. If the CMaps give a code no text, the
+text comes from the glyph name or the embedded program. `uninstall` undoes this, and the context manager `installed`
+does both. Existing fonts don't change.
 
-To leave pdfminer as it is in the rest of a process, pass a `ResourceManager` in place of a PDFResourceManager.
+To leave pdfminer unchanged in the rest of a process, pass a `ResourceManager` in place of a PDFResourceManager.
 """
 
 import contextlib
@@ -26,25 +26,25 @@ from ._given_font import GivenFont, GivenGlyphs, Objects, bounded
 
 __all__ = ["ResourceManager", "install", "installed", "uninstall"]
 
-#: What pdfminer calls encodings that are Identity-H and Identity-V.
+#: Names that pdfminer gives the encodings Identity-H and Identity-V.
 SAME = {"DLIdent-H": "Identity-H", "DLIdent-V": "Identity-V"}
 
-#: Encodings that pdfminer reads itself, and that are no predefined CMaps.
+#: Encodings that pdfminer reads itself, and that aren't predefined CMaps.
 OF_PDFMINER = ("OneByteIdentityH", "OneByteIdentityV")
 
 CID_FONTS = ("CIDFontType0", "CIDFontType2")
 
 
 class Cid(int):
-    """A CID, as pdfminer takes it for widths, with the text of its code."""
+    """A CID, from which pdfminer gets the width, with the text of its code."""
 
     text: Optional[str] = None
     is_shown = True
 
 
 class Texts(cmapdb.UnicodeMap):
-    """The texts of codes that are CIDs, or single bytes, each looked up when it is first asked for; then those of the
-    map that pdfminer has made."""
+    """The texts of codes that are CIDs or single bytes. Each is looked up on first use, then in the map that pdfminer
+    has made."""
 
     def __init__(self, font: GivenFont, own: Optional[cmapdb.UnicodeMap] = None):
         super().__init__()
@@ -69,11 +69,11 @@ class Texts(cmapdb.UnicodeMap):
 
 
 class TextsOfCodes(Texts):
-    """The texts of codes that have CIDs."""
+    """The texts of codes whose CIDs come from an `Encoding`."""
 
     def get_unichr(self, cid: int) -> str:
         if not isinstance(cid, Cid):
-            # a CID that no string has given: what it stands for in the collection, or the text of its glyph
+            # a CID that doesn't come from a string: its text in the collection's map, or the text of its glyph
             return super().get_unichr(cid)
         if cid.text is None:
             raise KeyError(cid)
@@ -84,14 +84,14 @@ class TextsOfCodes(Texts):
 
 
 class Identity(cmapdb.IdentityCMap):
-    """Identity-H and Identity-V, also of a string that ends within a code."""
+    """Identity-H and Identity-V. A string may end within a code."""
 
     def decode(self, code: bytes) -> Tuple[int, ...]:
         return super().decode(code if len(code) % 2 == 0 else code[:-1])
 
 
 class Encoding(cmapdb.CMapBase):
-    """The CMap of a composite font, which gives CIDs with texts."""
+    """The CMap of a composite font. It gives CIDs with texts."""
 
     def __init__(self, font: GivenFont):
         source = font.maps.encoding_source
@@ -111,7 +111,7 @@ class Encoding(cmapdb.CMapBase):
                 cid = self._known[it[:2]] = Cid(it.cid or 0)
                 cid.text = self._font.text_of((*it[:3], own))
                 cid.is_shown = it.cid is not None or cid.text is not None
-            # pdfminer has nothing for a code that the CMap gives no CID
+            # pdfminer skips codes to which the CMap gives no CID
             if cid.is_shown:
                 found.append(cid)
         return found
@@ -127,9 +127,9 @@ class PDFCIDFont(pdffont.PDFCIDFont):
         font = given(rsrcmgr, spec, maps_of(spec))
         maps = font.maps
         self._cmap = cmap_of(font, spec)
-        # pdfminer reads a name under ToUnicode itself
+        # pdfminer itself reads a name at ToUnicode
         has_name = maps.to_unicode_source is not None and not maps.has_to_unicode
-        # pdfminer knows texts of collections, and raises over many a program
+        # pdfminer knows texts of collections, but raises exceptions for some font programs
         is_own = maps.collection_of_cid_font in COLLECTIONS and maps.texts_of_cids is None and not maps.has_to_unicode
         is_ours = not has_name and not is_own
         super().__init__(rsrcmgr, without_texts(spec) if is_ours else spec, *arguments, **options)
@@ -142,7 +142,7 @@ class PDFCIDFont(pdffont.PDFCIDFont):
 
 
 class ObjectsOfPdfminer(Objects):
-    """The objects of pdfminer."""
+    """Access to the objects of pdfminer."""
 
     def object(self, value: Any) -> Any:
         return resolve1(value)
@@ -167,18 +167,18 @@ class ObjectsOfPdfminer(Objects):
 
 OBJECTS = ObjectsOfPdfminer()
 
-#: What may still be taken of the programs of the fonts of a resource manager.
+#: The budgets of resource managers, for the font programs of each.
 _budgets: "weakref.WeakKeyDictionary[Any, Budget]" = weakref.WeakKeyDictionary()
 
 
 def given(manager: Any, spec: Mapping[str, Any], maps: GivenMaps) -> GivenFont:
-    """The font of a resource manager with these CMaps."""
+    """The font of a resource manager, with these CMaps."""
     budget = _budgets.setdefault(manager, Budget())
     return GivenFont(maps, GivenGlyphs(maps.is_composite, lambda: spec, OBJECTS, lambda: budget))
 
 
 def maps_of(spec: Mapping[str, Any]) -> GivenMaps:
-    """The CMaps of a CIDFont with the Encoding and the ToUnicode of its composite font."""
+    """The CMaps of a CIDFont whose dictionary also has the Encoding and the ToUnicode of its composite font."""
     info, encoding = resolve1(spec.get("CIDSystemInfo")), resolve1(spec.get("Encoding"))
     names = [resolve1(info.get(key)) for key in ("Registry", "Ordering")] if isinstance(info, dict) else []
     mode = resolve1(encoding.get("WMode")) if isinstance(encoding, PDFStream) else 0
@@ -193,20 +193,20 @@ def maps_of(spec: Mapping[str, Any]) -> GivenMaps:
 
 
 def source_of(value: Any, over: int = 0) -> Optional[CMapSource]:
-    """Where the CMap at an entry is read from."""
+    """The source of the CMap in an entry."""
     value = resolve1(value)
     if isinstance(value, PDFStream):
         base = source_of(value.get("UseCMap"), over + 1) if over < MOST_IN_CHAIN else None
         try:
             return CMapSource(data=bytes(value.get_data()), base=base)
-        except Exception as fault:  # pdfminer has no one exception for what it can't decode
+        except Exception as fault:  # pdfminer raises many kinds of exceptions for streams that it can't decode
             return CMapSource(unreadable=str(fault))
     name = getattr(value, "name", None)
     return CMapSource(SAME.get(name, name).encode()) if isinstance(name, str) and name not in OF_PDFMINER else None
 
 
 def cmap_of(font: GivenFont, spec: Mapping[str, Any]) -> Optional[cmapdb.CMapBase]:
-    """The CMap as pdfminer takes it; None where pdfminer's own is to be taken."""
+    """The CMap in pdfminer's form; None if pdfminer's own CMap is to be used."""
     maps = font.maps
     if maps.encoding.lenient is None:
         name = getattr(resolve1(spec.get("Encoding")), "name", None)
@@ -215,12 +215,12 @@ def cmap_of(font: GivenFont, spec: Mapping[str, Any]) -> Optional[cmapdb.CMapBas
 
 
 def without_texts(spec: Mapping[str, Any]) -> Dict[str, Any]:
-    """The same with an empty ToUnicode CMap, so that pdfminer reads none, and looks for no collection."""
+    """The font's dictionary with an empty ToUnicode CMap, so that pdfminer reads no CMap and looks up no collection."""
     return {**spec, "ToUnicode": PDFStream({}, b"")}
 
 
 def made(manager: Any, objid: Any, spec: Mapping[str, Any], get_font: Callable[..., Any]) -> Any:
-    """The font that a resource manager makes by its own `get_font`."""
+    """The font that a resource manager makes; `get_font` is pdfminer's method."""
     if objid and objid in manager._cached_fonts:
         return get_font(manager, objid, spec)
     subtype = getattr(resolve1(spec.get("Subtype")), "name", None)
@@ -238,14 +238,14 @@ def made(manager: Any, objid: Any, spec: Mapping[str, Any], get_font: Callable[.
 
 
 class ResourceManager(pdfinterp.PDFResourceManager):
-    """A PDFResourceManager whose fonts have their CMaps read by hayro_cmap."""
+    """A PDFResourceManager with fonts whose CMaps hayro_cmap reads."""
 
     def get_font(self, objid: Any, spec: Mapping[str, Any]) -> Any:
         return made(self, objid, spec, pdfinterp.PDFResourceManager.get_font)
 
 
 _lock = threading.Lock()
-#: PDFResourceManager's own `get_font` while another one stands in its place.
+#: PDFResourceManager's own `get_font` while it is replaced.
 _original: Optional[Callable[..., Any]] = None
 
 
@@ -255,7 +255,7 @@ def _get_font(self: Any, objid: Any, spec: Mapping[str, Any]) -> Any:
 
 
 def install() -> None:
-    """Has hayro_cmap read the CMaps of all fonts that pdfminer makes from now on."""
+    """Lets hayro_cmap read the CMaps of all fonts that pdfminer makes from now on."""
     global _original
     with _lock:
         if _original is None:
@@ -264,7 +264,7 @@ def install() -> None:
 
 
 def uninstall() -> None:
-    """Ends what `install` has begun."""
+    """Undoes `install`."""
     global _original
     with _lock:
         if _original is not None:
@@ -274,7 +274,7 @@ def uninstall() -> None:
 
 @contextlib.contextmanager
 def installed() -> Iterator[None]:
-    """`install` for a block, in all threads; nothing where it is installed already."""
+    """Installs for a block, in all threads. It has no effect if `install` was called before."""
     was = _original is not None
     install()
     try:

@@ -3,16 +3,16 @@
     import hayro_cmap.pypdf
     hayro_cmap.pypdf.install()
 
-It is experimental: pypdf has no public hooks, and its private ones may change.
+This module is experimental: pypdf has no public hooks, and its private functions may change.
 
 After `install`, hayro_cmap reads the CMaps of fonts for pypdf's `extract_text`: the ToUnicode CMap, past its faults,
-and for a composite font its predefined or embedded CMap and the map of its character collection. If these give a code
-no text, the glyph gives it, by its name or the embedded program. `uninstall` undoes this, and the context manager
-`installed` does both.
+and for a composite font its predefined or embedded CMap and its collection's map. If the CMaps give a code no text, the
+text comes from the glyph name or the embedded program. `uninstall` undoes this, and the context manager `installed`
+does both.
 
-pypdf decodes a string by the name of a codec of Python, and looks up each decoded character. So each encoding has a
-codec here, named after its content. The codec gives one character for each code: the character with the number of its
-CID, by which pypdf finds widths, or one of a private plane. A codec ends with the fonts that have it.
+pypdf decodes a string by the name of a Python codec, and looks up each decoded character. So each encoding has a codec
+here, named after its content. The codec gives one character for each code: the character with the number of its CID,
+from which pypdf gets the width, or a character from U+20000 on. A codec ends with the fonts that have it.
 """
 
 import codecs
@@ -32,16 +32,16 @@ from ._given_font import GivenFont, GivenGlyphs, Objects, bounded
 
 __all__ = ["install", "installed", "uninstall"]
 
-#: The names of codecs begin with this.
+#: The prefix of the names of codecs.
 PREFIX = "hayro_cmap_"
 
-#: The first character of codes whose CID another code has, or that have none.
+#: The first character for codes without a CID, or with a CID that another code has.
 FIRST_PRIVATE = 0x20000
 
-#: How many encodings are kept that no font has, and how many names of codecs Python may keep.
+#: The number of last encodings that are kept even without fonts, and the number of codecs that Python may cache.
 KEPT, KEPT_NAMES = 32, 1024
 
-#: How many fonts are kept with what was read of them: pypdf reads a font anew for each page.
+#: The number of fonts whose CMaps are cached: pypdf reads a font again for each page.
 KEPT_FONTS = 256
 
 REPLACEMENT = "\N{REPLACEMENT CHARACTER}"
@@ -87,17 +87,18 @@ class Encoding:
 
 
 class Characters(dict):
-    """The texts of characters that stand for the codes of a font, of which those that were looked up are there."""
+    """The texts of characters that stand for the codes of a font. The dictionary has the characters looked up so
+    far."""
 
     def __init__(self, font: GivenFont, missing: Optional[str] = None):
         super().__init__()
         self._font, self._missing = font, missing
-        #: Those that have no text.
+        #: The characters without a text.
         self._without: Set[str] = set()
 
     @property
     def _of(self) -> Tuple[Any, ...]:
-        """What another one is made of."""
+        """The arguments for another object of this kind."""
         return self._font, self._missing
 
     def _text(self, char: str) -> Optional[str]:
@@ -135,7 +136,7 @@ class Characters(dict):
 
 
 class CharactersOfCodec(Characters):
-    """The texts of characters of a codec, or of those whose numbers are the codes where there is none."""
+    """The texts of the characters of a codec, or without a codec of characters whose numbers are the codes."""
 
     def __init__(self, font: GivenFont, codec: Optional[str], missing: Optional[str]):
         super().__init__(font, missing)
@@ -148,7 +149,7 @@ class CharactersOfCodec(Characters):
         return self._font, self._codec, self._missing
 
     def _find_space(self) -> None:
-        """pypdf looks for the character whose text is a space."""
+        """Looks up codes of the space: pypdf searches for the character whose text is a space."""
         maps = self._font.maps
         for code in [code for code, text in maps.texts.items() if text == " "][:1]:
             self._seed(code)
@@ -168,7 +169,7 @@ class CharactersOfCodec(Characters):
                     return
 
     def _text(self, char: str) -> Optional[str]:
-        """The text of a character; the empty one where its code has neither a CID nor a text."""
+        """The text of a character; the empty text if its code has neither a CID nor a text."""
         if self._encoding is None:
             return super()._text(char)
         found = self._encoding.code(char)
@@ -179,7 +180,7 @@ class CharactersOfCodec(Characters):
 
 
 class OwnTexts:
-    """What pypdf has for the codes of a simple font by its encoding, once it is asked for."""
+    """The texts that pypdf gives the codes of a simple font by its encoding, read on first use."""
 
     def __init__(self, read: Callable[[], Any]):
         self._read = read
@@ -194,7 +195,7 @@ class OwnTexts:
 
 
 class CharactersOfBytes(Characters):
-    """The texts of the characters whose numbers are the codes of a simple font; then those that pypdf has."""
+    """The texts of the characters whose numbers are the codes of a simple font, with pypdf's texts for the others."""
 
     def __init__(self, font: GivenFont, own: OwnTexts):
         super().__init__(font)
@@ -218,14 +219,14 @@ _lock = threading.RLock()
 
 def codec_name(maps: GivenMaps) -> str:
     """The name of the codec of an encoding."""
-    # where there is no encoding, codes are cut by the ToUnicode CMap
+    # without a readable encoding, the ToUnicode CMap splits strings into codes
     source = maps.to_unicode_source if maps.encoding.lenient is None else maps.encoding_source
     digest = hashlib.sha256(repr(source).encode()).hexdigest()[:32]
     return PREFIX + digest
 
 
 def encoding_of(maps: GivenMaps) -> Encoding:
-    """The encoding of a font; others with the same one share it."""
+    """The encoding of a font. Fonts with the same encoding share it."""
     name = codec_name(maps)
     with _lock:
         found = _encodings.get(name)
@@ -242,7 +243,7 @@ def encoding_of(maps: GivenMaps) -> Encoding:
 
 
 def search(name: str) -> Optional[codecs.CodecInfo]:
-    """The codec of a name. Python keeps it, so that it doesn't hold the encoding."""
+    """The codec with a name. Python caches the codec, so the codec holds no reference to the encoding."""
     if not name.startswith(PREFIX):
         return None
 
@@ -259,7 +260,7 @@ def search(name: str) -> Optional[codecs.CodecInfo]:
 
 
 def forget() -> None:
-    """Has Python forget the codecs that it keeps. Those that are used are found again."""
+    """Clears Python's cache of these codecs. Python finds codecs in use again."""
     if hasattr(codecs, "unregister"):
         codecs.unregister(search)
         codecs.register(search)
@@ -272,12 +273,12 @@ codecs.register(search)
 
 @functools.lru_cache(maxsize=KEPT_FONTS)
 def kept_maps(*given: Any) -> GivenMaps:
-    """The CMaps of a font of which this is known."""
+    """The CMaps of a font with these entries, from a cache."""
     return GivenMaps(*given)
 
 
 def descendant_of(font: Any) -> Dict[str, Any]:
-    """The CIDFont of a composite font; an empty one where there is none."""
+    """The CIDFont of a composite font; an empty dictionary if there is none."""
     below = object_of(font.get("/DescendantFonts"))
     descendant = object_of(below[0]) if isinstance(below, list) and below else None
     return descendant if isinstance(descendant, dict) else {}
@@ -313,20 +314,20 @@ def object_of(value: Any) -> Any:
 
 
 def source_of(value: Any, over: int = 0) -> Optional[CMapSource]:
-    """Where the CMap at an entry is read from."""
+    """The source of the CMap in an entry."""
     value = object_of(value)
     if hasattr(value, "get_data"):
         base = source_of(value.get("/UseCMap"), over + 1) if over < MOST_IN_CHAIN else None
         try:
             data = value.get_data()
-        except Exception as fault:  # pypdf has no one exception for what it can't decode
+        except Exception as fault:  # pypdf raises many kinds of exceptions for streams that it can't decode
             return CMapSource(unreadable=str(fault))
         return CMapSource(data=data.encode("latin-1") if isinstance(data, str) else bytes(data), base=base)
     return CMapSource(str(value)[1:].encode()) if isinstance(value, str) and value[:1] == "/" else None
 
 
 class ObjectsOfPypdf(Objects):
-    """The objects of pypdf."""
+    """Access to the objects of pypdf."""
 
     def object(self, value: Any) -> Any:
         return object_of(value)
@@ -348,16 +349,16 @@ class ObjectsOfPypdf(Objects):
 
 OBJECTS = ObjectsOfPypdf()
 
-#: The glyphs of the fonts that are there, by the numbers of their dictionaries: what was read of a program is kept as
-#: long as the file.
+#: The glyphs of existing fonts, by the `id` of their dictionaries: data that is read from a font program lives as long
+#: as the font's dictionary.
 _glyphs: Dict[int, Tuple["weakref.ref[Any]", GivenGlyphs]] = {}
 
-#: What may still be taken of the programs of the fonts of a file.
+#: The budgets of files, for the font programs of each.
 _budgets: "weakref.WeakKeyDictionary[Any, Budget]" = weakref.WeakKeyDictionary()
 
 
 def glyphs_of(font: Any) -> GivenGlyphs:
-    """The glyphs of a font, which doesn't live longer by them."""
+    """The glyphs of a font. They hold no strong reference to the font."""
     key = id(font)
     found = _glyphs.get(key)
     if found is not None and found[0]() is font:
@@ -375,7 +376,7 @@ def glyphs_of(font: Any) -> GivenGlyphs:
 
 
 def budget_of(holder: Any) -> Budget:
-    """What may still be taken of the file of a font, which its descriptor names: a program is an indirect object."""
+    """The budget of the file of a font. The descriptor's references have the file: a program is an indirect object."""
     descriptor = OBJECTS.at(holder, "FontDescriptor")
     files = (getattr(it, "pdf", None) for it in (descriptor.values() if isinstance(descriptor, dict) else ()))
     file = next((it for it in files if it is not None), None)
@@ -383,11 +384,11 @@ def budget_of(holder: Any) -> Budget:
 
 
 class Hook:
-    """The functions of a library that read the CMaps of a font, and those that stand in their places."""
+    """The functions of a library that read the CMaps of a font, and their replacements."""
 
     def __init__(self, module: Any, missing: Optional[str]):
         self.module, self.missing = module, missing
-        # pypdf 3 and PyPDF2 also have the code of the space among what is given and taken
+        # in pypdf 3 and PyPDF2, the code of the space is also an argument and a result
         self.is_old = hasattr(module, "parse_to_unicode")
         self.names = ("parse_encoding", "parse_to_unicode") if self.is_old else ("_parse_encoding", "_parse_to_unicode")
         self.originals = [getattr(module, name) for name in self.names]
@@ -409,7 +410,7 @@ class Hook:
 
     @staticmethod
     def codec(maps: GivenMaps) -> Optional[str]:
-        """The codec of the encoding; None where pypdf's own one does."""
+        """The name of the encoding's codec; None if pypdf's own codec is to be used."""
         if maps.is_identity or maps.encoding.lenient is None and not maps.has_to_unicode:
             return None
         encoding_of(maps)
@@ -426,7 +427,7 @@ class Hook:
         return (characters, spaces[-1] if spaces else rest[0], codes)
 
     def read(self, font: Any) -> Optional[Tuple[Dict[Any, Any], List[int]]]:
-        """The texts of a font by characters, and the codes of a simple one; None where pypdf is to read them."""
+        """The texts of a font by characters, and the codes of a simple font; None if pypdf is to read them."""
         given = GivenFont(maps_of(font), glyphs_of(font))
         maps = given.maps
         if maps.to_unicode_source is not None and not maps.has_to_unicode:
@@ -443,19 +444,19 @@ class Hook:
         return characters, []
 
     def own_encoding(self, font: Any) -> Any:
-        """What pypdf reads of the encoding of a simple font."""
+        """The encoding of a simple font, read by pypdf."""
         if not self.is_old:
             return self.originals[0](font)
         return self.originals[0](font, ord(" "))[0]
 
     def filled(self, characters: Characters, byte_len: int) -> Characters:
-        """The same with all texts of the ToUnicode CMap, whose codes are the numbers of the characters."""
+        """The same, with all texts of the ToUnicode CMap added. Its codes are the numbers of the characters."""
         texts = characters._font.maps.texts
         characters.update({**self.length(byte_len), **{chr(code): text for code, text in texts.items()}})
         return characters
 
     def length(self, byte_len: int) -> Dict[int, int]:
-        """Up to version 5, -1 stands for the length of codes."""
+        """The key -1 with the length of codes, which pypdf has up to version 5."""
         return {-1: byte_len} if self.is_old or hasattr(self.module, "build_char_map") else {}
 
 
@@ -463,11 +464,11 @@ _hooks: List[Hook] = []
 
 
 def install(missing: Optional[str] = None) -> None:
-    """Has hayro_cmap read the CMaps of fonts for pypdf from now on, and for PyPDF2, whichever are there. AttributeError
-    where one of them lacks the functions in whose places others are put; then nothing changes.
+    """Lets hayro_cmap read the CMaps of fonts for pypdf and PyPDF2, if installed, from now on. Raises AttributeError if
+    a library lacks a function to replace; then nothing changes. Raises ImportError if neither library is installed.
 
-    `missing` is the text of a code of a composite font that has none. By default it is what pypdf takes, the character
-    with the code's number, and U+FFFD under encodings that pypdf doesn't read.
+    `missing` is the text for a code of a composite font that has no text. By default, it is the same as in pypdf, the
+    character with the code's number, and U+FFFD under encodings that pypdf doesn't read.
     """
     with _lock:
         if _hooks:
@@ -480,14 +481,14 @@ def install(missing: Optional[str] = None) -> None:
                 continue
             found.append(Hook(module, missing))
         if not found:
-            raise ImportError("neither pypdf nor PyPDF2 is there")
+            raise ImportError("neither pypdf nor PyPDF2 is installed")
         for hook in found:
             hook.put()
         _hooks.extend(found)
 
 
 def uninstall() -> None:
-    """Ends what `install` has begun."""
+    """Undoes `install`."""
     with _lock:
         while _hooks:
             _hooks.pop().take()
@@ -495,7 +496,7 @@ def uninstall() -> None:
 
 @contextlib.contextmanager
 def installed(missing: Optional[str] = None) -> Iterator[None]:
-    """`install` for a block, in all threads."""
+    """Installs for a block, in all threads. It has no effect if `install` was called before."""
     was = bool(_hooks)
     install(missing)
     try:

@@ -164,7 +164,7 @@ class Warnings(unittest.TestCase):
         lines = [line.partition(": ")[2] for line in font.lines()]
         [number] = {it.number for it in font.warnings}
         self.assertIn(f"warning: ToUnicode {number}: private-use: 2 shown codes, first <11>", lines)
-        self.assertIn("1 other warning, about no text that is shown: noncharacter", lines)
+        self.assertIn("1 other warning, which concerns no shown text: noncharacter", lines)
 
     def test_of_codes_that_are_not_shown(self):
         """They are no reason to refuse a file, unless they are named."""

@@ -155,7 +155,7 @@ class Command(Folder):
     def test_repair(self):
         status, out, _ = self.command("repair", "bad.pdf", "out.pdf")
         self.assertEqual(status, 0)
-        self.assertRegex(out, r"written anew, with texts for 2 codes")
+        self.assertRegex(out, r"rewritten, with texts for 2 codes")
         self.assertRegex(out, rf"lost at ToUnicode \d+: byte {AT_FAULT}")
         self.assertEqual(self.command("check", "out.pdf")[0], 0)
 
@@ -210,7 +210,7 @@ class Command(Folder):
         showing(b"A", b"1 beginbfchar <41> (x").saved(self.path("lost.pdf"))
         status, out, _ = self.command("repair", "lost.pdf", "out.pdf")
         self.assertEqual(status, 1)
-        self.assertRegex(out.splitlines()[-1], "0 of 1 ToUnicode CMaps with faults are written anew, and .* is a copy$")
+        self.assertRegex(out.splitlines()[-1], "0 of 1 ToUnicode CMaps with faults are rewritten, and .* is a copy$")
         self.assertEqual(self.path("out.pdf").read_bytes(), self.path("lost.pdf").read_bytes())
 
     def test_files_that_cannot_be_read(self):

@@ -1,4 +1,4 @@
-"""ToUnicode CMaps that are written anew."""
+"""Rewritten ToUnicode CMaps."""
 
 import os
 import shutil
@@ -57,7 +57,7 @@ class Repairs(unittest.TestCase):
             self.assertEqual([cmap.text(code) for code in b"ABC"], ["A", None, "C"])
             self.assertEqual([len(bytes(it)) for it in cmap.decode(b"ABC")], [1, 1, 1])
         self.assertEqual((pdf.check(file.pdf).refused, pdf.repair(file.pdf)), (0, []))
-        self.assertEqual(done.lines()[0], f"ToUnicode {done.number}: written anew, with texts for 2 codes")
+        self.assertEqual(done.lines()[0], f"ToUnicode {done.number}: rewritten, with texts for 2 codes")
         self.assertIn("the text of a code was expected", done.lines()[1])
 
     def test_a_good_file_stays(self):

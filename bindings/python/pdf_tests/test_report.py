@@ -147,9 +147,9 @@ class Replaced(Folder):
         self.path("other.html").write_text("<!DOCTYPE html>\n<html>")
         self.path("list").write_text("bad.pdf\n")
         for name in ["good.pdf", "none.pdf", "other.html", "list"]:
-            self.refused(self.path(name), "bad.pdf", why=f"{name}: it is no report of this command")
+            self.refused(self.path(name), "bad.pdf", why=f"{name}: it isn't a report of this command")
         self.path("link").symlink_to(self.path("good.pdf"))
-        self.refused(self.path("link"), "bad.pdf", why="link: it is no report of this command")
+        self.refused(self.path("link"), "bad.pdf", why="link: it isn't a report of this command")
 
     def test_a_place_that_cannot_be_written(self):
         os.mkfifo(self.path("pipe"))
@@ -163,7 +163,7 @@ class Replaced(Folder):
         """It takes no page, and no file of its name is made."""
         ran = self.program("check", "--html", "-", "good.pdf", text=True)
         self.assertEqual((ran.returncode, ran.stdout), (2, ""))
-        self.assertIn("--html writes no page to the standard output", ran.stderr)
+        self.assertIn("--html doesn't write to the standard output", ran.stderr)
         self.assertFalse(self.path("-").exists())
 
     def test_an_older_report(self):
@@ -195,7 +195,7 @@ class Replaced(Folder):
         with mock.patch.object(_report, "page_of", lambda results: str(report.write_bytes(data))):
             status, _, fault = self.command("check", "--html", str(report), "bad.pdf")
         self.assertEqual((status, report.read_bytes()), (2, data))
-        self.assertIn("report.html: it is no report of this command", fault)
+        self.assertIn("report.html: it isn't a report of this command", fault)
 
 
 if __name__ == "__main__":

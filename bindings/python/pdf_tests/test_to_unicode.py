@@ -35,8 +35,8 @@ class FiveDigits(unittest.TestCase):
         self.assertEqual(file.text(), "\U00020bb7?")
         [repaired] = pdf.repair(file.pdf)
         number = repaired.number
-        said = f"ToUnicode {number}: texts of five digits are read as the characters of these numbers"
-        self.assertEqual(repaired.lines()[:2], [f"ToUnicode {number}: written anew, with texts for 1 codes", said])
+        said = f"ToUnicode {number}: strings of five digits are read as numbers of characters"
+        self.assertEqual(repaired.lines()[:2], [f"ToUnicode {number}: rewritten, with texts for 1 code", said])
         [character, _] = pdf.characters(file.pdf.pages[0], lenient=False)
         self.assertEqual(character.text, "\U00020bb7")
 

@@ -310,7 +310,7 @@ class Encoding(unittest.TestCase):
                     font.encode(text)
                 self.assertEqual((raised.exception.text, raised.exception.offset), (text, offset))
                 self.assertIsInstance(raised.exception, ValueError)
-            self.assertEqual(str(Unencodable("日x", 1)), "no string shows '日x' past index 1")
+            self.assertEqual(str(Unencodable("日x", 1)), "'日x' can't be encoded from index 1 on")
 
     def test_missing(self):
         with identity_font() as font:

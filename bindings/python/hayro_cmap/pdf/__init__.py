@@ -1,4 +1,4 @@
-"""The fonts of PDF files, the codes that their pages show, and the texts of these codes. pikepdf reads the files.
+"""The fonts of PDF files, the codes that pages show, and the texts of these codes. pikepdf reads the files.
 
     import pikepdf
     from hayro_cmap import pdf
@@ -11,9 +11,9 @@
     python3 -m hayro_cmap.pdf check|fonts|text FILE.pdf ..
     python3 -m hayro_cmap.pdf repair IN.pdf OUT.pdf
 
-The text of a code comes from the font's ToUnicode CMap; otherwise, in a composite font, from its CID and the map of the
-character collection, and in a simple font from the name of its glyph, if fontTools is there (ISO 32000-1, 9.10.2);
-otherwise from the glyph in the embedded font program. `Source` has all sources.
+The text of a code comes from the font's ToUnicode CMap. Otherwise, in a composite font it comes from the CID and the
+collection's map, and in a simple font from the glyph name, if fontTools is installed (ISO 32000-1, 9.10.2). Otherwise
+it comes from the glyph in the embedded font program. `Source` lists all sources.
 """
 
 from .._run import begin_to_import, end_on_interrupt, missing

@@ -1,4 +1,4 @@
-"""A file that is written beside another one and then takes its place, so that a path always has a whole file."""
+"""Replacement of a file by a file that is written beside it, so that a path always has a complete file."""
 
 import contextlib
 import errno
@@ -6,20 +6,20 @@ import os
 import stat
 from typing import BinaryIO, Iterator, Optional, Tuple, Union
 
-#: How many names are tried for a file beside another one.
+#: The number of names that are tried for a new file.
 MOST_TRIES = 100
 
-#: The permissions of a file where none was, before those are taken away that the umask names.
+#: The permissions of a file at a new path, before the umask is applied.
 NEW_PERMISSIONS = 0o666
 
 
 @contextlib.contextmanager
 def written_beside(path: Union[str, "os.PathLike[str]"]) -> Iterator[BinaryIO]:
-    """A new file, which is put at a path when the block ends, with the permissions of the file that was there. Where
-    the block raises, the new file is removed, and the other one stays as it is.
+    """A new file that replaces the file at a path when the block ends, with the permissions of the old file. If the
+    block raises an exception, the new file is removed, and the old file stays unchanged.
 
-    A link at the path stays, and the file that it leads to is replaced. OSError where something else than a file is
-    there.
+    If the path is a link, the link stays, and the file to which it leads is replaced. Raises OSError if the path isn't
+    a regular file.
     """
     place = os.fsdecode(os.path.realpath(path))
     permissions = permissions_of(place)
@@ -37,7 +37,7 @@ def written_beside(path: Union[str, "os.PathLike[str]"]) -> Iterator[BinaryIO]:
 
 
 def try_beside(path: Union[str, "os.PathLike[str]"]) -> None:
-    """Makes and removes a file beside a path: OSError where `written_beside` can write none there."""
+    """Makes and removes a file beside a path. Raises OSError if `written_beside` can't write a file there."""
     place = os.fsdecode(os.path.realpath(path))
     permissions_of(place)
     new, file = created_beside(place, NEW_PERMISSIONS)
@@ -46,7 +46,7 @@ def try_beside(path: Union[str, "os.PathLike[str]"]) -> None:
 
 
 def permissions_of(place: str) -> Optional[int]:
-    """Who may do what with the file of a path; None where none is there. OSError where not a regular file."""
+    """The permissions of the file at a path; None if there is no file. Raises OSError if it isn't a regular file."""
     try:
         mode = os.stat(place).st_mode
     except FileNotFoundError:
@@ -57,7 +57,7 @@ def permissions_of(place: str) -> Optional[int]:
 
 
 def created_beside(place: str, permissions: int) -> Tuple[str, BinaryIO]:
-    """The path of a new file beside a path, and the file."""
+    """Makes a new file beside a path, and returns its path and the file."""
     for number in range(MOST_TRIES):
         new = f"{place}.new-{number}"
         with contextlib.suppress(FileExistsError):

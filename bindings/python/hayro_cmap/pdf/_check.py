@@ -1,4 +1,4 @@
-"""Which fonts of a PDF file have CMaps with faults, and which of the codes that it shows have no text."""
+"""The check of a PDF file: fonts that have CMaps with faults, and shown codes without a text."""
 
 import collections
 from typing import Any, Callable, Counter, Dict, Iterable, Iterator, List, NamedTuple, Optional
@@ -12,64 +12,64 @@ from ._limits import Deadline
 from ._objects import object_number
 from ._warning_names import FEW_TEXTS, LEFT_OUT, OF_FORM
 
-#: What is found of shown codes, beside the warnings of CMaps.
+#: Names of findings about shown codes, besides the warnings about CMaps.
 OF_SHOWN_CODES = ("no-text", "no-cid", "outside-codespace")
 
-#: The share of shown codes that have a text, below which a font has few texts.
+#: A font has few texts if a smaller share of its shown codes has a text.
 FEW = 0.1
 
-#: How many codes of a kind are printed.
+#: The number of codes of a kind that are printed.
 MOST_PRINTED = 8
 
 
 class CMapWarning(NamedTuple):
-    """Something that looks wrong in an accepted CMap. The names are the ones of `cmap check --lint`, and `few-texts`,
-    which concerns a font."""
+    """A warning about an accepted CMap. The names are the same as in `cmap check --lint`, and `few-texts`, which
+    concerns a font."""
 
-    #: The key of the CMap, "ToUnicode" or "Encoding", and the number of the object of its stream; or "font" and the
-    #: number of its object.
+    #: The key of the CMap, "ToUnicode" or "Encoding", and the object number of its stream; or "font" and the object
+    #: number of the font.
     of: str
     number: int
     name: str
-    #: How many codes, declarations, sections or strings are concerned, and the first code; None where there is none.
+    #: The number of codes, declarations, sections or strings that it concerns, and the first code, or None.
     codes: int = 1
     first: Optional[int] = None
-    #: How many of the codes that are shown with the font are concerned, and the lowest of them.
+    #: The number of codes shown with the font that it concerns, and the lowest of them.
     shown: int = 0
     first_shown: Optional[int] = None
 
 
 class ShownCode(NamedTuple):
-    """A code that is shown, and how often."""
+    """A shown code, and how often it is shown."""
 
     character: Character
     times: int
 
 
 class FontReport:
-    """What is known of a font, and of the codes that are shown with it."""
+    """The check of a font, and of the codes that are shown with it."""
 
     def __init__(self, font: Font, codes: List[ShownCode], lenient: List[ShownCode], is_lenient: bool = True):
         self.font = font
-        #: The faults of its CMaps. Without `is_lenient` these aren't read past them.
+        #: The faults of its CMaps. Without `is_lenient`, CMaps aren't read past their faults.
         self.faults = font.faults if is_lenient else [it._replace(read_as=None) for it in font.faults]
-        #: The codes, those first that are shown most often.
+        #: The codes, in descending order of their frequency.
         self.codes = codes
-        #: How many codes are shown.
+        #: The number of shown codes.
         self.shown = total(codes)
         self.no_text = [it for it in codes if it.character.text is None]
         self.no_cid = [it for it in codes if it.character.code.cid is None] if font.is_composite else []
         self.outside_codespace = [it for it in codes if not it.character.code.in_codespace]
-        #: How many shown codes have a text, and how many do where the faults of the ToUnicode CMap are read past.
+        #: The number of shown codes with a text, and the same number if the ToUnicode CMap is read past its faults.
         self.with_text = self.shown - total(self.no_text)
         self.with_text_past_faults = sum(it.times for it in lenient if it.character.text is not None)
         found = warnings_of(font, codes)
-        #: The warnings that concern shown codes, and the others.
+        #: The warnings that concern shown codes, and the other warnings.
         self.warnings = [it for it in found if it.shown and it.name not in OF_FORM] + self._few_texts()
         self.other_warnings = [it for it in found if not it.shown or it.name in OF_FORM]
 
     def _few_texts(self) -> List[CMapWarning]:
-        """The warning that hardly a shown code has a text."""
+        """The warning that few shown codes have a text, if it applies."""
         if self.with_text >= FEW * self.shown:
             return []
         lowest = min(it.character.code.code for it in self.no_text)
@@ -80,27 +80,28 @@ class FontReport:
 
     @property
     def sources(self) -> Dict[str, int]:
-        """How many shown codes have a text of each source."""
+        """The number of shown codes with a text from each source."""
         counts = Counter({source.value: 0 for source in Source})
         for it in self.codes:
             counts[it.character.source.value] += it.times
         return dict(counts)
 
     def lines(self) -> Iterator[str]:
-        """A line of the font, one for each fault and warning, and one for each kind of codes that lack something."""
+        """A line about the font, then a line for each fault, warning, and kind of codes that lack something."""
         number = f"font {self.font.number}"
         yield f"{self.font}: {'refused' if self.font.faults else 'ok'}; {share(self.with_text, self.shown)}"
         for fault in self.faults:
             yield f"{number}: {fault}"
         if self.with_text_past_faults != self.with_text:
-            yield f"{number}: past the faults, {share(self.with_text_past_faults, self.shown)}"
+            yield f"{number}: if ToUnicode is read past its faults, {share(self.with_text_past_faults, self.shown)}"
         for it in self.warnings:
             codes = f"{it.shown:,} shown code{'' if it.shown == 1 else 's'}, first <{it.first_shown:02X}>"
             yield f"{number}: warning: {it.of} {it.number}: {it.name}: {codes}"
         if self.other_warnings:
             names = ", ".join(dict.fromkeys(it.name for it in self.other_warnings))
-            plural = "" if len(self.other_warnings) == 1 else "s"
-            yield f"{number}: {len(self.other_warnings)} other warning{plural}, about no text that is shown: {names}"
+            count = len(self.other_warnings)
+            words = "warning, which concerns" if count == 1 else "warnings, which concern"
+            yield f"{number}: {count} other {words} no shown text: {names}"
         kinds = [("without a text", self.no_text), ("without a CID", self.no_cid)]
         for what, codes in [*kinds, ("in no codespace range", self.outside_codespace)]:
             if codes:
@@ -127,37 +128,37 @@ class FontReport:
 
 
 class Report(NamedTuple):
-    """What is known of a file."""
+    """The check of a file."""
 
     fonts: List[FontReport]
     pages: int
-    #: How many bytes are shown without a font.
+    #: The number of bytes that are shown without a font.
     without_font: int
-    #: What of the contents couldn't be read.
+    #: Messages about contents that can't be read.
     faults: List[str]
 
     @property
     def shown(self) -> int:
-        """How many codes are shown with a font."""
+        """The number of codes that are shown with a font."""
         return sum(it.shown for it in self.fonts)
 
     @property
     def with_text(self) -> int:
-        """How many of them have a text."""
+        """The number of these codes with a text."""
         return sum(it.with_text for it in self.fonts)
 
     @property
     def refused(self) -> int:
-        """How many fonts have a CMap with a fault."""
+        """The number of fonts with a fault in a CMap."""
         return sum(bool(it.font.faults) for it in self.fonts)
 
     def summary(self) -> str:
-        """How many of the shown codes have a text, and how many fonts are refused."""
+        """The share of shown codes with a text, and the number of refused fonts."""
         refused = f"; {self.refused} of {len(self.fonts)} fonts refused" if self.refused else ""
         return share(self.with_text, self.shown) + refused
 
     def lines(self) -> Iterator[str]:
-        """The lines of all fonts, then what couldn't be read, and the summary."""
+        """The lines of all fonts, then the messages about unreadable contents, then the summary."""
         for font in self.fonts:
             yield from font.lines()
         yield from self.faults
@@ -169,8 +170,8 @@ class Report(NamedTuple):
         return any(font.warnings for font in self.fonts)
 
     def has_denied(self, names: Iterable[str]) -> bool:
-        """Whether a font has a warning, or shown codes that lack something, of one of these names. "all" stands for each
-        one that concerns shown codes."""
+        """Whether a font has a warning, or shown codes that lack something, with one of these names. "all" stands for
+        each name that concerns shown codes."""
         found = {it.name for font in self.fonts for it in font.warnings}
         for name, kind in zip(OF_SHOWN_CODES, ("no_text", "no_cid", "outside_codespace")):
             if any(getattr(font, kind) for font in self.fonts):
@@ -193,12 +194,12 @@ class Report(NamedTuple):
 
 
 class Strings:
-    """The strings that are shown with a font, counted: others, and those in marked content with a text of its own."""
+    """Counts of the strings that are shown with a font, in marked content with a replacement text and elsewhere."""
 
     def __init__(self, font: Font):
         self.font = font
         self._is_composite = font.is_composite
-        # of a simple font, whose codes are single bytes, these; of a composite one whole strings
+        # the keys are single bytes for a simple font, whole strings for a composite font
         self._counts: Counter = collections.Counter()
         self._replaced: Counter = collections.Counter()
 
@@ -211,14 +212,15 @@ class Strings:
             counts.update(string)
 
     def codes(self, lenient: bool, guesses: bool) -> List[ShownCode]:
-        """The codes, those first that are shown most often. In marked content with a text of its own none lacks one."""
+        """The codes, in descending order of their frequency. In marked content with a replacement text, no code lacks a
+        text."""
         counts = self._counted(self._counts, lenient, guesses)
         for it, times in self._counted(self._replaced, lenient, guesses).items():
             counts[it._replace(text=it.text or "", source=Source.ACTUAL_TEXT)] += times
         return [ShownCode(*it) for it in counts.most_common()]
 
     def _counted(self, strings: Counter, lenient: bool, guesses: bool) -> Counter[Character]:
-        """The codes of strings, counted."""
+        """Counts of the codes of these strings."""
         counts: Counter[Character] = collections.Counter()
         of_strings = [it if self._is_composite else bytes([it]) for it in strings]
         for row, times in zip(self.font.characters_of(of_strings, lenient, guesses), strings.values()):
@@ -234,11 +236,11 @@ def check(
     deadline: Optional[Deadline] = None,
     guesses: bool = True,
 ) -> Report:
-    """The fonts of a file whose CMaps have faults, and the shown codes without a text.
+    """Checks a file: fonts that have CMaps with faults, and shown codes without a text.
 
     `progress` takes the pages and returns an iterable of them, such as a progress bar. ToUnicode CMaps are read past
-    their faults; with `lenient=False` a malformed one gives no texts, and with `guesses=False` no text is a guess.
-    Raises TooLong if the deadline is over.
+    their faults. With `lenient=False`, a malformed ToUnicode CMap gives no texts. With `guesses=False`, no text is a
+    guess. Raises TooLong if the deadline is over.
     """
     document, without_font = Document(pdf, lenient=lenient, deadline=deadline), 0
     strings: Dict[Font, Strings] = {}
@@ -255,14 +257,14 @@ def check(
 
 
 def report_of(strings: Strings, lenient: bool, guesses: bool) -> FontReport:
-    """What is known of the font with which these strings are shown."""
+    """The check of the font with which these strings are shown."""
     codes = strings.codes(lenient, guesses)
     is_other = bool(strings.font.to_unicode.faults) and not lenient
     return FontReport(strings.font, codes, strings.codes(True, guesses) if is_other else codes, lenient)
 
 
 def warnings_of(font: Font, codes: List[ShownCode]) -> List[CMapWarning]:
-    """What looks wrong in the CMaps of a font that are accepted, of which these codes are shown."""
+    """The warnings about the accepted CMaps of a font with these shown codes."""
     shown = {it.character.code.code for it in codes if it.character.source is not Source.ACTUAL_TEXT}
     found = []
     for of, read in [("Encoding", font.encoding), ("ToUnicode", font.to_unicode)]:
@@ -277,12 +279,12 @@ def warnings_of(font: Font, codes: List[ShownCode]) -> List[CMapWarning]:
 
 
 def findings_of(read: Read, is_to_unicode: bool, shown: Iterable[int]) -> List[Finding]:
-    """What looks wrong in a CMap; nothing in one that is refused."""
+    """The findings in a CMap; none if it is refused."""
     return [] if read.strict is None else read.strict.lint(read.data, to_unicode=is_to_unicode, shown=shown)
 
 
 def fault_json(fault) -> Dict[str, Any]:
-    """A fault as the command `cmap check --json` has it, with the object."""
+    """A fault in the form of `cmap check --json`, with the object."""
     return {
         "byte": fault.offset,
         "in": [name.decode("latin-1") for name in fault.names],
@@ -295,7 +297,7 @@ def fault_json(fault) -> Dict[str, Any]:
 
 
 def warning_json(it: CMapWarning) -> Dict[str, Any]:
-    """A warning as the command `cmap check --lint --json` has it, with the object and the shown codes."""
+    """A warning in the form of `cmap check --lint --json`, with the object and the shown codes."""
     first = {} if it.first is None else {"first": f"{it.first:02X}"}
     shown = {} if it.first_shown is None else {"first_shown": f"{it.first_shown:02X}"}
     counts = {"count": it.codes, "shown": it.shown}
@@ -303,25 +305,25 @@ def warning_json(it: CMapWarning) -> Dict[str, Any]:
 
 
 def total(codes: List[ShownCode]) -> int:
-    """How often these codes are shown together."""
+    """The sum of how often these codes are shown."""
     return sum(it.times for it in codes)
 
 
 def counted(codes: List[ShownCode]) -> Dict[str, int]:
-    """How often each of these codes is shown, by its digits."""
+    """How often each of these codes is shown, by its hexadecimal digits."""
     return {bytes(it.character.code).hex().upper(): it.times for it in codes}
 
 
 def some(codes: List[ShownCode]) -> str:
-    """The first of these codes, as they are printed."""
+    """The first of these codes, in printed form."""
     digits = " ".join(f"<{bytes(it.character.code).hex().upper()}>" for it in codes[:MOST_PRINTED])
     return digits + (" .." if len(codes) > MOST_PRINTED else "")
 
 
 def share(some: int, of: int) -> str:
-    """How many of the shown codes have a text."""
+    """The share of shown codes with a text, in words."""
     if of == 0:
         return "no codes are shown"
-    # never rounded up to all of them
+    # never rounded up to 100 %
     percent = min(1000 * some // of, 999 if some < of else 1000) / 10
     return f"{percent:.1f} % of {of:,} shown codes have a text"

@@ -1,4 +1,4 @@
-"""What the commands say of one PDF file. Each may run in another process, or on another machine."""
+"""The commands for a single PDF file. A command may run in another process, or on another machine."""
 
 import logging
 import shutil
@@ -15,40 +15,41 @@ from ._limits import FAILED_ALLOCATION, NO_MEMORY, SECONDS, Deadline, is_memory
 from ._paths import in_memory, is_among, opened, readable, reason_of
 from ._repair import Signed, repair, save
 
-#: What pages are handed to, and gives them again: a progress bar, or nothing.
+#: A function from pages to an iterable of the same pages, such as a progress bar.
 Progress = Callable[[Iterable[Any]], Iterable[Any]]
 
-# what it says of damaged files, and of passwords that aren't needed, would stand between the lines
+# messages of pikepdf about damaged files, and about unneeded passwords, would mix with the lines
 logging.getLogger("pikepdf").addHandler(logging.NullHandler())
 logging.getLogger("pikepdf").propagate = False
 warnings.filterwarnings("ignore", message="A password was provided", category=UserWarning)
 
 
 class Result(NamedTuple):
-    """What is said of a file."""
+    """The result of a command for a file."""
 
     path: str
-    #: 0; 1 where a font is refused, or what is denied is found; 2 where the file can't be read.
+    #: 0; 1 if a font is refused, a denied name is found, or a CMap can't be repaired; 2 if the file or its contents
+    #: can't be read, or the repaired file isn't written.
     status: int
     lines: List[str] = []
-    #: The same as values of JSON.
+    #: The lines as values of JSON.
     objects: List[Dict[str, Any]] = []
-    #: What is wrong with the file as a whole, for the standard error.
+    #: A message about the whole file, for the standard error.
     fault: Optional[str] = None
-    #: How many codes are shown, and how many of them have a text.
+    #: The number of shown codes, and the number of shown codes with a text.
     shown: int = 0
     with_text: int = 0
     #: Whether there are warnings about shown codes.
     has_warnings: bool = False
-    #: What a page for people shows of each font, where it is asked for.
+    #: The charts of the fonts, if a page is requested.
     charts: List[Dict[str, Any]] = []
 
 
 class Job(NamedTuple):
-    """A file for a command."""
+    """A command's file and options."""
 
     path: str
-    #: The file as it is opened, and as it is read.
+    #: The open file, and the PDF file that pikepdf reads from it.
     file: BinaryIO
     pdf: pikepdf.Pdf
     options: Dict[str, Any]
@@ -67,41 +68,41 @@ class Job(NamedTuple):
 
     @property
     def exact(self) -> bool:
-        """Whether texts are as the fonts give them, and not in the characters that are usually written."""
+        """Whether texts stay as the fonts give them, instead of being folded."""
         return self.options.get("exact", False)
 
     def report(self) -> Report:
-        """What is known of the file, with its fonts by the numbers of their objects."""
+        """The check of the file, with its fonts in the order of their object numbers."""
         report = check(self.pdf, self.progress, self.lenient, self.deadline, self.guesses)
         return report._replace(fonts=sorted(report.fonts, key=lambda it: it.font.number))
 
 
 def run(path: str, command: str, options: Dict[str, Any], progress: Progress = iter) -> Result:
-    """What a command says of a file, whatever the file is."""
+    """Runs a command for any file."""
     deadline, password = Deadline(options.get("seconds", SECONDS)), options.get("password") or ""
     file: Optional[BinaryIO] = None
     try:
         with opened(path) as on_disk:
             file = in_memory(on_disk)
-            # what nodes above a page give it is looked up where it is needed, and a file that is written stays as it is
+            # inherited attributes of a page are looked up when needed, so that a written file keeps its page tree
             with pikepdf.open(file, password=password, inherit_page_attributes=False) as pdf:
                 job = Job(path, file, pdf, options, lambda pages: deadline.over(progress(pages)), deadline)
                 return COMMANDS[command](job)
     except pikepdf.PasswordError:
         return unread(path, f"it can't be read {'by this' if password else 'without its'} password")
-    except Exception as fault:  # pikepdf raises many kinds over objects that are none, and the run goes on
-        # pikepdf begins with what it reads from
+    except Exception as fault:  # pikepdf raises many kinds of exceptions for malformed objects; other files go on
+        # pikepdf's message begins with the file object
         reason = reason_of(fault).replace(f"{file!r}: ", "")
         return unread(path, f"it can't be read: {NO_MEMORY if is_memory(fault) else reason}")
 
 
 def unread(path: str, fault: str) -> Result:
-    """What is said of a file that can't be read."""
+    """The result for a file that can't be read."""
     return Result(path, 2, objects=[{"ok": False, "unread": fault}], fault=fault)
 
 
 def fault_in(contents: List[str]) -> Optional[str]:
-    """What is said of contents that can't be read; None where there are none. MemoryError where memory ran out."""
+    """The message about contents that can't be read, or None. Raises MemoryError if memory ran out."""
     if any(FAILED_ALLOCATION in it for it in contents):
         raise MemoryError
     return "; ".join(contents[:3]) or None
@@ -129,8 +130,8 @@ def run_check(job: Job) -> Result:
 
 
 def charts_of(report: Report) -> List[Dict[str, Any]]:
-    """What a page for people shows of the fonts of a report."""
-    # few runs make pages
+    """The charts of the fonts of a report."""
+    # imported only if a page is made
     from . import _report
 
     return _report.charts_of(report)
@@ -164,14 +165,14 @@ def run_repair(job: Job) -> Result:
         shown, past = sum(font.shown for font in reports), sum(font.with_text_past_faults for font in reports)
         lines += [*it.lines(), f"ToUnicode {it.number}: of {shown:,} shown codes {past:,} have a text"]
         objects.append({**it.as_json(), "shown": shown, "with_text": past})
-    said = f"{written} of {len(done)} ToUnicode CMaps with faults are written anew" if done else "nothing to repair"
+    said = f"{written} of {len(done)} ToUnicode CMaps with faults are rewritten" if done else "nothing to repair"
     lines.append(said if written or not is_written else f"{said}, and {readable(output)} is a copy")
     objects.append({"output": readable(output) if is_written else None, "written": written})
     return Result(job.path, int(written < len(done)), lines, objects)
 
 
 def write_output(job: Job, output: str, written: int) -> bool:
-    """Writes the file, or a copy of it where no CMap is written anew. False where it would be a copy of itself."""
+    """Writes the file, or a copy of it if no CMap is rewritten. False if the copy would replace the file itself."""
     if written:
         save(job.pdf, output)
     elif is_among(output, [job.path]):
@@ -187,6 +188,6 @@ COMMANDS = {"check": run_check, "fonts": run_fonts, "text": run_text, "repair": 
 
 
 def results_of(paths: Iterable[str], command: str, options: Dict[str, Any]) -> Iterator[Result]:
-    """What a command says of each of these files."""
+    """The results of a command for each of these files."""
     for path in paths:
         yield run(path, command, options)

@@ -1,4 +1,4 @@
-"""Which strings the pages of a PDF file show, with which fonts, and the lines of text that they make."""
+"""The strings that pages of a PDF file show, their fonts, and the lines of text that they form."""
 
 import functools
 import itertools
@@ -23,32 +23,32 @@ from ._lines import NOTHING, Lines, gap
 from ._measured import Measure
 from ._objects import Streams, TooLarge, Undecodable, bytes_of, dictionary_at, named, object_number
 
-#: How many bytes of decoded forms are kept, for forms that are drawn again.
+#: The maximum number of bytes of decoded forms in a cache, for forms that are drawn again.
 MOST_KEPT = 1 << 24
 
-#: How many characters the lines of a page may have.
+#: The maximum number of characters in the lines of a page.
 MOST_CHARACTERS = 1 << 24
 
-#: How many faults of a file's contents are listed.
+#: The maximum number of listed faults in the contents of a file.
 MOST_FAULTS = 100
 
 
 class Shown(NamedTuple):
-    """A string that is shown."""
+    """A shown string."""
 
-    #: None where no font is chosen, or one that isn't there.
+    #: None if no font is chosen, or the chosen font doesn't exist.
     font: Optional[Font]
     string: bytes
-    #: What stands between it and the string before, by their places: nothing, a space or a line end.
+    #: The separator between it and the previous string, by their places: empty, a space or a line end.
     separator: str
 
 
 class Content:
-    """The content of pages, with the fonts that they name, each read once.
+    """The content of pages. Each font is read once.
 
-    ToUnicode CMaps are read past their faults; with `lenient=False` a malformed one gives none. With `guesses=False`
-    no text is a guess. Raises TooLong if a deadline is over while a page is read. `places` has no effect: the
-    places of strings are computed when they are needed.
+    ToUnicode CMaps are read past their faults. With `lenient=False`, a malformed ToUnicode CMap gives no texts. With
+    `guesses=False`, no text is a guess. Raises TooLong if the deadline is over while a page is read. `places` has no
+    effect: the places of strings are computed when needed.
     """
 
     def __init__(
@@ -63,14 +63,14 @@ class Content:
         self._deadline = Deadline(None) if deadline is None else deadline
         self._options = lenient, guesses
         self._streams: Streams = self._found.streams
-        #: What of the contents couldn't be read.
+        #: Messages about contents that can't be read.
         self.faults: List[str] = []
         self._forms: Dict[Tuple[int, int], bytes] = {}
         self._kept = 0
         self._measures: Dict[Optional[Font], Measure] = {}
 
     def characters(self, page: pikepdf.Page, annotations: bool = True) -> Iterator[Character]:
-        """The codes that a page shows, in the order of its content, and then those of its annotations.
+        """The codes that a page shows, in the order of its content, then the codes of its annotations.
 
         Each byte of a string without a font is a code. In marked content with a replacement text, the first code has
         this text, and the others have an empty text.
@@ -91,13 +91,13 @@ class Content:
         return piece.font.characters(piece.string, *self._options)
 
     def lines(self, page: pikepdf.Page, exact: bool = False) -> Iterator[str]:
-        """The lines of text that a page shows, in the order of its content; U+FFFD for a code without a text.
+        """The lines of text that a page shows, in the order of its content, with U+FFFD for a code without a text.
 
-        A line continues as long as strings follow each other on it, and a wide gap between two strings is a space. Text
-        from right to left comes in reading order. Lines are as `hayro_cmap.fold` gives them, unless they are `exact`.
+        A line continues as long as strings follow each other on it. A wide gap between two strings becomes a space.
+        Text from right to left is put in reading order. Lines are folded by `hayro_cmap.fold`, unless `exact` is true.
         """
         left, lines = MOST_CHARACTERS, Lines()
-        # of most strings there is no line, which then goes on
+        # most strings continue the line, and `add` returns None
         begun = map(lines.add, self.pieces(page, True, self._measure))
         for line in filter(None, itertools.chain(begun, map(Lines.end, [lines]))):
             left -= len(line)
@@ -107,20 +107,20 @@ class Content:
             yield line if exact else fold(line)
 
     def shown(self, page: pikepdf.Page, annotations: bool = True) -> Iterator[Shown]:
-        """The strings that a page shows, in the order of its content, and then those of its annotations."""
+        """The strings that a page shows, in the order of its content, then the strings of its annotations."""
         before: Optional[Piece] = None
         for piece in self.pieces(page, annotations, self._measure):
             yield Shown(piece.font, piece.string, NOTHING if before is None else gap(before, piece).separator)
             before = piece
 
     def pieces(self, page: pikepdf.Page, annotations: bool = True, measure: Any = None) -> Iterator[Piece]:
-        """The strings of a page, measured by the fonts where that is asked for."""
+        """The strings of a page. They are measured if `measure` is given."""
         yield from Interpreter(self, measure).pieces(self._of_page(page), resources_of(page.obj))
         for form in shown_appearances_of(page.obj) if annotations else ():
             yield from Interpreter(self, measure).pieces(self.of_form(form), resources_of(form), form)
 
     def _measure(self, font: Optional[Font]) -> Measure:
-        """What measures the strings of a font."""
+        """The object that measures the strings of a font."""
         if font not in self._measures:
             self._measures[font] = Measure(font, *self._options)
         return self._measures[font]
@@ -130,11 +130,11 @@ class Content:
         return self._found.of(dictionary)
 
     def check_time(self) -> None:
-        """TooLong where the deadline is over."""
+        """Raises TooLong if the deadline is over."""
         self._deadline.check()
 
     def fault(self, text: str) -> None:
-        """Notes what couldn't be read."""
+        """Adds a message about contents that can't be read."""
         if len(self.faults) < MOST_FAULTS and text not in self.faults:
             self.faults.append(text)
 
@@ -154,7 +154,7 @@ class Content:
         return self._decoded([it for it in listed if isinstance(it, pikepdf.Stream)], page.obj)
 
     def _decoded(self, streams: List[pikepdf.Stream], holder: pikepdf.Object) -> bytes:
-        """A content, which may stand in several streams."""
+        """The content in one or several streams."""
         pieces = []
         for stream in streams:
             try:
@@ -165,7 +165,7 @@ class Content:
 
 
 def shown_appearances_of(page: pikepdf.Object) -> Iterator[pikepdf.Stream]:
-    """The appearance streams that a page shows: the normal ones, in the state of their annotations."""
+    """The appearance streams that a page shows: the normal appearance in the current state of each annotation."""
     for annotation in annotations_of(page):
         it = dictionary_at(annotation, "/AP").get("/N")
         state = annotation.get("/AS")
@@ -176,7 +176,7 @@ def shown_appearances_of(page: pikepdf.Object) -> Iterator[pikepdf.Stream]:
 
 
 class Document(Content):
-    """The fonts of a PDF file, and what its pages show."""
+    """The fonts and the pages of a PDF file, and the contents of its pages."""
 
     def __init__(
         self,
@@ -193,13 +193,13 @@ class Document(Content):
 
     @functools.cached_property
     def fonts(self) -> List[Font]:
-        """The fonts, each once: of pages, forms, patterns, soft masks, Type 3 fonts, annotations and form fields."""
+        """The fonts of pages, forms, patterns, soft masks, Type 3 fonts, annotations and form fields, each once."""
         return fonts_of(self._pdf, self._found)
 
 
 def characters(page: pikepdf.Page, lenient: bool = True, guesses: bool = True) -> Iterator[Character]:
-    """The codes that a page shows, with their texts, by the options of `Document`.
+    """The codes that a page shows, with their texts. The options are the same as for `Document`.
 
-    For several pages of a file, `Document` reads its fonts once.
+    For several pages of a file, use `Document`, which reads fonts only once.
     """
     return Content(lenient=lenient, guesses=guesses).characters(page)

@@ -1,4 +1,4 @@
-"""What a font of a PDF file has for its glyphs: their names, its embedded program, and the glyphs of its CIDs."""
+"""The glyph data of a font in a PDF file: glyph names, the embedded program, and the glyphs of CIDs."""
 
 import re
 from typing import Any, Dict, List, Optional, Union
@@ -29,12 +29,12 @@ from ._objects import (
     unescaped,
 )
 
-#: An entry of Differences that is written in its place: a name, or the number of a code.
+#: A direct entry of Differences: a name or a code.
 DIRECT = re.compile(rb"/|[0-9]{1,9}\Z")
 
 
 def glyph_names(font: pikepdf.Dictionary, streams: Streams) -> Names:
-    """The names of the glyphs of a simple font: those of Differences over a base encoding (ISO 32000-1, 9.6.6)."""
+    """The glyph names of a simple font: its Differences replace names of the base encoding (ISO 32000-1, 9.6.6)."""
     encoding = font.get("/Encoding")
     if isinstance(encoding, pikepdf.Name):
         return names_of_codes(text_of(encoding), {}, lambda: built_in(font, streams))
@@ -45,15 +45,15 @@ def glyph_names(font: pikepdf.Dictionary, streams: Streams) -> Names:
 
 
 def differences_of(font: pikepdf.Dictionary) -> Dict[int, str]:
-    """The names of the glyphs of codes that Differences has (ISO 32000-1, 9.6.6.1)."""
+    """The glyph names of the codes in Differences (ISO 32000-1, 9.6.6.1)."""
     return names_of_differences(entries_of(dictionary_at(font, "/Encoding").get("/Differences")))
 
 
 def entries_of(differences: Any) -> List[Union[int, str, None]]:
-    """The codes and the names of an array Differences, and None for any other entry."""
+    """The codes and the names in an array Differences, with None for any other entry."""
     if not isinstance(differences, pikepdf.Array):
         return []
-    # to make objects of each takes longer
+    # an object for each entry would take longer
     words = differences.unparse(resolved=True).split()[1:-1]
     if all(DIRECT.match(it) for it in words):
         return [unescaped(it[1:]).decode("utf-8", "replace") if it[:1] == b"/" else int(it) for it in words]
@@ -63,12 +63,12 @@ def entries_of(differences: Any) -> List[Union[int, str, None]]:
 
 
 def is_symbolic(font: pikepdf.Dictionary) -> bool:
-    """Whether the descriptor of a font says that it has other glyphs than those of Latin text (ISO 32000-1, 9.8.2)."""
+    """Whether the descriptor has the flag for glyphs outside the standard Latin character set (ISO 32000-1, 9.8.2)."""
     return bool(integer_at(dictionary_at(font, "/FontDescriptor"), "/Flags") & SYMBOLIC)
 
 
 def built_in(font: pikepdf.Dictionary, streams: Streams) -> Names:
-    """The encoding that a font has of itself: that of its program, or of the standard font of its name."""
+    """The built-in encoding of a font, from its program, or from the standard font with its name."""
     found = None
     descriptor = font.get("/FontDescriptor")
     if isinstance(descriptor, pikepdf.Dictionary):
@@ -81,7 +81,7 @@ def built_in(font: pikepdf.Dictionary, streams: Streams) -> Names:
 
 
 def of_program(type1: Optional[pikepdf.Stream], cff: Optional[pikepdf.Stream], streams: Streams) -> Optional[Names]:
-    """The encoding of an embedded font program, or None where there is none that is known."""
+    """The encoding of an embedded font program; None if no encoding is found."""
     if type1 is not None:
         return of_type1(streams.decoded(type1))
     return None if cff is None else of_font_file(name_at(cff, "/Subtype"), lambda: streams.decoded(cff))
@@ -100,7 +100,7 @@ def program_of(font: pikepdf.Dictionary, streams: Streams, budget: Budget) -> Pr
 
 
 def glyph_map(descendant: pikepdf.Dictionary, streams: Streams) -> Optional[bytes]:
-    """The bytes of the CIDToGIDMap of a CIDFont; None where it is no stream."""
+    """The bytes of the CIDToGIDMap of a CIDFont, empty if it can't be decoded; None if it isn't a stream."""
     stream = stream_at(descendant, "/CIDToGIDMap")
     try:
         return None if stream is None else streams.decoded(stream)

@@ -31,17 +31,17 @@ from ._widths import Widths
 
 __all__ = ["Character", "Fault", "Font", "Fonts", "Read", "Source", "fonts"]
 
-#: How many fonts a file may have.
+#: The maximum number of fonts of a file.
 MOST_FONTS = 20_000
 
-#: How deep the nodes of pages are looked up for resources.
+#: The maximum number of nodes of the page tree that are searched for the resources of a page.
 MOST_NODES = 1 << 10
 
 
 class Character(NamedTuple):
-    """A code that is shown."""
+    """A shown code."""
 
-    #: None where no font is chosen, or one that isn't there.
+    #: None if no font is chosen, or the chosen font doesn't exist.
     font: Optional["Font"]
     #: The code, with its CID under the encoding of a composite font.
     code: Code
@@ -51,7 +51,7 @@ class Character(NamedTuple):
 
 
 class Font(FontMaps, FontGlyphs):
-    """A font of a PDF file. Its CMaps and its glyphs are read when they are first asked for, while the file is open."""
+    """A font of a PDF file. Its CMaps and its glyphs are read on first use, while the file is open."""
 
     def __init__(
         self, dictionary: pikepdf.Dictionary, streams: Optional[Streams] = None, budget: Optional[Budget] = None
@@ -59,10 +59,10 @@ class Font(FontMaps, FontGlyphs):
         super().__init__()
         self.dictionary = dictionary
         self._streams = Streams() if streams is None else streams
-        #: What may still be taken of the programs and the widths of the fonts of the file.
+        #: The budget for the programs and the widths of all fonts of the file.
         self.budget = Budget() if budget is None else budget
         self._characters: Dict[Tuple[bool, bool], Dict[Tuple[int, int], Character]] = {}
-        #: The numbers of its object, or None where it is written where it is used.
+        #: The object number and the generation number of its dictionary; None if it is a direct object.
         self.objgen: Optional[Tuple[int, int]] = written_as(dictionary)
         #: "Type0", "Type1", "TrueType" and so on.
         self.subtype = name_at(dictionary, "/Subtype")
@@ -76,22 +76,22 @@ class Font(FontMaps, FontGlyphs):
 
     @functools.cached_property
     def base_font(self) -> Optional[str]:
-        """The BaseFont, or else the Name, of the font."""
+        """The BaseFont of the font, or otherwise its Name."""
         return name_at(self.dictionary, "/BaseFont") or name_at(self.dictionary, "/Name")
 
     @property
     def number(self) -> int:
-        """The number of its object; 0 where it has none."""
+        """The number of its object; 0 for a direct object."""
         return self.objgen[0] if self.objgen else 0
 
     @functools.cached_property
     def _encoding_entry(self) -> Any:
-        """What the font has for its encoding, or None."""
+        """The value of the font's entry Encoding, or None."""
         return self.dictionary.get("/Encoding")
 
     @functools.cached_property
     def encoding_name(self) -> Optional[str]:
-        """The name of the encoding: of a stream the CMapName, of a dictionary the BaseEncoding."""
+        """The name of the encoding: for a stream the CMapName, for a dictionary the BaseEncoding."""
         encoding, kind = self._encoding_entry, self.encoding_kind
         if kind == "name":
             return text_of(encoding)
@@ -100,24 +100,24 @@ class Font(FontMaps, FontGlyphs):
 
     @functools.cached_property
     def encoding_kind(self) -> str:
-        """What the encoding is: "name", "stream", "dictionary" or "none"."""
+        """The type of the encoding: "name", "stream", "dictionary" or "none"."""
         kinds = [(pikepdf.Name, "name"), (pikepdf.Dictionary, "dictionary"), (pikepdf.Stream, "stream")]
         return next((name for kind, name in kinds if isinstance(self._encoding_entry, kind)), "none")
 
     @functools.cached_property
     def encoding_source(self) -> Optional[CMapSource]:
-        """Where the CMap of a composite font is read from; None where its encoding is neither a name nor a stream."""
+        """The source of the CMap of a composite font; None if the encoding is neither a name nor a stream."""
         return source_of(self._encoding_entry, self._streams)
 
     @functools.cached_property
     def to_unicode_source(self) -> Optional[CMapSource]:
-        """Where the ToUnicode CMap is read from; None where the font has no such entry."""
+        """The source of the ToUnicode CMap; None if the font has no such entry."""
         value = self.dictionary.get("/ToUnicode")
-        return None if value is None else source_of(value, self._streams) or CMapSource(unreadable="it is no stream")
+        return None if value is None else source_of(value, self._streams) or CMapSource(unreadable="it isn't a stream")
 
     @functools.cached_property
     def collection_of_cid_font(self) -> Optional[bytes]:
-        """The registry and the ordering of the CIDFont of a composite font."""
+        """The registry and the ordering of a composite font's CIDFont, joined by a hyphen, or None."""
         return None if self.descendant is None else collection_in(self.descendant.get("/CIDSystemInfo"))
 
     @property
@@ -132,7 +132,7 @@ class Font(FontMaps, FontGlyphs):
 
     @functools.cached_property
     def glyph_names(self) -> Names:
-        """The names of the glyphs of the codes 0 to 255 of a simple font; none of a composite one."""
+        """The glyph names of the codes 0 to 255 of a simple font; None for each code of a composite font."""
         try:
             return [None] * 256 if self.is_composite else glyph_names(self.dictionary, self._streams)
         except MALFORMED:
@@ -140,7 +140,7 @@ class Font(FontMaps, FontGlyphs):
 
     @functools.cached_property
     def differences(self) -> Dict[int, str]:
-        """The names of the glyphs of codes of a simple font that Differences has."""
+        """The glyph names of the codes in the array Differences."""
         try:
             return differences_of(self.dictionary)
         except MALFORMED:
@@ -164,7 +164,7 @@ class Font(FontMaps, FontGlyphs):
 
     @functools.cached_property
     def glyphs_of_cids(self) -> Optional[GlyphsOfCids]:
-        """The glyphs of the CIDs of a composite font in its embedded program."""
+        """The glyphs that the CIDs of a composite font have in its embedded program."""
         it = self.descendant
         return None if it is None else GlyphsOfCids(self.program, glyph_map(it, self._streams))
 
@@ -174,14 +174,14 @@ class Font(FontMaps, FontGlyphs):
         return Widths.of(self)
 
     def characters(self, string: bytes, lenient: bool = True, guesses: bool = True) -> List[Character]:
-        """The codes of a string that is shown with the font, with their texts.
+        """The codes of a string in this font, with their texts.
 
-        With `lenient`, ToUnicode CMaps are read past their faults. Without `guesses`, a guessed text is None.
+        With `lenient`, the ToUnicode CMap is read past its faults. Without `guesses`, a guessed text is None.
         """
         return self._found(self._kept_extractor(lenient).characters(string), lenient, guesses)
 
     def rows(self, string: bytes, lenient: bool, guesses: bool) -> List[Row]:
-        """What `characters` gives, with less of each code. Nothing is kept: it is for codes that are looked up once."""
+        """The same as `characters`, with fewer fields of each code and no cache, for codes that are looked up once."""
         rows = self._kept_extractor(lenient)._rows(string)
         return [
             row if row[3] is not None else (*row[:3], text_and_source(self, self, row, lenient, guesses)[0])
@@ -191,12 +191,12 @@ class Font(FontMaps, FontGlyphs):
     def characters_of(
         self, strings: Iterable[bytes], lenient: bool = True, guesses: bool = True
     ) -> List[List[Character]]:
-        """The `characters` of each of many strings, in less time than by a call for each."""
+        """The `characters` of each string. A single call for many strings takes less time."""
         rows = self._kept_extractor(lenient).characters_of(strings)
         return [self._found(row, lenient, guesses) for row in rows]
 
     def _found(self, characters: Iterable[Tuple[Code, Optional[str]]], lenient: bool, guesses: bool) -> List[Character]:
-        """The characters of the font for those of its extractor, each made once."""
+        """The characters of the font for the characters of its extractor. Each is made once."""
         known = self._characters.setdefault((lenient, guesses), {})
         found = []
         for code, text in characters:
@@ -210,11 +210,11 @@ class Font(FontMaps, FontGlyphs):
 
     @property
     def faults(self) -> List[Fault]:
-        """Those of its encoding, then those of its ToUnicode CMap."""
+        """The faults of its encoding, then the faults of its ToUnicode CMap."""
         return self.encoding.faults + self.to_unicode.faults
 
     def as_json(self) -> Dict[str, Any]:
-        """What is known of the font, as values of JSON."""
+        """The font's properties as values of JSON."""
         encoding, to_unicode = self._encoding_entry, self.dictionary.get("/ToUnicode")
         base = encoding.get("/UseCMap") if isinstance(encoding, pikepdf.Stream) else None
         return {
@@ -243,13 +243,13 @@ class Font(FontMaps, FontGlyphs):
 
 
 def written_as(value: pikepdf.Object) -> Optional[Tuple[int, int]]:
-    """The numbers of an indirect object; None of one that is written where it is used."""
+    """The object number and the generation number of an indirect object; None for a direct object."""
     numbers = value.objgen
     return numbers if numbers[0] else None
 
 
 def source_of(value: Any, streams: Streams, over: Tuple = ()) -> Optional[CMapSource]:
-    """Where a CMap is read from, a stream or a name; `over` are the streams that are based on it."""
+    """The source of a CMap in a stream or with a name; otherwise None. `over` has the streams that are based on it."""
     if not isinstance(value, pikepdf.Stream):
         return CMapSource(bytes_of(value)) if isinstance(value, pikepdf.Name) else None
     number = object_number(value)
@@ -261,14 +261,15 @@ def source_of(value: Any, streams: Streams, over: Tuple = ()) -> Optional[CMapSo
 
 
 def base_of(stream: pikepdf.Stream, streams: Streams, over: Tuple) -> Optional[CMapSource]:
-    """What a stream is based on, by its entry UseCMap (ISO 32000-1, 9.7.5.3); nothing in a circle."""
+    """The source of a stream's base, from its entry UseCMap (ISO 32000-1, 9.7.5.3). None without such an entry, in a
+    cycle, or in a chain that is too long."""
     base = stream["/UseCMap"] if "/UseCMap" in stream else None
     is_repeated = isinstance(base, pikepdf.Stream) and (base.objgen in over or len(over) >= MOST_IN_CHAIN)
     return None if base is None or is_repeated else source_of(base, streams, over)
 
 
 def collection_in(info: Any) -> Optional[bytes]:
-    """The registry and the ordering of a CIDSystemInfo."""
+    """The registry and the ordering of a CIDSystemInfo, joined by a hyphen, or None."""
     if not isinstance(info, pikepdf.Dictionary):
         return None
     texts = [info.get(key) for key in ("/Registry", "/Ordering")]
@@ -276,7 +277,8 @@ def collection_in(info: Any) -> Optional[bytes]:
 
 
 class Fonts:
-    """The fonts of a file, each once: one that is an object by its number, any other by what is written."""
+    """The fonts of a file, each once. Indirect objects are identified by their numbers, direct objects by their
+    contents."""
 
     def __init__(self, streams: Optional[Streams] = None):
         self.streams = Streams() if streams is None else streams
@@ -284,7 +286,7 @@ class Fonts:
         self.found: Dict[Any, Font] = {}
 
     def of(self, value: Any) -> Optional[Font]:
-        """The font of a dictionary; None where it is none."""
+        """The font with a dictionary; None if the value isn't a dictionary."""
         if not isinstance(value, pikepdf.Dictionary):
             return None
         key = written_as(value) or value.unparse()
@@ -323,7 +325,7 @@ def font_of_state(state: pikepdf.Dictionary) -> Optional[pikepdf.Object]:
 
 
 def resources_of(holder: pikepdf.Object) -> pikepdf.Dictionary:
-    """The resources of a page, a form or a Type 3 font: its own, or of a page those of a node above it."""
+    """The resources of a page, a form or a Type 3 font. A page may inherit them from a node above it."""
     for _ in range(MOST_NODES):
         if not isinstance(holder, (pikepdf.Dictionary, pikepdf.Stream)):
             break
@@ -337,7 +339,7 @@ def resources_of(holder: pikepdf.Object) -> pikepdf.Dictionary:
 
 
 def pages_of(pdf: pikepdf.Pdf) -> List[pikepdf.Page]:
-    """The pages of a file, without what stands in the place of one and is none."""
+    """The pages of a file. Objects in place of a page that aren't dictionaries are left out."""
     return [page for page in pdf.pages if isinstance(page.obj, pikepdf.Dictionary)]
 
 
@@ -357,14 +359,13 @@ def appearances_of(page: pikepdf.Object) -> Iterator[pikepdf.Stream]:
 
 
 def fonts_of(pdf: pikepdf.Pdf, found: Fonts) -> List[Font]:
-    """The fonts of a file, each once: those of pages, forms, patterns, soft masks, Type 3 fonts, annotations and form
-    fields."""
+    """The same as `fonts`, with the given cache."""
     holders = [form for page in pages_of(pdf) for form in (*appearances_of(page.obj), page.obj)]
     fields = dictionary_at(dictionary_at(pdf.Root, "/AcroForm"), "/DR")
     return found.walk([pikepdf.Dictionary(Resources=fields), *reversed(holders)])
 
 
 def fonts(pdf: pikepdf.Pdf) -> List[Font]:
-    """The fonts of a file, each once: those of pages, forms, patterns, soft masks, Type 3 fonts, annotations and form
-    fields."""
+    """The fonts of pages, forms, patterns, soft masks, Type 3 fonts, annotations and form fields of a file, each
+    once."""
     return fonts_of(pdf, Fonts())

@@ -1,4 +1,4 @@
-"""Goes through the content of a page, and gives the strings that it shows, each with its font and its place."""
+"""An interpreter for the content of a page: it finds the shown strings, each with its font and its place."""
 
 import collections
 import math
@@ -24,51 +24,53 @@ from ._measured import Measure, Measured
 from ._objects import dictionary_at, name_at, named, object_number
 from ._scan import Operand, Operator, actual_text, elements_of, last_name, last_string, numbers_in, operators
 
-#: How many operators that text may depend on one page may have, with those of its forms, each as often as it is drawn.
+#: The maximum number of operators of a page that text may depend on. The operators of a form count each time that the
+#: form is drawn.
 MOST_STEPS = 5_000_000
 
-#: After how many of them the time is looked at.
+#: The number of operators between two checks of the time.
 STEPS_OF_CHECK = 1 << 10
 
-#: How many operators and operands are read before they are run, so that the codes of a font are looked up together.
+#: The number of operators and operands that are read ahead, so that the codes of a font are looked up together.
 AHEAD = 1 << 8
 
-#: How many graphics states are kept at a time.
+#: The maximum number of saved graphics states.
 MOST_SAVED = 1 << 12
 
-#: How many names of resources are kept of a content, with what they name.
+#: The number of named resources in the cache of a content.
 MOST_NAMES = 1 << 16
 
-#: How deep forms may draw each other.
+#: The maximum depth of forms that draw each other.
 MOST_NESTED = 64
 
 #: The six numbers of a matrix (ISO 32000-1, 8.3.4).
 Matrix = Tuple[float, float, float, float, float, float]
 IDENTITY: Matrix = (1.0, 0.0, 0.0, 1.0, 0.0, 0.0)
 
-#: How wide a gap between two codes is a blank, in sizes of the font. Lines that TeX justifies have blanks of 0.16.
+#: The minimum width of a gap between two codes that becomes a blank, in font sizes. Lines that TeX justifies have
+#: blanks of 0.16.
 WIDE = 0.16
 BLANK = " "
 
-#: The unit of widths and of the numbers of TJ, in sizes of the font.
+#: The unit of widths and of numbers in TJ, in font sizes.
 THOUSANDTH = 0.001
 
 
 class Span(NamedTuple):
-    """Marked content with a text of its own (ISO 32000-1, 14.9.4), within so many marks."""
+    """Marked content with a replacement text (ISO 32000-1, 14.9.4), and its nesting depth."""
 
     text: str
     depth: int
 
 
 class Place(NamedTuple):
-    """Where a string is shown on a page: from the origin of its first code to the end of its last one."""
+    """The place of a string on a page: from the origin of its first code to the end of its last code."""
 
     x: float
     y: float
     end_x: float
     end_y: float
-    #: The direction of its line, of length 1.
+    #: The direction of its line, as a vector of length 1.
     along_x: float
     along_y: float
     #: The size of its font.
@@ -76,22 +78,23 @@ class Place(NamedTuple):
 
 
 class Piece(NamedTuple):
-    """A string that is shown."""
+    """A shown string."""
 
-    #: None where no font is chosen, or one that isn't there.
+    #: None if no font is chosen, or the chosen font doesn't exist.
     font: Optional[Font]
     string: bytes
-    #: The marked content with a text of its own in which it stands.
+    #: The marked content with a replacement text that contains it, or None.
     span: Optional[Span]
-    #: The texts of its codes, whether one is written from right to left, and where it is; only where strings are
-    #: measured. None stands for the place of a string without an extent.
+    #: The texts of its codes, whether a text is written from right to left, and its place. They are set only if strings
+    #: are measured. A string without an extent has no place.
     texts: Sequence[str] = ()
     is_right_to_left: bool = False
     place: Optional[Place] = None
 
 
 class State:
-    """What `q` keeps and `Q` brings back: the matrix of the user space, and how text is shown (ISO 32000-1, 9.3)."""
+    """The state that `q` saves and `Q` restores: the matrix of the user space, and the text state (ISO 32000-1,
+    9.3)."""
 
     __slots__ = ("matrix", "font", "size", "char_space", "word_space", "scale", "leading", "rise")
 
@@ -100,13 +103,13 @@ class State:
         self.char_space, self.word_space, self.scale, self.leading, self.rise = others or (0.0, 0.0, 1.0, 0.0, 0.0)
 
     def copy(self) -> "State":
-        """Another one that is the same."""
+        """An equal state."""
         spaces = self.char_space, self.word_space, self.scale, self.leading, self.rise
         return State(self.matrix, self.font, self.size, *spaces)
 
 
 class Level:
-    """A content that is gone through, of the page or of a form, and what was there before it."""
+    """A content in progress, of the page or of a form, and the state before it."""
 
     def __init__(self, data: bytes, resources: pikepdf.Dictionary, form: Optional[pikepdf.Stream], run: "Interpreter"):
         self.operators = operators(data)
@@ -118,7 +121,7 @@ class Level:
         self._found: Dict[Tuple[str, bytes], Any] = {}
 
     def named(self, kind: str, name: bytes, taken: Callable[[Any], Any] = lambda it: it) -> Any:
-        """What is taken of the resource of a name: always the same of a kind, so that it is kept."""
+        """The result of `taken` for the resource with a name. A cache has one result for each kind and name."""
         if (kind, name) not in self._found:
             if kind not in self._kinds:
                 self._kinds[kind] = dictionary_at(self.resources, kind)
@@ -129,7 +132,7 @@ class Level:
 
 
 class TextMatrix:
-    """Where the next code is shown: the matrix of the line, and how far text has gone from its origin (9.4.2)."""
+    """The place of the next code: the matrix of the line, and the distance from its origin (ISO 32000-1, 9.4.2)."""
 
     __slots__ = ("line", "along", "down")
 
@@ -137,15 +140,15 @@ class TextMatrix:
         self.line, self.along, self.down = line, 0.0, 0.0
 
     def moved(self, x: float, y: float) -> "TextMatrix":
-        """The one of a line whose origin is moved."""
+        """The matrix of a line with a moved origin."""
         a, b, c, d, e, f = self.line
         return TextMatrix((a, b, c, d, x * a + y * c + e, x * b + y * d + f))
 
 
 class Interpreter:
-    """How the content of a page, or of an appearance of an annotation, is gone through.
+    """Runs the content of a page, or of an appearance of an annotation.
 
-    `content` reads streams and fonts, and takes faults. With `measure` the strings of fonts are measured.
+    `content` reads streams and fonts, and collects faults. With `measure`, strings are measured.
     """
 
     def __init__(self, content: Any, measure: Optional[Callable[[Optional[Font]], Measure]] = None):
@@ -154,7 +157,7 @@ class Interpreter:
         self._levels: List[Level] = []
         self.state = State(IDENTITY)
         self.saved: List[State] = []
-        #: How many states weren't kept, since there were too many.
+        #: The number of states that weren't saved, since there were too many.
         self.unsaved = 0
         self.text = TextMatrix()
         self.span: Optional[Span] = None
@@ -163,7 +166,7 @@ class Interpreter:
     def pieces(
         self, data: bytes, resources: pikepdf.Dictionary, form: Optional[pikepdf.Stream] = None
     ) -> Iterator[Piece]:
-        """The strings that a content with these resources shows, in its order."""
+        """The strings that a content with these resources shows, in the order of the content."""
         self._enter(data, resources, form)
         while self._levels:
             level = self._levels[-1]
@@ -186,7 +189,7 @@ class Interpreter:
                 self._leave()
 
     def _enter(self, data: bytes, resources: pikepdf.Dictionary, form: Optional[pikepdf.Stream]) -> None:
-        """Begins a content."""
+        """Starts a content."""
         level = Level(data, resources, form, self)
         if self._measure is not None:
             level.operators = self._looked_ahead(level, level.operators)
@@ -196,13 +199,15 @@ class Interpreter:
             self.state.matrix = product(matrix_of(form), self.state.matrix)
 
     def _looked_ahead(self, level: Level, found: Iterator[Operator]) -> Iterator[Operator]:
-        """The operators of a content, some of which are read ahead: their codes are looked up together."""
+        """The operators of a content. They are read ahead in batches, and the codes of a batch are looked up
+        together."""
         for batch in batches(found):
             self._look_up(level, batch)
             yield from batch
 
     def _look_up(self, level: Level, batch: List[Operator]) -> None:
-        """Looks up the codes that operators show. One that is shown after `Q` or `gs` may be looked up for nothing."""
+        """Looks up the codes that operators show. After `Q` or `gs`, the lookup may use the wrong font, to no
+        effect."""
         font = self.state.font
         strings: DefaultDict[Optional[Font], List[bytes]] = collections.defaultdict(list)
         for name, _, operands in batch:
@@ -216,7 +221,7 @@ class Interpreter:
             self._measure(font).look_up(of_font)
 
     def _leave(self) -> None:
-        """Goes on with the content that drew a form."""
+        """Returns to the content that drew a form."""
         level = self._levels.pop()
         self.state, self.text, self.span, self.marks = level.state, level.text, level.span, level.marks
         del self.saved[level.saved :]
@@ -240,19 +245,20 @@ class Interpreter:
             self.state.matrix = product(matrix, self.state.matrix)
 
     def _choose_state(self, _: bytes, operands: List[Operand]) -> None:
-        """Takes the font that a graphics state chooses (ISO 32000-1, 8.4.5)."""
+        """Sets the font that a graphics state chooses (ISO 32000-1, 8.4.5)."""
         chosen = self._levels[-1].named("/ExtGState", last_name(operands), self._font_of_state)
         if chosen is not None:
             self.state.font, self.state.size = chosen
 
     def _font_of_state(self, state: Any) -> Optional[Tuple[Optional[Font], float]]:
-        """The font and the size that a graphics state chooses; None where it chooses none."""
+        """The font and the size that a graphics state chooses; None if it chooses no font."""
         pair = state.get("/Font") if isinstance(state, pikepdf.Dictionary) else None
         is_pair = isinstance(pair, pikepdf.Array) and len(pair) == 2
         return (self._content.font(pair[0]), number_of(pair[1])) if is_pair else None
 
     def _draw(self, _: bytes, operands: List[Operand]) -> None:
-        """Begins a form, which has the font that is chosen, and without resources those of what draws it."""
+        """Starts a form. It inherits the chosen font. Without its own resources, it uses the resources of its
+        parent."""
         level = self._levels[-1]
         form = level.named("/XObject", last_name(operands))
         if not isinstance(form, pikepdf.Stream) or name_at(form, "/Subtype") != "Form":
@@ -306,14 +312,14 @@ class Interpreter:
         self.state.rise = last_in(numbers)
 
     def _begin_mark(self, _: bytes, operands: List[Operand]) -> None:
-        """Counts marked content, which may have a text of its own."""
+        """Counts marked content, which may have a replacement text."""
         self.marks += 1
         if self.span is None and operands:
             text = self._text_of_mark(operands)
             self.span = None if text is None else Span(text, self.marks)
 
     def _text_of_mark(self, operands: List[Operand]) -> Optional[str]:
-        """The text of marked content: of the dictionary that stands there, or of one that the resources name."""
+        """The replacement text of marked content, from a direct dictionary, or from a dictionary in the resources."""
         text = actual_text(operands)
         if text is not None or len(operands) != 2:
             return text
@@ -345,7 +351,7 @@ class Interpreter:
         return self._show_on_next_line(numbers, operands)
 
     def _shown(self, elements: List[Union[bytes, float]]) -> List[Piece]:
-        """The strings of these elements, of which numbers move the next string."""
+        """The strings of these elements. Numbers move the next string."""
         font, span = self.state.font, self.span
         if self._measure is None:
             return [Piece(font, it, span) for it in elements if isinstance(it, bytes)]
@@ -367,7 +373,7 @@ class Interpreter:
 
 
 class Frame:
-    """The space in which the strings of one operator are shown."""
+    """The coordinate system in which an operator shows its strings."""
 
     def __init__(self, state: State, text: TextMatrix, is_vertical: bool):
         a, b, c, d, e, f = text.line if state.matrix is IDENTITY else product(text.line, state.matrix)
@@ -382,7 +388,7 @@ class Frame:
         self._x, self._y, self._unit_x, self._unit_y = e + rise * c, f + rise * d, unit_x, unit_y
         self._em = state.size * THOUSANDTH * unit
         self._char_space, self._word_space = state.char_space * unit, state.word_space * unit
-        #: Whether codes have a wide space between them.
+        #: Whether the character spacing is as wide as a blank.
         self.is_wide = state.char_space > WIDE * state.size
         length = math.hypot(unit_x, unit_y)
         sign = math.copysign(1.0, state.size * unit) * (-1.0 if is_vertical else 1.0)
@@ -390,7 +396,7 @@ class Frame:
         self._along = (sign * unit_x / length, sign * unit_y / length) if length > 0 else None
 
     def move(self, number: float) -> None:
-        """Moves the next string back by thousandths of the size of the font."""
+        """Moves the next string back by thousandths of the font size."""
         self._gone -= number * self._em
 
     def show(self, string: Measured) -> Optional[Place]:
@@ -414,19 +420,19 @@ class Frame:
         )
 
     def is_spaced(self, string: Measured) -> bool:
-        """Whether a string is the last letter of a word and the first one of another: two codes with a wide space
-        between them. More codes are letters that are spaced out."""
+        """Whether a string is the last letter of a word and the first letter of the next: two codes with wide spacing.
+        In a longer string, the letters of a word are spaced out."""
         return self.is_wide and len(string.texts) == 2
 
     def leave(self, text: TextMatrix) -> None:
-        """Lets the text go on after these strings."""
+        """Moves the text position to the end of these strings."""
         if self._is_vertical:
             text.down = self._gone
         else:
             text.along = self._gone
 
 
-#: What is done for each operator.
+#: The methods for the operators.
 ACTIONS: Dict[bytes, Callable[[Interpreter, bytes, List[Operand]], Optional[List[Piece]]]] = {
     b"TJ": Interpreter._show_elements,
     b"Tj": Interpreter._show,
@@ -454,12 +460,12 @@ ACTIONS: Dict[bytes, Callable[[Interpreter, bytes, List[Operand]], Optional[List
 }
 
 
-#: The operators that show one string.
+#: The operators that show a single string.
 SHOWN = (b"Tj", b"'", b'"')
 
 
 def batches(operators: Iterable[Operator]) -> Iterator[List[Operator]]:
-    """The same operators, some at a time, without many operands."""
+    """The same operators in batches with a limited number of operands."""
     batch: List[Operator] = []
     size = 0
     for operator in operators:
@@ -472,7 +478,7 @@ def batches(operators: Iterable[Operator]) -> Iterator[List[Operator]]:
 
 
 def product(first: Sequence[float], second: Matrix) -> Matrix:
-    """The matrix that is applied as the first one and then the second one (ISO 32000-1, 8.3.4)."""
+    """The matrix that applies the first matrix, then the second (ISO 32000-1, 8.3.4)."""
     a, b, c, d, e, f = first
     g, h, i, j, k, l = second
     return a * g + b * i, a * h + b * j, c * g + d * i, c * h + d * j, e * g + f * i + k, e * h + f * j + l
@@ -494,7 +500,7 @@ def number_of(value: Any) -> float:
 
 
 def pair_in(numbers: bytes) -> Tuple[float, float]:
-    """The last two numbers; 0 for missing ones."""
+    """The last two numbers, with 0 for a missing number."""
     found = numbers_in(numbers)
     if len(found) != 2:
         found = [0.0, 0.0, *found][-2:]
@@ -502,6 +508,6 @@ def pair_in(numbers: bytes) -> Tuple[float, float]:
 
 
 def last_in(numbers: bytes) -> float:
-    """The last number; 0 where there is none."""
+    """The last number; 0 if there is no number."""
     found = numbers_in(numbers)
     return found[-1] if found else 0.0

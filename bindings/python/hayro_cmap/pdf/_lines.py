@@ -1,8 +1,8 @@
-"""Lines and words of the strings that a page shows, by where they are shown.
+"""Lines and words from the places of the strings that a page shows.
 
-The order is that of the content. Strings are on one line as long as the next one begins near the line of the one
-before, and a gap between two that is wide for their size is a space. Text from right to left that is shown from left to
-right is turned round.
+Strings stay in the order of the content. A string continues the line if it begins near the line of the previous string.
+A gap between two strings that is wide for their size becomes a space. Text from right to left that is shown from left
+to right is reversed.
 """
 
 import enum
@@ -12,25 +12,25 @@ from typing import Iterable, Iterator, List, NamedTuple, Optional, Sequence, Tup
 from ._interpreter import BLANK, WIDE, Piece, Place
 from ._measured import is_right_to_left
 
-#: How far from the line a string may begin that is on it, as one that is raised, in sizes of the smaller font.
+#: The maximum distance from the line for a string on the line, such as a raised string, in sizes of the smaller font.
 RAISED = 0.7
 
-#: How far back a string may begin that goes on with the one before, as an accent does, in sizes of the font.
+#: The maximum distance back for a string that continues the line, such as an accent, in sizes of the larger font.
 BACK = 0.5
 
-#: How far apart strings may be that are shown one after another from right to left.
+#: The maximum gap between consecutive strings from right to left, in sizes of the larger font.
 FAR = 3.0
 
-#: By how much two directions may differ that are taken as one: the cosine of the angle between them.
+#: Directions count as equal if the cosine of the angle between them is at least this.
 SAME_DIRECTION = 0.95
 
-#: How far a character is below the one before in vertical text that is shown with a font for horizontal text.
+#: The distance between characters of vertical text in a font for horizontal text, in sizes of the larger font.
 BELOW = (0.9, 1.15)
 
-#: How far before the end of an accent, or of a letter, the other one begins that is shown over it.
+#: The distance between the end of an accent or a letter and the start of its counterpart, in sizes of the smaller font.
 OVER = (0.15, 1.0)
 
-#: Accents that take a place of their own, and the marks that are combined with letters.
+#: Spacing accents, and the combining marks that replace them.
 COMBINING = {
     "`": "\u0300",
     "\u00b4": "\u0301",
@@ -49,22 +49,22 @@ COMBINING = {
     "\u02db": "\u0328",
 }
 
-#: Letters under an accent, and what they are without.
+#: Dotless letters, which accents use, and the usual letters.
 DOTLESS = {"\u0131": "i", "\u0237": "j"}
 
-#: What ends a sentence or a part of one.
+#: Punctuation at the end of a sentence or a clause.
 ENDS = ".,:;!?\u060c\u061b\u061f\u06d4"
 
-#: What stands between strings.
+#: Separators between strings.
 NOTHING, LINE_END = "", "\n"
 
-#: How a text is written: from right to left, from left to right, as a number, which is so also within text from right to
-#: left, or as the texts around it.
+#: The direction of a text: from right to left, from left to right, a number (from left to right also within text from
+#: right to left), or the direction of the texts around it.
 RIGHT, LEFT, NUMBER, NEUTRAL = "right", "left", "number", "neutral"
 
 
 class Flow(enum.Enum):
-    """How a string goes on with the one before on its line: after it, left of it, or elsewhere."""
+    """The position of a string relative to the previous string on its line: after it, left of it, or elsewhere."""
 
     AFTER = "after"
     LEFT = "left"
@@ -72,18 +72,18 @@ class Flow(enum.Enum):
 
 
 class Gap(NamedTuple):
-    """What is between two strings."""
+    """The gap between two strings."""
 
     separator: str
     flow: Flow = Flow.AFTER
 
 
-#: What most gaps are.
+#: The most frequent gaps.
 NO_GAP, BLANK_GAP, END = Gap(NOTHING), Gap(BLANK), Gap(LINE_END)
 
 
 def gap(before: Piece, piece: Piece, flow: Flow = Flow.AFTER) -> Gap:
-    """What is between a string and the one that is shown after it; `flow` is how the first one went on."""
+    """The gap between a string and the next string. `flow` is the position of the first string."""
     first, second = before.place, piece.place
     if first is None or second is None:
         return NO_GAP
@@ -105,15 +105,15 @@ def gap(before: Piece, piece: Piece, flow: Flow = Flow.AFTER) -> Gap:
 
 
 def distance(line: Place, x: float, y: float, other_x: float, other_y: float) -> Tuple[float, float]:
-    """How far another point is from a point, along a line and across it."""
+    """The distance of another point from a point, along a line and across it."""
     right, up = other_x - x, other_y - y
     return right * line.along_x + up * line.along_y, up * line.along_x - right * line.along_y
 
 
 def is_mark_on(before: Piece, piece: Piece) -> bool:
-    """Whether a string has nothing but marks that are combined with a letter, shown near the string before."""
+    """Whether a string has only combining marks, and is shown near the previous string."""
     first, second, text = before.place, piece.place, text_of(piece)
-    # no ASCII character is one
+    # no ASCII character is a combining mark
     if text.isascii() or first is None or second is None or not all(map(unicodedata.combining, text)):
         return False
     along, across = distance(first, first.end_x, first.end_y, second.x, second.y)
@@ -121,7 +121,7 @@ def is_mark_on(before: Piece, piece: Piece) -> bool:
 
 
 def overlaps(before: Piece, piece: Piece) -> bool:
-    """Whether a string begins above the last code of the one before."""
+    """Whether a string begins above the last code of the previous string."""
     first, second = before.place, piece.place
     if first is None or second is None:
         return False
@@ -131,7 +131,7 @@ def overlaps(before: Piece, piece: Piece) -> bool:
 
 
 def is_below(before: Piece, piece: Piece) -> bool:
-    """Whether two characters as wide as high stand one below the other, as in vertical text."""
+    """Whether two wide characters are shown one below the other, as in vertical text."""
     first, second = before.place, piece.place
     if first is None or second is None or len(before.texts) != 1 or len(piece.texts) != 1:
         return False
@@ -146,7 +146,7 @@ def is_below(before: Piece, piece: Piece) -> bool:
 
 
 def is_wide(text: str) -> bool:
-    """Whether a text begins with a character that is as wide as high (Unicode Standard Annex 11)."""
+    """Whether a text begins with a wide or fullwidth character (Unicode Standard Annex 11)."""
     return unicodedata.east_asian_width(text[:1] or " ") in "WF"
 
 
@@ -156,14 +156,14 @@ def text_of(piece: Piece) -> str:
 
 
 class Part(NamedTuple):
-    """What a line has of a string."""
+    """A string in a line: the gap before it, and its texts."""
 
     gap: Gap
     texts: Sequence[str]
 
 
 class Lines:
-    """Takes strings one after another, and gives the lines that they make."""
+    """Takes strings in order, and returns the lines that they form."""
 
     def __init__(self) -> None:
         self._before: Optional[Piece] = None
@@ -171,21 +171,21 @@ class Lines:
         self._has_right_to_left = False
 
     def add(self, piece: Piece) -> Optional[str]:
-        """Takes a string, and gives the line before it if it begins another one."""
+        """Takes a string. Returns the finished line if the string begins a new line."""
         before, line = self._before, None
         if not piece.texts:
-            # a string without codes is nowhere
+            # a string without codes has no place
             return None
         if before is None:
             self._put(NO_GAP, piece)
         elif piece.span is not None and piece.span is before.span:
-            # its text stands there already
+            # the line already has the replacement text
             self._before = piece
         else:
             found = gap(before, piece, self._parts[-1].gap.flow)
             if is_mark_on(before, piece):
                 self._put(found._replace(separator=NOTHING), piece)
-                # the next string goes on with the one before the mark
+                # the next string continues the string before the mark
                 self._before = before
             elif self._accents(before, piece):
                 self._before = piece
@@ -195,15 +195,15 @@ class Lines:
         return line
 
     def _put(self, found: Gap, piece: Piece) -> None:
-        """Puts a string to the end of the line."""
+        """Appends a string to the line."""
         texts = piece.texts if piece.span is None else [piece.span.text]
         self._parts.append(Part(found, texts))
         self._has_right_to_left |= piece.is_right_to_left or piece.span is not None and is_right_to_left(texts[0])
         self._before = piece
 
     def _accents(self, before: Piece, piece: Piece) -> bool:
-        """Puts a string to the end of the line that begins above an accent, or is one above a letter, with the letter
-        that has the accent. False where that isn't so."""
+        """Appends a string that combines with the end of the line: an accent and a letter become the accented letter.
+        False if they don't combine."""
         last = self._parts[-1]
         if piece.span is not None or not last.texts:
             return False
@@ -217,7 +217,7 @@ class Lines:
         return False
 
     def end(self) -> Optional[str]:
-        """The line that the strings so far make; None where it is blank."""
+        """Ends the line, and returns it; None if it is blank."""
         parts, self._parts, self._before = self._parts, [], None
         is_turned, self._has_right_to_left = self._has_right_to_left, False
         line = "".join(turned(parts) if is_turned else units_of(parts))
@@ -225,7 +225,7 @@ class Lines:
 
 
 def units_of(parts: Iterable[Part]) -> Iterator[str]:
-    """The texts of the codes of a line, with a blank for a gap that isn't beside one."""
+    """The texts of the codes of a line. A wide gap gives a blank, unless it is next to a blank."""
     last = BLANK
     for (separator, _), texts in parts:
         if separator == BLANK and last[-1:] != BLANK and next(iter(texts), "")[:1] != BLANK:
@@ -235,9 +235,10 @@ def units_of(parts: Iterable[Part]) -> Iterator[str]:
 
 
 def turned(parts: List[Part]) -> Iterator[str]:
-    """The texts of a line with text from right to left, in the order in which they are read.
+    """The texts of a line with text from right to left, in reading order.
 
-    Strings that are shown one left of the other stand in this order; what is shown from left to right is turned round.
+    Strings that are shown from right to left already have this order. Strings that are shown from left to right are
+    reversed.
     """
     starts = [index for index, part in enumerate(parts) if part.gap.flow is not Flow.AFTER]
     rows = [list(units_of(parts[start:end])) for start, end in zip([0, *starts], [*starts, len(parts)])]
@@ -254,8 +255,8 @@ def turned(parts: List[Part]) -> Iterator[str]:
 
 
 def is_from_right_to_left(units: List[str]) -> bool:
-    """Whether a line is read from right to left, whose texts are shown in this order: whether more texts are so. But no
-    line begins with what ends a sentence."""
+    """Whether a line with these texts, as shown, is read from right to left. The more frequent direction decides,
+    unless the punctuation at the end of a sentence shows the direction."""
     for end, is_base in [(units[:1], True), (units[-1:], False)]:
         if end and end[0] in ENDS:
             return is_base
@@ -264,8 +265,8 @@ def is_from_right_to_left(units: List[str]) -> bool:
 
 
 def turned_round(units: List[str]) -> List[str]:
-    """Texts that are shown from left to right and read from right to left, as they are read: the last one first, but
-    those that are written from left to right in their order."""
+    """Texts in reading order that are shown from left to right and read from right to left: the last text comes first,
+    but texts that are written from left to right keep their order."""
     found = units[::-1]
     for run in runs(found, (LEFT, NUMBER), RIGHT):
         found[run] = found[run][::-1]
@@ -273,7 +274,7 @@ def turned_round(units: List[str]) -> List[str]:
 
 
 def runs(units: Sequence[str], kinds: Sequence[str], other: str) -> List[slice]:
-    """Where texts of these kinds stand, each as far as none of the other kind comes between."""
+    """The slices with texts of these kinds, each as long as no text of the other kind interrupts it."""
     found: List[slice] = []
     is_open = False
     for index, kind in enumerate(map(class_of, units)):
@@ -286,7 +287,7 @@ def runs(units: Sequence[str], kinds: Sequence[str], other: str) -> List[slice]:
 
 
 def class_of(text: str) -> str:
-    """How a text is written (Unicode Standard Annex 9, 3.2)."""
+    """The direction of a text (Unicode Standard Annex 9, 3.2)."""
     classes = set(map(unicodedata.bidirectional, text))
     if classes & {"R", "AL"}:
         return RIGHT

@@ -1,4 +1,4 @@
-"""Many PDF files: one after another, over processes of this machine, or over a cluster of Dask."""
+"""Commands for many PDF files: in sequence, in processes on this machine, or on a cluster of Dask."""
 
 import contextlib
 import errno
@@ -15,25 +15,25 @@ from ._commands import Progress, Result, results_of, run, unread
 from ._limits import NO_MEMORY, SECONDS, no_time
 from ._paths import readable, reason_of
 
-#: How many seconds a process without work waits before it looks whether there is still one to work for.
+#: The seconds that an idle process waits before it checks that its parent still exists.
 SECONDS_TO_LOOK = 5.0
 
-#: How many seconds of processor time a process may take beyond those of a file, before the system ends it.
+#: The seconds of processor time beyond the limit of a file after which the system ends the process.
 GRACE = 10
 
-#: How many files each thread of a cluster has at hand.
+#: The number of submitted files for each thread of a cluster.
 AT_HAND = 8
 
-#: How many seconds a scheduler has to answer.
+#: The seconds in which a scheduler must answer.
 TO_ANSWER = 10
 
 
 def check_files(paths: Iterable[str], **options: Any) -> Iterator[str]:
-    """The lines of JSON that `python3 -m hayro_cmap.pdf check --json` prints of these files.
+    """The lines of JSON that `python3 -m hayro_cmap.pdf check --json` prints for these files.
 
-    One path may stand alone. A file that can't be read has one line, with `unread`. The options are `password`,
-    `lenient` and `seconds`, the processor time that a file may take. It is for tools that cut a list of paths into
-    parts, as
+    `paths` may also be a single path. A file that can't be read has one line, with `unread`. The options are
+    `password`, `lenient`, `guesses` and `seconds`, the maximum processor time for a file. The function is for tools
+    that split a list of paths into parts, for example
 
         context.parallelize(paths, 100).mapPartitions(hayro_cmap.pdf.check_files)
     """
@@ -43,7 +43,7 @@ def check_files(paths: Iterable[str], **options: Any) -> Iterator[str]:
 
 
 def json_lines(result: Result) -> Iterator[str]:
-    """What is said of a file as lines of JSON."""
+    """The result for a file as lines of JSON."""
     import json
 
     for it in result.objects:
@@ -52,15 +52,15 @@ def json_lines(result: Result) -> Iterator[str]:
 
 @contextlib.contextmanager
 def limited_memory(most: Optional[int]) -> Iterator[None]:
-    """Lets this process have so many bytes of memory in the block, or less where it may have less already: what asks
-    for more is a MemoryError."""
+    """Limits the memory of this process in the block to `most` bytes, or to an existing lower limit. An allocation
+    beyond the limit raises MemoryError."""
     if most is None:
         yield
         return
     import resource
 
     soft, hard = resource.getrlimit(resource.RLIMIT_AS)
-    # a limit below 0 is none
+    # a negative limit means no limit
     resource.setrlimit(resource.RLIMIT_AS, (min(it for it in (most, soft, hard) if it >= 0), hard))
     try:
         yield
@@ -69,21 +69,21 @@ def limited_memory(most: Optional[int]) -> Iterator[None]:
 
 
 class Task(NamedTuple):
-    """What processes do with files."""
+    """The task of processes for files."""
 
     command: str
     options: Dict[str, Any]
-    #: How many bytes of memory each may have; None for no limit.
+    #: The memory limit of each process in bytes; None for no limit.
     memory: Optional[int]
     progress: Progress = iter
 
     @property
     def seconds(self) -> Optional[float]:
-        """How many seconds of processor time a file may take; None for no limit."""
+        """The maximum processor time for a file, in seconds; None for no limit."""
         return self.options.get("seconds", SECONDS)
 
     def result(self, path: str) -> Result:
-        """What is said of a file. The system ends a process that takes much more time than it may."""
+        """The result for a file. The system ends a process that greatly exceeds the time limit."""
         if self.seconds is not None:
             signal.setitimer(signal.ITIMER_PROF, self.seconds + GRACE)
         try:
@@ -99,24 +99,24 @@ class Worker:
         self._task = task
         self.end, other = multiprocessing.Pipe()
         self.process = multiprocessing.Process(target=serve, args=(other, self.end, task, os.getpid()), daemon=True)
-        # an interrupt is for this process, which then ends the other one
+        # this process handles an interrupt, and then ends the worker
         before = signal.pthread_sigmask(signal.SIG_BLOCK, [signal.SIGINT])
         try:
             self.process.start()
         finally:
             signal.pthread_sigmask(signal.SIG_SETMASK, before)
-        # with no other end in this process, that of the worker is the only one
+        # after this, only the worker has its end of the pipe
         other.close()
-        #: The index and the path of the file that it has.
+        #: The index and the path of its current file.
         self.index, self.path = -1, ""
 
     def begin(self, index: int, path: str) -> None:
-        """Hands it a file."""
+        """Sends it a file."""
         self.index, self.path = index, path
         self.end.send(path)
 
     def result(self) -> Optional[Result]:
-        """What it says of the file; None where it ended."""
+        """Its result for the file; None if it ended."""
         try:
             return self.end.recv()
         except (EOFError, OSError):
@@ -124,26 +124,26 @@ class Worker:
             return None
 
     def fault(self) -> str:
-        """Why it ended."""
+        """The reason for its end, as a message."""
         code = self.process.exitcode or 0
         if code == -signal.SIGPROF and self._task.seconds is not None:
             return f"it can't be read: {no_time(self._task.seconds)}"
         return f"the process that read it ended, {f'by signal {-code}' if code < 0 else f'with status {code}'}"
 
     def end_soon(self) -> None:
-        """Tells it to end."""
+        """Makes it end, without waiting."""
         self.end.close()
         self.process.terminate()
 
     def close(self) -> None:
-        """Ends it."""
+        """Makes it end, and waits."""
         self.end_soon()
         self.process.join()
 
 
 def serve(end: connection.Connection, other: connection.Connection, task: Task, parent: int) -> None:
-    """Does a task with the files that come through a pipe, until the process at its other end is gone."""
-    # else this one would wait for itself to read what it sends
+    """Runs a task for the files that come through a pipe, until the process at the other end is gone."""
+    # otherwise this process would wait until it reads its own messages
     other.close()
     with limited_memory(task.memory), contextlib.suppress(EOFError, OSError):
         while True:
@@ -154,7 +154,7 @@ def serve(end: connection.Connection, other: connection.Connection, task: Task, 
 
 
 def give(end: connection.Connection, task: Task, path: str) -> None:
-    """Sends what is said of a file through a pipe, in the form in which it is printed."""
+    """Sends the result for a file through a pipe, only in the form that is printed."""
     other = "lines" if task.options.get("json") else "objects"
     try:
         end.send(task.result(path)._replace(**{other: []}))
@@ -163,7 +163,7 @@ def give(end: connection.Connection, task: Task, path: str) -> None:
 
 
 class Pool:
-    """Processes, each with a file or without one."""
+    """Processes, busy with a file or idle."""
 
     def __init__(self, task: Task):
         self._start = functools.partial(Worker, task)
@@ -171,21 +171,21 @@ class Pool:
         self.idle: List[Worker] = []
 
     def begin(self, index: int, path: str) -> None:
-        """Hands a file to a process: to one without a file, else to a new one."""
+        """Sends a file to an idle process, or otherwise to a new process."""
         worker = self.idle.pop() if self.idle else self._start()
         try:
             worker.begin(index, path)
         except OSError:
-            # it ended while it had no file
+            # the process ended while it was idle
             worker.close()
             worker = self._start()
             worker.begin(index, path)
         self.busy.append(worker)
 
     def finished(self) -> Iterator[Tuple[int, Result]]:
-        """The index and the result of each file that is done; where there is none yet, it waits."""
+        """The index and the result of each finished file. It waits for at least one."""
         ends = [worker.end for worker in self.busy]
-        # the result of the only one is waited for where it is taken
+        # with a single process, `result` waits
         if len(ends) > 1:
             ends = connection.wait(ends)
         for worker in [it for it in self.busy if it.end in ends]:
@@ -207,7 +207,7 @@ class Pool:
 
 
 def by_processes(paths: Sequence[str], task: Task, jobs: int) -> Iterator[Result]:
-    """What is said of each file, in their order, by so many processes. One that ends costs its file alone."""
+    """The result for each file, in order, from this number of processes. If a process ends, only its file is lost."""
     pool, left = Pool(task), enumerate(paths)
     done: Dict[int, Result] = {}
     awaited = 0
@@ -227,13 +227,13 @@ def by_processes(paths: Sequence[str], task: Task, jobs: int) -> Iterator[Result
 
 
 def by_dask(paths: Sequence[str], command: str, options: Dict[str, Any], address: str) -> Iterator[Result]:
-    """What a command says of each file, in any order, by the workers of a Dask scheduler.
+    """The results of a command for each file, in any order, from the workers of a Dask scheduler.
 
-    Each worker has the package, the library and pikepdf, and the files under the same paths. A worker that dies costs
-    no file: another one takes what it had. A file over which one worker after another dies, is one that can't be read.
+    Each worker needs the package, the library and pikepdf, and the files at the same paths. If a worker dies, another
+    worker takes its files. A file on which several workers die counts as a file that can't be read.
     """
     client = client_of(address)
-    # an interrupt may leave half of an object of Dask, which can't be ended without an exception that nobody gets
+    # an interrupt may leave an incomplete object of Dask, whose finalizer raises an exception that nothing can catch
     sys.unraisablehook = lambda _: None
     try:
         with client:
@@ -243,7 +243,7 @@ def by_dask(paths: Sequence[str], command: str, options: Dict[str, Any], address
                     suspects.append(path)
                 else:
                     yield result
-            # some only stood beside a file that ends workers: each is tried alone
+            # some files only shared a worker with a file that ends workers: each is tried alone
             for path in suspects:
                 for _, result in submitted(client, [path], command, options):
                     yield unread(path, "the workers that read it ended") if result is None else result
@@ -252,21 +252,21 @@ def by_dask(paths: Sequence[str], command: str, options: Dict[str, Any], address
 
 
 def client_of(address: str):
-    """A client of a Dask scheduler. OSError where it can't be reached."""
+    """A client of a Dask scheduler. Raises OSError if the scheduler can't be reached."""
     import asyncio
 
     from distributed import Client
 
     try:
-        # asked first: a client that reaches none takes its time to end
+        # tried first: a client without a scheduler takes long to end
         asyncio.run(reach(address))
         return Client(address, set_as_default=False, timeout=TO_ANSWER)
-    except Exception as fault:  # Dask raises many kinds over addresses that are none
+    except Exception as fault:  # Dask raises many kinds of exceptions for invalid addresses
         raise OSError(errno.EHOSTUNREACH, f"the scheduler can't be reached: {reason_of(fault)}", address) from fault
 
 
 async def reach(address: str) -> None:
-    """Connects with a Dask scheduler, and leaves it."""
+    """Connects to a Dask scheduler, and closes the connection."""
     from distributed.comm import connect
     from distributed.security import Security
 
@@ -275,7 +275,7 @@ async def reach(address: str) -> None:
 
 
 def submitted(client, paths: Sequence[str], command: str, options: Dict[str, Any]):
-    """Each path with its result, or None where workers died over it; a few are at hand, however many there are."""
+    """Pairs of a path and its result, or None if workers died on the file. Only a few paths are submitted at a time."""
     from distributed import as_completed
     from distributed.scheduler import KilledWorker
 

@@ -1,4 +1,4 @@
-"""The widths of the glyphs of the 14 standard fonts (ISO 32000-1, 9.6.2.2), in thousandths of the size of the font.
+"""The widths of the glyphs of the 14 standard fonts (ISO 32000-1, 9.6.2.2), in thousandths of the font size.
 
 They are the entries WX of the Core 14 AFM files of Adobe (Font Metrics File Format 4.1), whose notice is: Copyright (c)
 1985, 1987, 1989, 1990, 1991, 1992, 1993, 1997 Adobe Systems Incorporated. All Rights Reserved.
@@ -9,7 +9,7 @@ from typing import Dict
 #: The width of each glyph of the four Courier fonts.
 COURIER = 600
 
-#: The names of the glyphs of the Latin fonts.
+#: The glyph names of the Latin fonts.
 NAMES = """
     A AE Aacute Abreve Acircumflex Adieresis Agrave Amacron Aogonek Aring Atilde B C Cacute Ccaron Ccedilla D Dcaron
     Dcroat Delta E Eacute Ecaron Ecircumflex Edieresis Edotaccent Egrave Emacron Eogonek Eth Euro F G Gbreve
@@ -36,12 +36,12 @@ NAMES = """
 
 
 def latin(widths: str) -> Dict[str, int]:
-    """The widths of a Latin font by the names of its glyphs, of widths in the order of `NAMES`."""
+    """The widths of a Latin font by glyph names, from widths in the order of `NAMES`."""
     return dict(zip(NAMES, map(int, widths.split())))
 
 
 def by_width(text: str) -> Dict[str, int]:
-    """The widths of a font by the names of its glyphs. A number is the width of the names after it."""
+    """The widths of a font by glyph names. A number is the width of the names after it."""
     widths: Dict[str, int] = {}
     width = 0
     for word in text.split():

@@ -1,4 +1,4 @@
-"""Objects of PDF files. Their names and keys are bytes, and needn't be UTF-8."""
+"""Objects of PDF files. Names and keys are bytes, which may be invalid UTF-8."""
 
 import re
 import zlib
@@ -9,26 +9,26 @@ from pikepdf.models import PdfParsingError
 
 from ._limits import Deadline, is_memory
 
-#: How many bytes a decoded stream may have, and all of them that are read of a file.
+#: The maximum number of bytes of a decoded stream, and of all decoded streams of a file.
 MOST_OF_STREAM = 1 << 26
 MOST_OF_FILE = 1 << 31
 
-#: How many times longer a decoded stream is taken to be, where its filters are decoded by pikepdf alone.
+#: The assumed ratio of decoded to raw bytes, if pikepdf decodes the filters of a stream.
 MOST_TIMES = 16
 
-#: The filter that is decoded piece by piece, and its two names.
+#: The filter that is decoded up to a limit, and its two names.
 DEFLATED = pikepdf.Name.FlateDecode
 FLATE = (["FlateDecode"], ["Fl"])
 
-#: What pikepdf raises over malformed objects.
+#: The exceptions of pikepdf for malformed objects.
 MALFORMED = (pikepdf.PdfError, PdfParsingError, RuntimeError, ValueError, TypeError, KeyError)
 
 ESCAPED = re.compile(rb"#([0-9A-Fa-f]{2})")
 
 
 class TooLarge(ValueError):
-    """What is decoded of a file has more bytes than a limit, there are too many fonts, or a CMap that is to be written
-    anew has texts for too many codes."""
+    """The decoded streams of a file have too many bytes, the file has too many fonts, or a CMap to rewrite has texts
+    for too many codes."""
 
 
 class Undecodable(ValueError):
@@ -36,7 +36,7 @@ class Undecodable(ValueError):
 
 
 class Streams:
-    """Decodes the streams of a file, up to a limit for each and for all together, and to a deadline."""
+    """Decodes the streams of a file. Each stream and all streams together have a limit, and there is a deadline."""
 
     def __init__(
         self,
@@ -49,8 +49,8 @@ class Streams:
         self._deadline = Deadline(None) if deadline is None else deadline
 
     def decoded(self, stream: pikepdf.Stream) -> bytes:
-        """The bytes of a stream. TooLarge where they pass a limit; Undecodable where they can't be decoded; TooLong
-        where the time of the file is over."""
+        """The bytes of a stream. Raises TooLarge if they exceed a limit, Undecodable if they can't be decoded, TooLong
+        if the deadline is over."""
         self._deadline.check()
         most = min(self._most, self._left)
         try:
@@ -66,7 +66,7 @@ class Streams:
 
 
 def decoded(stream: pikepdf.Stream, most: int) -> bytes:
-    """The bytes of a stream; more than `most` stand for any number past it."""
+    """The bytes of a stream. If there are more than `most`, the result may be cut after `most` + 1 bytes."""
     raw = stream.read_raw_bytes()
     filters = filters_of(stream)
     if not filters:
@@ -75,7 +75,7 @@ def decoded(stream: pikepdf.Stream, most: int) -> bytes:
         try:
             return zlib.decompressobj().decompress(raw, most + 1)
         except zlib.error:
-            pass  # pikepdf may know more
+            pass  # pikepdf may be able to decode them
     if len(raw) > most // MOST_TIMES:
         raise TooLarge(f"a stream has {len(raw):,} bytes before it is decoded")
     return stream.read_bytes()
@@ -98,12 +98,12 @@ def bytes_of(name: pikepdf.Name) -> bytes:
 
 
 def unescaped(written: bytes) -> bytes:
-    """The bytes of a name that is written so, after its slash."""
+    """The bytes of a name from its written form without the slash."""
     return ESCAPED.sub(lambda digits: bytes.fromhex(digits[1].decode()), written) if b"#" in written else written
 
 
 def text_of(name: pikepdf.Name) -> str:
-    """A name for people, and for a comparison with names of the standard."""
+    """A name as text, for output and for comparisons with names of the standard."""
     return bytes_of(name).decode("utf-8", "replace")
 
 
@@ -114,7 +114,7 @@ def name_at(dictionary: pikepdf.Object, key: str) -> Optional[str]:
 
 
 def dictionary_at(dictionary: pikepdf.Object, key: str) -> pikepdf.Dictionary:
-    """The dictionary at a key of a dictionary or a stream; an empty one where there is none."""
+    """The dictionary at a key of a dictionary or a stream; an empty dictionary if there is none."""
     value = dictionary.get(key)
     return value if isinstance(value, pikepdf.Dictionary) else pikepdf.Dictionary()
 
@@ -126,22 +126,22 @@ def stream_at(dictionary: pikepdf.Object, key: str) -> Optional[pikepdf.Stream]:
 
 
 def named(dictionary: pikepdf.Dictionary, name: bytes) -> Any:
-    """The value of a dictionary under a name of any bytes, or None."""
-    # pikepdf takes bytes as they are, and a str as UTF-8
+    """The value at a key of a dictionary, or None. The key may have any bytes."""
+    # pikepdf takes bytes unchanged, and encodes a str as UTF-8
     return dictionary.get(b"/" + name, None)
 
 
 def values(dictionary: pikepdf.Dictionary) -> List[Any]:
-    """The values of a dictionary, whatever its keys are."""
+    """The values of a dictionary. The keys may have any bytes."""
     return list(dictionary.as_dict().values())
 
 
 def integer_at(dictionary: pikepdf.Object, key: str) -> int:
-    """The integer at a key; 0 where there is none."""
+    """The integer at a key; 0 if there is no integer."""
     value = dictionary.get(key)
     return value if isinstance(value, int) and not isinstance(value, bool) else 0
 
 
 def object_number(value: Any) -> int:
-    """The number of an indirect object; 0 for any other."""
+    """The number of an indirect object; 0 for any other object."""
     return value.objgen[0] if isinstance(value, pikepdf.Object) else 0

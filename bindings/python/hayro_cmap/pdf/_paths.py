@@ -1,4 +1,4 @@
-"""Paths of files: lists of them, how they are printed, and how files are opened."""
+"""Paths of files: lists of paths, their printed form, and the opening of files."""
 
 import errno
 import io
@@ -10,28 +10,28 @@ from typing import BinaryIO, Iterable, List
 
 from .._folder import files_below
 
-#: The standard input, where a list of paths is asked for.
+#: The path that stands for the standard input, in place of a list of paths.
 STANDARD_INPUT = "-"
 
-#: How many bytes a file may have that is read at once.
+#: The maximum size of a file that is read into memory, in bytes.
 MOST_IN_MEMORY = 1 << 26
 
-#: A byte of a path that is no UTF-8, as Python has it in a str.
+#: A byte of a path that isn't UTF-8, in Python's form in a str.
 NO_UTF_8 = re.compile("[\udc80-\udcff]")
 
 
 def readable(path: str) -> str:
-    """A path as it is printed: each byte that is no UTF-8 as \\xHH."""
+    """A path in printed form, with \\xHH for each byte that isn't UTF-8."""
     return NO_UTF_8.sub(lambda it: "\\x%02X" % os.fsencode(it[0])[0], path)
 
 
 def reason_of(fault: BaseException) -> str:
-    """Why a file can't be read or written, without its path."""
+    """The reason why a file can't be read or written, without its path."""
     return getattr(fault, "strerror", None) or str(fault) or type(fault).__name__
 
 
 def opened(path: str) -> BinaryIO:
-    """A file that is read. OSError where something else than a regular file is there: nothing waits for a pipe."""
+    """An open file. Raises OSError unless it is a regular file, so that no call waits for a pipe."""
     file = open(path, "rb", opener=lambda path, flags: os.open(path, flags | os.O_NONBLOCK))
     if not stat.S_ISREG(os.fstat(file.fileno()).st_mode):
         file.close()
@@ -40,12 +40,13 @@ def opened(path: str) -> BinaryIO:
 
 
 def in_memory(file: BinaryIO) -> BinaryIO:
-    """The bytes of a file, unless they are many: pikepdf reads few at a time, for which the system takes longer."""
+    """The bytes of a small file in memory: pikepdf reads few bytes at a time, which would take many system calls. A
+    large file is returned unchanged."""
     return io.BytesIO(file.read()) if os.fstat(file.fileno()).st_size <= MOST_IN_MEMORY else file
 
 
 def listed(path: str, end: bytes) -> List[str]:
-    """The paths in a file, or on the standard input, each with this byte at its end; empty ones are passed over."""
+    """The paths in a file, or on the standard input. This byte ends each path. Empty paths are skipped."""
     if path != STANDARD_INPUT:
         with open(path, "rb") as file:
             data = file.read()
@@ -57,13 +58,13 @@ def listed(path: str, end: bytes) -> List[str]:
 
 
 def expanded(paths: Iterable[str]) -> List[str]:
-    """The same paths, and in the place of a folder the PDF files below it."""
+    """The same paths, with each folder replaced by the PDF files below it."""
     return [it for path in paths for it in (pdf_files_below(path) if os.path.isdir(path) else [path])]
 
 
 def pdf_files_below(folder: str) -> List[str]:
-    """The files in a folder and its subfolders whose names end in .pdf, and the folders that can't be read, in the order
-    of their paths as bytes."""
+    """The files in a folder and its subfolders with names that end in .pdf, and the folders that can't be read, in the
+    order of the bytes of their paths."""
     unread: List[bytes] = []
     files = files_below(os.fsencode(folder), lambda fault: unread.append(fault.filename))
     found = [it for it in files if it.lower().endswith(b".pdf")]
@@ -71,7 +72,7 @@ def pdf_files_below(folder: str) -> List[str]:
 
 
 def is_among(path: str, others: Iterable[str]) -> bool:
-    """Whether the file of a path is one of these, also by a link."""
+    """Whether the file at a path is one of these files. Links are followed."""
     try:
         of_path = os.stat(path)
     except OSError:
@@ -80,9 +81,9 @@ def is_among(path: str, others: Iterable[str]) -> bool:
 
 
 def is_same(of_path: os.stat_result, other: str) -> bool:
-    """Whether a path leads to a file of which this is known."""
+    """Whether a path leads to the file with this status."""
     try:
         return os.path.samestat(of_path, os.stat(other))
     except (OSError, ValueError):
-        # a path with a zero byte leads to none
+        # the file doesn't exist, or its path has a zero byte
         return False

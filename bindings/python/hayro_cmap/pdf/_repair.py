@@ -1,4 +1,4 @@
-"""Rewrites the malformed ToUnicode CMaps of a PDF file, without their faults."""
+"""Rewriting of malformed ToUnicode CMaps in a PDF file, without their faults."""
 
 import os
 from typing import Any, Dict, Iterable, List, NamedTuple, Optional, Tuple, Union
@@ -10,14 +10,14 @@ from ._beside import written_beside
 from ._fonts import Fault, Font, fonts
 from ._objects import TooLarge, dictionary_at, integer_at, object_number, stream_at
 
-#: The flag of a form that says that the file is signed (ISO 32000-1, 12.7.2).
+#: The flag in an interactive form for a signed file (ISO 32000-1, 12.7.2).
 SIGNATURES_EXIST = 1
 
-#: How many codes may have texts in a CMap that is written anew: more than Unicode has characters. A line of a CMap may
-#: declare those of 65,536 codes.
+#: The maximum number of codes with texts in a rewritten CMap, which exceeds the number of Unicode characters. A line of
+#: a CMap may declare texts for 65,536 codes.
 MOST_CODES = 1 << 21
 
-#: The ranges of a simple font, whose codes are single bytes, and of a composite one of which none are known.
+#: The codespace range of a simple font, whose codes are single bytes, and of a composite font without known ranges.
 SINGLE_BYTES = Codespace(0x00, 0xFF, 1)
 TWO_BYTES = Codespace(0x0000, 0xFFFF, 2)
 
@@ -27,27 +27,28 @@ class Signed(ValueError):
 
 
 class Repaired(NamedTuple):
-    """A ToUnicode CMap with faults."""
+    """The repair of a ToUnicode CMap with faults."""
 
-    #: The number of the object of its stream.
+    #: The object number of its stream.
     number: int
-    #: The fonts that have it.
+    #: The fonts that use it.
     fonts: List[Font]
-    #: The faults, and with them what is lost, or read as something else.
+    #: The faults. Each tells whether the part at fault is lost, or how it is read.
     faults: List[Fault]
-    #: How many codes have a text in the new CMap. If it is 0, nothing is left, and the stream stays as it is.
+    #: The number of codes with a text in the new CMap. If it is 0, nothing is left, and the stream stays unchanged.
     kept: int
 
     def lines(self) -> List[str]:
-        """A line about the new CMap, and one for each fault."""
-        what = f"written anew, with texts for {self.kept:,} codes" if self.kept else "nothing is left of it"
+        """A line about the new CMap, then a line for each fault."""
+        codes = "1 code" if self.kept == 1 else f"{self.kept:,} codes"
+        what = f"rewritten, with texts for {codes}" if self.kept else "nothing is left of it"
         lines = [f"ToUnicode {self.number}: {what}"]
         if self.fonts[0].to_unicode.has_five_digits:
-            lines.append(f"ToUnicode {self.number}: texts of five digits are read as the characters of these numbers")
+            lines.append(f"ToUnicode {self.number}: strings of five digits are read as numbers of characters")
         return [*lines, *(f"{'lost' if it.read_as is None else 'mended'} at {it}" for it in self.faults)]
 
     def as_json(self) -> Dict[str, Any]:
-        """The same as values of JSON."""
+        """The repair as values of JSON."""
         from ._check import fault_json
 
         return {
@@ -61,9 +62,9 @@ class Repaired(NamedTuple):
 def repair(pdf: pikepdf.Pdf, signed: bool = False) -> List[Repaired]:
     """Rewrites each malformed ToUnicode CMap with the texts that are read past its faults.
 
-    The new CMap replaces the old one in its object, and no other object changes; `save` then writes the file. Raises
-    Signed if there is such a CMap and the file is signed, unless `signed` is true, and TooLarge if a CMap has texts for
-    more than 2,097,152 codes.
+    The new CMap replaces the old CMap in its object, and no other object changes. `save` then writes the file. Raises
+    Signed if there is such a CMap and the file is signed, unless `signed` is true. Raises TooLarge if a CMap has texts
+    for more than 2,097,152 codes.
     """
     streams: Dict[Tuple[int, int], List[Font]] = {}
     for font in fonts(pdf):
@@ -78,13 +79,13 @@ def repair(pdf: pikepdf.Pdf, signed: bool = False) -> List[Repaired]:
 
 
 def limit_codes(cmap: Optional[CMap]) -> None:
-    """TooLarge where a CMap has texts for too many codes."""
+    """Raises TooLarge if a CMap has texts for too many codes."""
     if cmap is not None and sum(row.last - row.first + 1 for row in cmap._text_rows()) > MOST_CODES:
         raise TooLarge(f"a ToUnicode CMap has texts for more than {MOST_CODES:,} codes")
 
 
 def repaired(sharing: List[Font]) -> Repaired:
-    """Writes the ToUnicode CMap of these fonts anew."""
+    """Rewrites the ToUnicode CMap of these fonts."""
     stream, read = sharing[0].dictionary["/ToUnicode"], sharing[0].to_unicode
     codespaces = codespaces_of(sharing)
     runs = [] if read.lenient is None else read.lenient.texts(codespaces)
@@ -94,7 +95,7 @@ def repaired(sharing: List[Font]) -> Repaired:
 
 
 def written(runs, codespaces: List[Codespace]) -> bytes:
-    """A ToUnicode CMap with these texts, which gives back the same (ISO 32000-1, 9.10.3)."""
+    """A ToUnicode CMap with these texts (ISO 32000-1, 9.10.3). It is read again and compared."""
     writer = CMapWriter("Adobe-Identity-UCS", collection=("Adobe", "UCS", 0))
     for it in codespaces:
         writer.codespace(it.low.to_bytes(it.byte_len, "big"), it.high.to_bytes(it.byte_len, "big"))
@@ -108,8 +109,8 @@ def written(runs, codespaces: List[Codespace]) -> bytes:
 
 
 def joined(runs: Iterable[TextRun]) -> List[Tuple[int, int, str]]:
-    """The first and the last code of each run, and the text of the first one, with runs as long as can be: those that
-    give the same codes the same texts are then the same."""
+    """The runs in a canonical form, each as long as possible: the first code, the last code, and the text of the first
+    code. Runs with the same texts for the same codes have equal canonical forms."""
     found: List[Tuple[int, int, str]] = []
     for it in runs:
         if found and goes_on(found[-1], it):
@@ -120,7 +121,7 @@ def joined(runs: Iterable[TextRun]) -> List[Tuple[int, int, str]]:
 
 
 def goes_on(before: Tuple[int, int, str], run: TextRun) -> bool:
-    """Whether a run follows one before it, and its first text is the one after the last text of that."""
+    """Whether a run continues the previous run: its first code and its first text are the next ones."""
     first, last, text = before
     return (
         run.first == last + 1
@@ -130,7 +131,7 @@ def goes_on(before: Tuple[int, int, str], run: TextRun) -> bool:
 
 
 def codespaces_of(sharing: List[Font]) -> List[Codespace]:
-    """The codespace ranges of the fonts that share a ToUnicode CMap: those of their encodings, else its own."""
+    """The codespace ranges of the fonts that share a ToUnicode CMap: from their encodings, otherwise from the CMap."""
     found: Dict[Codespace, None] = {}
     for font in sharing:
         if not font.is_composite:
@@ -143,7 +144,7 @@ def codespaces_of(sharing: List[Font]) -> List[Codespace]:
 
 
 def is_signed(pdf: pikepdf.Pdf) -> bool:
-    """Whether the file says that it is signed."""
+    """Whether the file declares that it is signed."""
     form = dictionary_at(pdf.Root, "/AcroForm")
     return (
         bool(integer_at(form, "/SigFlags") & SIGNATURES_EXIST)
@@ -155,16 +156,16 @@ def save(pdf: pikepdf.Pdf, path: Union[str, "os.PathLike[str]"]) -> None:
     """Writes a file with all its objects, and their streams byte for byte. An encrypted file stays encrypted, and its
     decoded streams stay the same.
 
-    A temporary file is written and renamed into place, with the permissions of an existing file. If that fails, an
-    existing file stays as it is. If `path` is a link, the file to which it leads is replaced. Raises OSError if `path`
-    is something else than a regular file.
+    A temporary file is written and renamed into place, with the permissions of an existing file. If an error occurs, an
+    existing file stays unchanged. If `path` is a link, the file to which it leads is replaced. Raises OSError if `path`
+    isn't a regular file.
     """
     with written_beside(path) as file:
         pdf.save(
             file,
             preserve_pdfa=False,
             fix_metadata_version=False,
-            # pikepdf takes no level together with an encryption
+            # pikepdf doesn't accept a level together with an encryption
             stream_decode_level=None if pdf.is_encrypted else pikepdf.StreamDecodeLevel.none,
             object_stream_mode=pikepdf.ObjectStreamMode.preserve,
             encryption=pdf.is_encrypted,

@@ -1,4 +1,4 @@
-"""A page for people: the fonts of PDF files, what is wrong with them, and a chart of the codes of each."""
+"""An HTML page about the fonts of PDF files, with their faults and a chart of the codes of each font."""
 
 import contextlib
 import errno
@@ -12,20 +12,20 @@ from ._check import FontReport, Report, share
 from ._fonts import Source
 from ._paths import is_among, opened, readable, reason_of
 
-#: How each page begins, by which it is known from other files.
+#: The beginning of each page, which distinguishes it from other files.
 BEGINNING = """<!DOCTYPE html>
 <html lang="en">
 <meta name="generator" content="hayro_cmap.pdf check --html">
 """
 
-#: How many codes of a font a chart has that have a text and aren't shown.
+#: The maximum number of codes in a chart that have a text and aren't shown.
 MOST_UNSHOWN = 1 << 16
 
-#: What a code has, as the page numbers it.
+#: The kinds of codes in the page: the sources of their texts, and codes that aren't shown.
 KINDS = [source.value for source in Source]
 UNSHOWN = len(KINDS)
 
-#: What the page says of each, and its colour: colours that people tell apart who don't tell red from green.
+#: The legend for each kind, and its colour. People with red-green colour blindness can tell these colours apart.
 LEGEND = [
     ("text by ToUnicode", "#0072b2"),
     ("the code is the character", "#56b4e9"),
@@ -38,20 +38,20 @@ LEGEND = [
     ("has a text, isn't shown", "#b9cfe4"),
 ]
 
-#: A cell of a chart: the code, its length in bytes, what it has, its CID, its text, and how often it is shown.
+#: A cell of a chart: the code, its length in bytes, its kind, its CID, its text, and how often it is shown.
 Cell = Tuple[int, int, int, Any, Any, int]
 
 
 def charts_of(report: Report) -> List[Dict[str, Any]]:
-    """What the page shows of each font of a file: its lines, and the cells of its chart."""
+    """The lines and the chart of each font of a file."""
     return [{"lines": list(font.lines()), "ok": not font.font.faults, "cells": cells_of(font)} for font in report.fonts]
 
 
 def cells_of(report: FontReport) -> List[Cell]:
-    """The cells of the chart of a font: the codes that are shown, and those that its ToUnicode CMap has a text for."""
+    """The cells of the chart of a font: the shown codes, and the codes to which its ToUnicode CMap gives a text."""
     cells: Dict[Tuple[int, int], Cell] = {}
     for (_, shown, text, source), times in report.codes:
-        # a code that lacks a text where it is shown otherwise is one that lacks it
+        # the text in marked content counts only if the code isn't shown elsewhere
         if source is not Source.ACTUAL_TEXT or shown[:2] not in cells:
             cells[shown[:2]] = (shown.code, shown.byte_len, KINDS.index(source.value), shown.cid, text, times)
     to_unicode = report.font.to_unicode.lenient
@@ -72,28 +72,28 @@ def cells_of(report: FontReport) -> List[Cell]:
 
 
 def try_report(path: str, inputs: Iterable[str]) -> None:
-    """OSError where a page can't be written to a path, or what is there would be lost: one of the inputs, also by a
-    link, or anything but an older page and an empty file."""
+    """Raises OSError if a page can't be written to a path, or would replace another file than an older page or an empty
+    file, in particular an input, also through a link."""
     with saying_where(path):
         try_beside(path)
     if is_among(path, inputs):
-        raise OSError(errno.EEXIST, "it is a file to check, and isn't replaced by the report", path)
+        raise OSError(errno.EEXIST, "it is a file to check, which the report doesn't replace", path)
     refuse_others(path)
 
 
 def refuse_others(path: str) -> None:
-    """OSError where a file is there that is neither an older page nor empty."""
+    """Raises OSError if the file at a path is neither an older page nor empty."""
     try:
         with opened(path) as file:
             found = file.read(len(BEGINNING.encode()))
     except FileNotFoundError:
         return
     if found not in (b"", BEGINNING.encode()):
-        raise OSError(errno.EEXIST, "it is no report of this command, and isn't replaced by one", path)
+        raise OSError(errno.EEXIST, "it isn't a report of this command, so it isn't replaced", path)
 
 
 def write_report(path: str, results: Iterable[Any]) -> None:
-    """Writes the page of the results of a check beside its place, and puts it there. OSError as of `try_report`."""
+    """Writes the page with the results of a check, and then renames it into place. Raises OSError like `try_report`."""
     page = page_of(list(results)).encode("utf-8", "backslashreplace")
     refuse_others(path)
     with saying_where(path), written_beside(path) as file:
@@ -102,7 +102,7 @@ def write_report(path: str, results: Iterable[Any]) -> None:
 
 @contextlib.contextmanager
 def saying_where(path: str) -> Iterator[None]:
-    """OSError of what is written beside a path is said of the path."""
+    """Raises an OSError about a file beside a path as an OSError about the path."""
     try:
         yield
     except OSError as fault:
@@ -110,11 +110,11 @@ def saying_where(path: str) -> Iterator[None]:
 
 
 def page_of(results: List[Any]) -> str:
-    """The page of the results of a check. It loads nothing else."""
+    """The page with the results of a check. It loads no other files."""
     shown, with_text = sum(it.shown for it in results), sum(it.with_text for it in results)
     legend = "".join(f'<span><i style="background:{colour}"></i>{words}</span>' for words, colour in LEGEND)
     charts = [chart["cells"] for result in results for chart in result.charts]
-    # no text of a file ends the script that the data stands in
+    # no text of a file can end the script element with the data
     data = json.dumps(charts, separators=(",", ":")).replace("<", "\\u003c")
     return BEGINNING + TEMPLATE.format(
         summary=html.escape(f"{len(results)} file{'' if len(results) == 1 else 's'}; {share(with_text, shown)}"),
@@ -137,7 +137,7 @@ def section_of(result: Any) -> str:
 def font_of(chart: Dict[str, Any]) -> str:
     """The part of the page for a font."""
     title, *lines = map(visible, chart["lines"])
-    # each line begins with the number of the font, which the title has
+    # each line begins with the number of the font, which is in the title
     listed = "".join(f"<li>{line.partition(': ')[2]}</li>" for line in lines)
     bad, fine = "" if chart["ok"] else ' class="bad"', "" if lines else ' class="fine"'
     drawn = "<canvas></canvas>" if chart["cells"] else "<canvas hidden></canvas>"
@@ -145,7 +145,7 @@ def font_of(chart: Dict[str, Any]) -> str:
 
 
 def visible(text: str) -> str:
-    """A text of a file in the page, where no character of it controls others."""
+    """A text of a file in a safe form for the page."""
     return html.escape(escaped(text))
 
 
@@ -172,7 +172,7 @@ canvas {{ display: block; cursor: crosshair }} canvas[hidden] {{ display: none }
 </style>
 <h1>Fonts of PDF files</h1>
 <p>{summary}. A chart has 256 codes a row; the digits before it are the first bytes of the codes.</p>
-<div id="legend">{legend}<label><input type="checkbox" id="wrong"> only fonts with something to say</label></div>
+<div id="legend">{legend}<label><input type="checkbox" id="wrong"> only fonts with findings</label></div>
 {files}
 <div id="tip"></div>
 <script id="data" type="application/json">{data}</script>
@@ -244,7 +244,7 @@ function drawOnce(canvas) {{
   draw(canvas, charts[canvases.indexOf(canvas)]);
 }}
 
-// a chart is drawn when it comes near, and all of them before the page is printed
+// a chart is drawn when it comes near, and all charts are drawn before the page is printed
 const seen = new IntersectionObserver(entries => {{
   for (const entry of entries) if (entry.isIntersecting) drawOnce(entry.target);
 }}, {{ rootMargin: "400px" }});

@@ -1,6 +1,6 @@
 """The operators of content streams that text depends on, with their operands (ISO 32000-1, 7.8.2 and Annex A).
 
-One regular expression goes through a content. Nothing is made of paths, colours and inline images.
+A single regular expression splits a content. Paths, colours and inline images are skipped.
 """
 
 import re
@@ -11,21 +11,21 @@ from typing import Iterator, List, Optional, Tuple, Union
 BLANK = rb"[\0\t\n\f\r ]"
 NUMBERS = rb"[-+.0-9\0\t\n\f\r ]*"
 
-#: The operators of paths, colours and the graphics state that no text depends on.
+#: The operators for paths, colours and the graphics state that don't affect text.
 PASSED = (
     rb"(?:re|rg|RG|ri|[mlcvyhSsnwJjMidgGkK]|[fFBbW]\*?|scn?|SCN?|cs|CS|sh|d[01]|BX|EX|MP|DP)"
     rb"(?=[\0\t\n\f\r /\[(<%]|\Z)"
 )
 
-#: What stands between the brackets of a literal string, with no string in it and few escapes. The end of any other
-#: literal string is looked for.
+#: The contents of a literal string without nested brackets and with few escapes, and of a hexadecimal string. The end
+#: of any other literal string is searched for.
 SIMPLE = rb"[^()\\]*(?:\\[\s\S][^()\\]*){0,64}"
 DIGITS = rb"[0-9A-Fa-f\0\t\n\f\r ]*"
 
-#: What stands between the brackets of an array of strings and numbers. A longer one is read element by element.
+#: The contents of an array of strings and numbers. A longer array is read element by element.
 ELEMENTS = rb"(?:[^\[\]()<>%%]*(?:\(%b\)|<%b>)){0,512}[^\[\]()<>%%]*" % (SIMPLE, DIGITS)
 
-# The last two alternatives take what nothing else does, so that no white space is gone through twice.
+# the last two alternatives match everything else, so that white space is never scanned twice
 TOKEN = re.compile(
     rb"%(blank)b*(?:(?:%(numbers)b%(passed)b){1,256}"
     rb"|(?P<operands>%(numbers)b)(?P<operator>[A-Za-z'\"][A-Za-z0-9*'\"]*)"
@@ -48,43 +48,43 @@ TOKEN = re.compile(
     }
 )
 
-#: The groups of a token, by their numbers.
+#: The numbers of the groups of a token.
 OPERATOR, ARRAY, LITERAL, HEXADECIMAL, NAME, NUMBER, MARK, LONG, COMMENT = range(2, 11)
 
 ELEMENT = re.compile(rb"\((%b)\)|<(%b)>|([-+.0-9]+)" % (SIMPLE, DIGITS))
 BRACKET = re.compile(rb"[()\\]")
 ESCAPE = re.compile(rb"\\([0-7]{1,3}|\r\n|[\s\S])|\r\n?")
-#: A byte of a name that is written by its number (ISO 32000-1, 7.3.5).
+#: A byte of a name, written as its number (ISO 32000-1, 7.3.5).
 NUMBERED = re.compile(rb"#([0-9A-Fa-f]{2})")
 PIECE_OF_NUMBER = re.compile(rb"[-+]?(?:[0-9]+\.?[0-9]*|\.[0-9]+)")
 
-#: The bytes that escapes with a letter stand for (ISO 32000-1, table 3); of a line end nothing is left.
+#: The bytes for escapes with a letter (ISO 32000-1, table 3). An escaped line end is dropped.
 LETTERS = {b"n": b"\n", b"r": b"\r", b"t": b"\t", b"b": b"\b", b"f": b"\f", b"\n": b"", b"\r": b"", b"\r\n": b""}
 
-#: The end of an inline image: what follows looks like content.
+#: The end of an inline image, followed by bytes that look like content.
 PRINTED = rb"[\t\n\f\r -~]"
 END_OF_IMAGE = re.compile(rb"%bEI(?=\Z|%b(?:%b{16}|%b{0,16}\Z))" % (BLANK, BLANK, PRINTED, PRINTED))
 
 
-#: An operand: the group of its token, and what is written, without its brackets or its slash.
+#: An operand: the group of its token, and its written form without brackets or slash.
 Operand = Tuple[int, bytes]
 
 #: An operator: its name, the numbers right before it, and the operands before these.
 Operator = Tuple[bytes, bytes, List[Operand]]
 
-#: What opens an array or a dictionary, and the brackets of an array.
+#: The marks that open an array or a dictionary, and the brackets of an array as operands.
 OPENING = (b"[", b"<<")
 OPENED, CLOSED = (MARK, b"["), (MARK, b"]")
 
 #: Operands that look like operators.
 VALUES = (b"true", b"false", b"null")
 
-#: How many operands of an operator are kept at a time.
+#: The maximum number of operands that are kept.
 MOST_OPERANDS = 1 << 16
 
 
 def operators(data: bytes) -> Iterator[Operator]:
-    """The operators of a content that text may depend on, in their order."""
+    """The operators of a content that may affect text, in order."""
     start: Optional[int] = 0
     operands: List[Operand] = []
     while start is not None:
@@ -111,19 +111,19 @@ def operators(data: bytes) -> Iterator[Operator]:
                 operands.append((kind, token[kind]))
                 if len(operands) == MOST_OPERANDS:
                     if operands[0] == OPENED:
-                        # the elements of a long array are shown in several steps
+                        # a long array is shown in several steps
                         yield b"TJ", b"", [*operands, CLOSED]
                     operands = operands[:1]
 
 
 def end_of_image(data: bytes, start: int) -> int:
-    """Where the data of an inline image ends that begin here (ISO 32000-1, 8.9.7)."""
+    """The end of the data of an inline image with this start (ISO 32000-1, 8.9.7)."""
     found = END_OF_IMAGE.search(data, start)
     return len(data) if found is None else found.end()
 
 
 def end_of_string(data: bytes, start: int) -> int:
-    """Where a literal string ends, after its bracket, whose first byte stands here (ISO 32000-1, 7.3.4.2)."""
+    """The end of a literal string, after its closing bracket; `start` is its first byte (ISO 32000-1, 7.3.4.2)."""
     depth, place = 1, start
     while depth > 0:
         found = BRACKET.search(data, place)
@@ -138,7 +138,7 @@ def end_of_string(data: bytes, start: int) -> int:
 
 
 def numbers_in(data: bytes) -> List[float]:
-    """The numbers that are written here; 0 for what is none."""
+    """The numbers in these bytes, with 0 for an invalid number."""
     try:
         return list(map(float, data.split()))
     except ValueError:
@@ -146,13 +146,13 @@ def numbers_in(data: bytes) -> List[float]:
 
 
 def number_of(digits: bytes) -> float:
-    """A number as other readers take it, also one with a second sign or point; 0 where nothing of it is a number."""
+    """A number, read like other readers if it has a second sign or point; 0 if no part of it is a number."""
     found = PIECE_OF_NUMBER.search(digits)
     return 0.0 if found is None else float(found[0])
 
 
 def literal(data: bytes) -> bytes:
-    """The bytes of a literal string, of which this stands between the brackets (ISO 32000-1, 7.3.4.2)."""
+    """The bytes of a literal string with these contents between its brackets (ISO 32000-1, 7.3.4.2)."""
     return ESCAPE.sub(unescaped, data) if b"\\" in data or b"\r" in data else data
 
 
@@ -167,7 +167,7 @@ def unescaped(escape: "re.Match[bytes]") -> bytes:
 
 
 def hexadecimal(digits: bytes) -> bytes:
-    """The bytes of a hexadecimal string; after an odd digit stands 0 (ISO 32000-1, 7.3.4.3)."""
+    """The bytes of a hexadecimal string. If the number of digits is odd, a 0 is added (ISO 32000-1, 7.3.4.3)."""
     try:
         return unhexlify(digits)
     except ValueError:
@@ -176,7 +176,7 @@ def hexadecimal(digits: bytes) -> bytes:
 
 
 def string_of(operand: Operand) -> Optional[bytes]:
-    """The bytes of a string; None of another operand."""
+    """The bytes of a string; None for any other operand."""
     kind, data = operand
     if kind == LITERAL:
         return literal(data)
@@ -184,12 +184,12 @@ def string_of(operand: Operand) -> Optional[bytes]:
 
 
 def last_string(operands: List[Operand]) -> Optional[bytes]:
-    """The bytes of the last operand, if that is a string."""
+    """The bytes of the last operand if it is a string; otherwise None."""
     return string_of(operands[-1]) if operands else None
 
 
 def elements_of(operands: List[Operand]) -> List[Union[bytes, float]]:
-    """The strings and the numbers of the array that is the last operand, in their order."""
+    """The strings and the numbers in the last operand, which is an array, in order."""
     if operands and operands[-1][0] == ARRAY:
         return [element(*it) for it in ELEMENT.findall(operands[-1][1])]
     found: List[Union[bytes, float]] = []
@@ -207,7 +207,7 @@ def elements_of(operands: List[Operand]) -> List[Union[bytes, float]]:
 
 
 def element(simple: bytes, digits: bytes, number: bytes) -> Union[bytes, float]:
-    """An element of an array: a string, or else a number."""
+    """An element of an array: a string, or otherwise a number."""
     if not number:
         return hexadecimal(digits) if digits else literal(simple)
     try:
@@ -217,7 +217,7 @@ def element(simple: bytes, digits: bytes, number: bytes) -> Union[bytes, float]:
 
 
 def last_name(operands: List[Operand]) -> bytes:
-    """The bytes of the last operand, if that is a name; else none."""
+    """The bytes of the last operand if it is a name; otherwise empty."""
     kind, data = operands[-1] if operands else (NAME, b"")
     if kind != NAME:
         return b""
@@ -225,7 +225,7 @@ def last_name(operands: List[Operand]) -> bytes:
 
 
 def actual_text(operands: List[Operand]) -> Optional[str]:
-    """The text string at the key ActualText of a dictionary that stands among the operands (ISO 32000-1, 14.9.4)."""
+    """The text string at the key ActualText of a dictionary among the operands (ISO 32000-1, 14.9.4)."""
     for key, value in zip(operands, operands[1:]):
         if key == (NAME, b"ActualText"):
             string = string_of(value)
@@ -234,8 +234,8 @@ def actual_text(operands: List[Operand]) -> Optional[str]:
 
 
 def text_string(data: bytes) -> str:
-    """The characters of a text string: in UTF-16 or UTF-8 after a mark, else in PDFDocEncoding, of which the bytes 0x20
-    to 0x7E and from 0xA1 on are those of Latin-1 (ISO 32000-1, 7.9.2.2)."""
+    """The characters of a text string in UTF-16 or UTF-8 after a byte order mark, otherwise in PDFDocEncoding (ISO
+    32000-1, 7.9.2.2). The bytes are read as Latin-1, which agrees for most bytes from 0x20 to 0x7E and from 0xA1 on."""
     for mark, encoding in [(b"\xfe\xff", "utf-16-be"), (b"\xff\xfe", "utf-16-le"), (b"\xef\xbb\xbf", "utf-8")]:
         if data.startswith(mark):
             return data[len(mark) :].decode(encoding, "replace")

@@ -1,6 +1,6 @@
-"""The names of what can be found of the CMaps of fonts."""
+"""The names of warnings about the CMaps of fonts."""
 
-#: The warnings of `cmap check --lint`, in its order.
+#: The warnings of `cmap check --lint`, in the same order.
 WARNINGS = (
     "nothing-declared",
     "no-codespace",
@@ -25,12 +25,12 @@ WARNINGS = (
     "odd-text",
 )
 
-#: The warning that hardly a code has a text that is shown with a font.
+#: The warning that few shown codes of a font have a text.
 FEW_TEXTS = "few-texts"
 
-#: Warnings of `cmap check --lint` that aren't for CMaps in PDF files: these have no names of files, and a subset of a
-#: font has few of the codes of its codespace ranges.
+#: Warnings of `cmap check --lint` that don't apply to CMaps in PDF files: a stream has no file name, and a font subset
+#: has few of the codes in its codespace ranges.
 LEFT_OUT = ("name-differs", "no-mapping")
 
-#: Warnings about how a range is written, which all readers take in the same way: no text is in doubt.
+#: Warnings about the written form of a range, which all readers read in the same way: no text is in doubt.
 OF_FORM = ("crosses-row",)

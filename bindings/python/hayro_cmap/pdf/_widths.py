@@ -1,6 +1,6 @@
-"""How far each glyph of a font moves the next one (ISO 32000-1, 9.2.4, 9.6.2, 9.7.4.3).
+"""The widths of the glyphs of a font (ISO 32000-1, 9.2.4, 9.6.2, 9.7.4.3).
 
-Widths are in thousandths of a unit of text space, before the size of the font. A malformed array gives defaults.
+Widths are in thousandths of a unit of text space, before scaling by the font size. A malformed array gives defaults.
 """
 
 import functools
@@ -30,39 +30,38 @@ from ._objects import MALFORMED, dictionary_at, integer_at
 if TYPE_CHECKING:
     from ._fonts import Font
 
-#: The width of a CID that the arrays of a font don't have.
+#: The width of a CID that isn't in the arrays of a font.
 DEFAULT_OF_CID = 1000.0
 
-#: The widths of a simple font of which nothing else is known: of one whose flags say that all are equal, and of others.
+#: The widths in a simple font without other information: with the flag for a fixed pitch, and without it.
 DEFAULT_OF_FIXED_PITCH = 600.0
 DEFAULT_OF_CODE = 500.0
 
-#: The flag of a font descriptor that says that all glyphs have one width (ISO 32000-1, 9.8.2).
+#: The flag of a font descriptor for glyphs with equal widths (ISO 32000-1, 9.8.2).
 FIXED_PITCH = 1 << 0
 
-#: How a Type 3 font without a matrix would scale its glyphs.
+#: The scale of the glyphs of a Type 3 font without a matrix.
 THOUSANDTH = 0.001
 
-#: How many widths are taken of the arrays of a CIDFont, each as often as it is given.
+#: The maximum number of widths from an array of a CIDFont. A repeated width counts each time.
 MOST_WIDTHS = 1 << 18
 
-#: The largest number that is taken for a width.
+#: The largest number that is accepted as a width.
 LARGEST = 1e6
 
-#: What stands in the place of a CID that is none.
+#: The value in place of an invalid CID.
 NO_CID = -1
 
-#: A CID with its numbers of an array, and None for what is no number.
-#: What an array of numbers has: a number, an array, or None for anything else.
+#: An element of an array: a number, an array, or None for anything else.
 Value = Union[None, float, List[Any]]
 
-#: An array as it is written, if it has nothing but direct numbers, or also arrays of these; and what it has: an array,
-#: or numbers between arrays.
+#: The written form of an array of direct numbers; of an array that also has arrays of direct numbers; and of a part of
+#: it, which is an array, or the numbers between arrays.
 NUMBERS = re.compile(rb"\[[-+.0-9 ]*\]")
 PLAIN = re.compile(rb"\[[-+.0-9 ]*(?:\[[-+.0-9 ]*\][-+.0-9 ]*)*\]")
 RUN = re.compile(rb"\[([^\[\]]*)\]|([^\[\]]+)")
 
-#: The widths of standard fonts, by what their names have: of the first row all of whose words a name has.
+#: The widths of standard fonts. A font has the widths of the first row with words that are all in its name.
 STANDARD_FONTS: List[Tuple[Tuple[str, ...], Dict[str, int]]] = [
     (("Courier",), COURIERS),
     (("Symbol",), SYMBOL),
@@ -79,22 +78,22 @@ STANDARD_FONTS: List[Tuple[Tuple[str, ...], Dict[str, int]]] = [
 
 
 class Vertical(NamedTuple):
-    """How a glyph is placed in vertical writing (ISO 32000-1, 9.7.4.3), in thousandths of a unit of text space."""
+    """The position of a glyph in vertical writing (ISO 32000-1, 9.7.4.3), in thousandths of a unit of text space."""
 
-    #: By how much it moves on what is shown next; less than 0 is down.
+    #: The displacement of the next glyph. A negative number is down.
     advance: float
-    #: Where its origin of vertical writing is, from that of horizontal writing.
+    #: The origin for vertical writing, relative to the origin for horizontal writing.
     x: float
     y: float
 
 
-#: What the entry DW2 is by default: y of the origin, and the advance.
+#: The default of the entry DW2: y of the origin, and the advance.
 DEFAULT_VERTICAL = (880.0, -1000.0)
 
 
 class Widths:
-    """The widths of the glyphs of a font. `missing` gives the width of the codes for which the table has None; it is
-    called at most once, while the file is open."""
+    """The widths of the glyphs of a font. `missing` gives the width of codes with None in the table. It is called at
+    most once, while the file is open."""
 
     def __init__(
         self,
@@ -106,7 +105,7 @@ class Widths:
         missing: Callable[[], float] = float,
     ):
         self._table, self._missing_of = table, missing
-        #: The widths of the CIDs of a composite font, and that of all others.
+        #: The widths of CIDs of a composite font, and the width of all other CIDs.
         self.by_cid = by_cid
         self.default = default
         #: Whether strings are written from the top down.
@@ -119,7 +118,7 @@ class Widths:
         """The widths of a font."""
         if not font.is_composite:
             scale = scale_of(font)
-            # without the font, which has these widths: no reference goes round
+            # this holds no reference to the font, which would be a cycle
             missing = functools.partial(missing_width, font.dictionary, scale)
             return cls(simple_widths(font, scale), {}, DEFAULT_OF_CODE, missing=missing)
         descendant = pikepdf.Dictionary() if font.descendant is None else font.descendant
@@ -132,24 +131,24 @@ class Widths:
 
     @functools.cached_property
     def _missing(self) -> float:
-        """The width of a code that isn't in the table, which few fonts show."""
+        """The width of a code with None in the table. Few fonts show such a code."""
         return self._missing_of()
 
     @property
     def table(self) -> List[float]:
-        """The widths of the codes 0 to 255 of a simple font; none of a composite one."""
+        """The widths of the codes 0 to 255 of a simple font; empty for a composite font."""
         return [self._missing if it is None else it for it in self._table]
 
     def advance(self, code: int, cid: Optional[int] = None) -> float:
-        """How far the glyph of a code, or of a CID of a composite font, moves the next glyph in horizontal writing. A
-        code without a CID has CID 0."""
+        """The width of the glyph of a code, or of a CID in a composite font, for horizontal writing. A code without a
+        CID has CID 0."""
         if self._table:
             width = self._table[code] if code < len(self._table) else self.default
             return self._missing if width is None else width
         return self.by_cid.get(cid or 0, self.default)
 
     def vertical(self, cid: Optional[int]) -> Vertical:
-        """How the glyph of a CID of a composite font is placed in vertical writing."""
+        """The position of the glyph of a CID of a composite font in vertical writing."""
         found = self._verticals.get(cid or 0)
         if found is not None:
             return found
@@ -158,14 +157,14 @@ class Widths:
 
 
 def simple_widths(font: "Font", scale: float) -> Sequence[Optional[float]]:
-    """The widths of the codes 0 to 255 of a simple font: those that it gives, or else of its program, or of a standard
-    font of its name. None stands for the width of missing ones."""
+    """The widths of the codes 0 to 255 of a simple font, from its array Widths, otherwise from its program, otherwise
+    from the standard font with its name. None stands for the missing width."""
     return given_widths(font, scale) or program_widths(font) or standard_widths(font)
 
 
 def given_widths(font: "Font", scale: float) -> List[Optional[float]]:
-    """The widths of the codes 0 to 255 by the array Widths of a simple font, with None for what it doesn't have; none
-    where it has no number."""
+    """The widths of the codes 0 to 255 from the array Widths of a simple font, with None for a code that isn't in the
+    array; empty if the array has no number."""
     given = numbers(font.dictionary.get("/Widths"))
     if given.count(None) == len(given):
         return []
@@ -179,12 +178,12 @@ def given_widths(font: "Font", scale: float) -> List[Optional[float]]:
 
 
 def missing_width(font: pikepdf.Dictionary, scale: float) -> float:
-    """The width of the codes of a simple font that its array Widths doesn't have (ISO 32000-1, 9.8.1)."""
+    """The width of the codes of a simple font that aren't in its array Widths (ISO 32000-1, 9.8.1)."""
     return scale * number_at(dictionary_at(font, "/FontDescriptor"), "/MissingWidth", 0.0)
 
 
 def program_widths(font: "Font") -> List[float]:
-    """The widths of the codes 0 to 255 by the embedded TrueType or OpenType program of a font; none without one."""
+    """The widths of the codes 0 to 255 from the embedded TrueType or OpenType program of a font; empty without one."""
     advances = font.program.sfnt.advances()
     if not advances:
         return []
@@ -193,8 +192,8 @@ def program_widths(font: "Font") -> List[float]:
 
 
 def standard_widths(font: "Font") -> List[float]:
-    """The widths of the codes 0 to 255 by the names of their glyphs, if the font has the name of a standard font, or of
-    one with the same widths; else a default for all."""
+    """The widths of the codes 0 to 255 by their glyph names, if the name of the font is the name of a standard font, or
+    of a font with the same widths; otherwise a default for all codes."""
     base_font = font.base_font or ""
     is_fixed = integer_at(dictionary_at(font.dictionary, "/FontDescriptor"), "/Flags") & FIXED_PITCH
     default = DEFAULT_OF_FIXED_PITCH if is_fixed else DEFAULT_OF_CODE
@@ -205,8 +204,8 @@ def standard_widths(font: "Font") -> List[float]:
 
 
 def scale_of(font: "Font") -> float:
-    """How many thousandths of a unit of text space a unit of widths is: of a Type 3 font its matrix says so (ISO
-    32000-1, 9.6.5)."""
+    """The unit of widths, in thousandths of a unit of text space. The matrix of a Type 3 font gives it (ISO 32000-1,
+    9.6.5)."""
     if font.subtype != "Type3":
         return 1.0
     matrix = numbers(font.dictionary.get("/FontMatrix"))
@@ -214,7 +213,7 @@ def scale_of(font: "Font") -> float:
 
 
 def widths_of_cids(descendant: pikepdf.Dictionary, budget: Budget) -> Dict[int, float]:
-    """The widths of the CIDs of the array W of a CIDFont."""
+    """The widths of the CIDs in the array W of a CIDFont."""
     found: Dict[int, float] = {}
     for first, row in runs_of(descendant.get("/W"), 1, budget):
         widths = zip(range(first, CIDS), row)
@@ -225,7 +224,7 @@ def widths_of_cids(descendant: pikepdf.Dictionary, budget: Budget) -> Dict[int, 
 
 
 def verticals_of_cids(descendant: pikepdf.Dictionary, budget: Budget) -> Dict[int, Vertical]:
-    """How the CIDs of the array W2 of a CIDFont are placed in vertical writing."""
+    """The positions of the CIDs in the array W2 of a CIDFont, for vertical writing."""
     found: Dict[int, Vertical] = {}
     size = len(Vertical._fields)
     for first, row in runs_of(descendant.get("/W2"), size, budget):
@@ -236,9 +235,10 @@ def verticals_of_cids(descendant: pikepdf.Dictionary, budget: Budget) -> Dict[in
 
 
 def runs_of(listed: Any, size: int, budget: Budget) -> Iterator[Tuple[int, List[Value]]]:
-    """The first CID of each run of CIDs of an array W or W2, and their numbers, `size` for each CID.
+    """The first CID of each run of CIDs in an array W or W2, and the numbers of the run, `size` numbers for each CID.
 
-    After a first CID stands an array with the numbers of CID after CID, or the last CID and the numbers of each.
+    A first CID is followed by an array with the numbers of consecutive CIDs, or by the last CID and numbers that apply
+    to each CID.
     """
     values, left = iter(values_of(listed)), MOST_WIDTHS
     for first in values:
@@ -254,12 +254,13 @@ def runs_of(listed: Any, size: int, budget: Budget) -> Iterator[Tuple[int, List[
 
 
 def cid_of(value: Value) -> int:
-    """The CID of a number; one that is none for anything else."""
+    """The CID with a number; `NO_CID` for any other value."""
     return int(min(value, CIDS)) if isinstance(value, float) else NO_CID
 
 
 def values_of(listed: Any) -> List[Value]:
-    """What an array has, with None for what is neither a number nor an array; nothing for anything else."""
+    """The elements of an array, with None for an element that is neither a number nor an array; empty for any other
+    object."""
     try:
         if not isinstance(listed, pikepdf.Array):
             return []
@@ -274,7 +275,7 @@ def values_of(listed: Any) -> List[Value]:
 
 
 def values_in(written: bytes) -> List[Value]:
-    """The numbers and arrays of numbers that are written here. To make objects of each takes longer."""
+    """The numbers and arrays of numbers in these bytes. An object for each number would take longer."""
     found: List[Value] = []
     for array, row in RUN.findall(written):
         if row:
@@ -285,7 +286,7 @@ def values_in(written: bytes) -> List[Value]:
 
 
 def numbers(listed: Any) -> List[Optional[float]]:
-    """The numbers of an array, with None for what is none, or is too large."""
+    """The numbers of an array, with None for an element that isn't a number, or is too large."""
     found = values_of(listed)
     return found if are_widths(found) else [it if is_width(it) else None for it in found]
 
@@ -296,12 +297,13 @@ def is_width(value: Value) -> bool:
 
 
 def are_widths(values: List[Value]) -> bool:
-    """Whether all values are such numbers; not of no value. It takes less time than to look at each."""
+    """Whether all values are such numbers; False for an empty list. This is faster than a call for each value."""
     return set(map(type, values)) == {float} and -LARGEST <= min(values) and max(values) <= LARGEST
 
 
 def pair_of(listed: Any, usual: Tuple[float, float]) -> Tuple[float, float]:
-    """The numbers of an array of two; the usual ones for what is none."""
+    """The two numbers of an array, with the usual number in place of an invalid number; the usual numbers for any other
+    object."""
     found = numbers(listed)
     if len(found) != len(usual):
         return usual
@@ -310,7 +312,7 @@ def pair_of(listed: Any, usual: Tuple[float, float]) -> Tuple[float, float]:
 
 
 def number_at(dictionary: pikepdf.Object, key: str, default: float) -> float:
-    """The number at a key; the default where there is none, or one that is too large."""
+    """The number at a key; the default if there is no number, or it is too large."""
     found = number(dictionary.get(key))
     return found if is_width(found) else default
 
