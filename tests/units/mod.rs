@@ -10,6 +10,7 @@ mod cmap_writer;
 mod bits;
 mod differences;
 mod flattened;
+mod loader;
 mod maker;
 mod tables;
 mod tidied;

@@ -26,6 +26,7 @@ pub mod GraphUses
 pub mod GraphHeights
 pub mod GraphGrowing
 pub mod GraphWalks
+pub mod CopiedNames
 pub mod Numbered
 pub mod TableGrowing
 pub mod Shown

@@ -22,7 +22,7 @@ use Rattle.cmap_load.proofs.BudgetLeft.{IsOver-more, sum-append}
 use Rattle.cmap_load.proofs.FewNames.{IsFaultWithin-few}
 use Rattle.cmap_load.proofs.OneFault.{first_past, free_of_bundle}
 use Rattle.cmap_load.specs.Loading.{Agrees, Answer, AreLoaded, IsAnswered, IsFaulty, IsRefusal, IsWithin, OpensOnly, OpensOnlyFirst, bytes_at}
-use Rattle.cmap_load.specs.Loads.{FitsGiven, IsRefused, Loads, answers_of, budget_of, tables_in, wanted_of}
+use Rattle.cmap_load.specs.Loads.{FitsGiven, IsRefused, Loads, Reads, budget_of, wanted_of}
 use Rattle.cmap_load.specs.declared.loader.Loader.{Loader}
 use Rattle.cmap_load.proofs.Agreed.{IsFault-as, IsMap-agreed, no_map}
 use Rattle.cmap_load.proofs.Growing.{first_answer_pushed}
@@ -40,25 +40,30 @@ Agrees-pushed {answer} answers name bytes agrees said other found h = elim (firs
 pub Agrees-none : (answer : List ℕ → Option (List ℕ) → Type 0) (bytes : List ℕ) → Agrees (IsAnswered (record { name = None; bytes = Some bytes } ∷ [])) answer
 Agrees-none answer bytes name found h = absurd (cc)
 
--- what loads a file still does so with one answer more
-pub Loads-supplied : {tables : Option PrefixTables} {budget : Option ℕ} {answer : List ℕ → Option (List ℕ) → Type 0} {bytes : List ℕ} (old new : Loader) (name : List ℕ) (found : Option (List ℕ)) → wanted_of old ≡ Some name → tables_in new ≡ tables_in old → budget_of new ≡ budget_of old
-    → IfSome (wanted_of old) (λ name. answers_of new ≡ answers_of old ++ record { name = Some name; bytes = found } ∷ []) → answer name found → Loads tables budget answer bytes old → Loads tables budget answer bytes new
-Loads-supplied {tables} {budget} {answer} {bytes} old new name found is same left more said loads =
-    let pushed : answers_of new ≡ answers_of old ++ record { name = Some name; bytes = found } ∷ [] = subst (λ wanted. IfSome wanted (λ name. answers_of new ≡ answers_of old ++ record { name = Some name; bytes = found } ∷ [])) is more in
-    record {
-      over = same ∙ loads.over;
-      within = left ∙ loads.within;
-      first = ap (λ answers. bytes_at answers 0) pushed ∙ bytes_at_front (answers_of old) (record { name = Some name; bytes = found } ∷ []) 0 bytes loads.first;
-      agrees = subst (λ answers. Agrees (IsAnswered answers) answer) (sym pushed) (Agrees-pushed (answers_of old) name found loads.agrees said);
-    }
+module _ {N : Type 0} {texts : N → List (List ℕ)} {tables : Option PrefixTables} {budget : Option ℕ} {answer : List ℕ → Option (List ℕ) → Type 0} {bytes : List ℕ} where
+  -- what loads a file still does so with one answer more
+  pub Loads-supplied : (old new : Loader N) (name : List ℕ) (found : Option (List ℕ)) → wanted_of texts old ≡ Some name → budget_of new ≡ budget_of old
+      → IfSome (wanted_of texts old) (λ name. (answers : List Answer) → Reads texts tables answers old → Reads texts tables (answers ++ record { name = Some name; bytes = found } ∷ []) new) → answer name found
+      → Loads texts tables budget answer bytes old → Loads texts tables budget answer bytes new
+  Loads-supplied old new name found is left more said loads =
+      let reads : (answers : List Answer) → Reads texts tables answers old → Reads texts tables (answers ++ record { name = Some name; bytes = found } ∷ []) new =
+      subst (λ wanted. IfSome wanted (λ name. (answers : List Answer) → Reads texts tables answers old → Reads texts tables (answers ++ record { name = Some name; bytes = found } ∷ []) new)) is more in
+      record {
+        answers = loads.answers ++ record { name = Some name; bytes = found } ∷ [];
+        reads = reads loads.answers loads.reads;
+        within = left ∙ loads.within;
+        first = bytes_at_front loads.answers (record { name = Some name; bytes = found } ∷ []) 0 bytes loads.first;
+        agrees = Agrees-pushed loads.answers name found loads.agrees said;
+      }
 
-pub Loads-new : {answer : List ℕ → Option (List ℕ) → Type 0} (bytes : List ℕ) (loader : Loader) → answers_of loader ≡ record { name = None; bytes = Some bytes } ∷ [] → Loads (tables_in loader) (budget_of loader) answer bytes loader
-Loads-new {answer} bytes loader is = record {
-  over = refl;
-  within = refl;
-  first = ap (λ answers. bytes_at answers 0) is;
-  agrees = subst (λ answers. Agrees (IsAnswered answers) answer) (sym is) (Agrees-none answer bytes);
-}
+  pub Loads-new : (loader : Loader N) → budget_of loader ≡ budget → Reads texts tables (record { name = None; bytes = Some bytes } ∷ []) loader → Loads texts tables budget answer bytes loader
+  Loads-new loader within reads = record {
+    answers = record { name = None; bytes = Some bytes } ∷ [];
+    reads = reads;
+    within = within;
+    first = refl;
+    agrees = Agrees-none answer bytes;
+  }
 
 -- by answers by name that agree with those of a loader
 module _ (tables : Option PrefixTables) (answers : List Answer) (budget : Option ℕ) {answer : List ℕ → Option (List ℕ) → Type 0} (agrees : Agrees (IsAnswered answers) answer) (by_name : IsByName answer) (bytes : List ℕ) where
@@ -115,8 +120,13 @@ module _ (tables : Option PrefixTables) (answers : List Answer) (budget : Option
   IsRefusedBy-refusal names ChainLength refused = faulty names ChainLength (λ is. absurd (cc)) refused (λ fault. fault)
   IsRefusedBy-refusal names OverBudget refused = exceeds names refused
 
+-- a refusal with other words for the same
+pub IsRefused-same : (tables : Option PrefixTables) (answers : List Answer) {budget other : Option ℕ} {names same : List (List ℕ)} {cause this : Cause} → IsRefused tables budget answers names cause → budget ≡ other → same ≡ names → this ≡ cause → IsRefused tables other answers same this
+IsRefused-same tables answers {budget} {other} {names} {same} {cause} {this} is budgets texts causes =
+    subst (λ b. IsRefused tables b answers same this) budgets (subst (λ n. IsRefused tables budget answers n this) (sym texts) (subst (λ c. IsRefused tables budget answers names c) (sym causes) is))
+
 -- what a loader finds, by answers that agree with what it was given
-module _ {tables : Option PrefixTables} {budget : Option ℕ} {answer : List ℕ → Option (List ℕ) → Type 0} {bytes : List ℕ} (by_name : IsByName answer) (loader : Loader) (loads : Loads tables budget answer bytes loader) where
+module _ (tables : Option PrefixTables) (budget : Option ℕ) {answer : List ℕ → Option (List ℕ) → Type 0} {bytes : List ℕ} (by_name : IsByName answer) (given : List Answer) (begins : bytes_at given 0 ≡ Some bytes) (agrees : Agrees (IsAnswered given) answer) where
   -- what is found says this
   pub record IsFoundBy (result : Result (List Layer) (Fault Refusal)) : Type 0 where
     pub accepts : IfOk result (IsMapOf tables answer bytes)
@@ -127,11 +137,11 @@ module _ {tables : Option PrefixTables} {budget : Option ℕ} {answer : List ℕ
     pub first : IfErr result (RefusesWith (λ refusal. refusal.cause ≢ OverBudget → AreOfBundle tables → IsFirstPastFaults tables answer bytes budget (names_seen refusal.names.items) refusal.cause))
     pub few : IfErr result (RefusesWith (λ refusal. length refusal.names.items ≤ 16))
 
-  pub found : (result : Result (List Layer) (Fault Refusal)) → IfOk result (AreLoaded (tables_in loader) (answers_of loader)) → OnOk result (FitsGiven (tables_in loader) (budget_of loader) (answers_of loader))
-      → IfErr result (RefusesWith (λ refusal. IsRefused (tables_in loader) (budget_of loader) (answers_of loader) (names_seen refusal.names.items) refusal.cause)) → IsFoundBy result
+  pub found : (result : Result (List Layer) (Fault Refusal)) → IfOk result (AreLoaded tables given) → OnOk result (FitsGiven tables budget given)
+      → IfErr result (RefusesWith (λ refusal. IsRefused tables budget given (names_seen refusal.names.items) refusal.cause)) → IsFoundBy result
   found (Ok layers) loaded whole refused = record {
-    accepts = subst (λ t. IsMapOf t answer bytes layers) loads.over (IsMapOf-loaded (tables_in loader) (answers_of loader) (budget_of loader) loads.agrees by_name bytes layers loads.first loaded);
-    within = subst (λ t. FitsBudget t answer bytes budget) loads.over (subst (λ b. FitsBudget (tables_in loader) answer bytes b) loads.within (FitsBudget-within (tables_in loader) (answers_of loader) (budget_of loader) loads.agrees by_name bytes (whole.from bytes loads.first)));
+    accepts = IsMapOf-loaded tables given budget agrees by_name bytes layers begins loaded;
+    within = FitsBudget-within tables given budget agrees by_name bytes (whole.from bytes begins);
     refuses = tt;
     over = tt;
     blames = tt;
@@ -140,29 +150,16 @@ module _ {tables : Option PrefixTables} {budget : Option ℕ} {answer : List ℕ
   }
   found (Err (fault.Refused refusal)) loaded whole refused =
       let names = names_seen refusal.names.items in
-      let by : IsRefusedBy (tables_in loader) (answers_of loader) (budget_of loader) loads.agrees by_name bytes names refusal.cause =
-      IsRefusedBy-refusal (tables_in loader) (answers_of loader) (budget_of loader) loads.agrees by_name bytes names refusal.cause (refused.from bytes loads.first) in
-      let nothing = subst (λ t. refusal.cause ≢ OverBudget → HasNoMap t answer bytes × FitsBudget t answer bytes budget) loads.over (subst (λ b. refusal.cause ≢ OverBudget → HasNoMap (tables_in loader) answer bytes × FitsBudget (tables_in loader) answer bytes b) loads.within by.refuses) in
-      let leads = subst (λ t. LeadsToFault t answer bytes budget names refusal.cause) loads.over (subst (λ b. LeadsToFault (tables_in loader) answer bytes b names refusal.cause) loads.within by.blames) in
-      let short = IsFaultWithin-few tables answer budget 16 bytes names refusal.cause leads in
+      let by : IsRefusedBy tables given budget agrees by_name bytes names refusal.cause = IsRefusedBy-refusal tables given budget agrees by_name bytes names refusal.cause (refused.from bytes begins) in
+      let short = IsFaultWithin-few tables answer budget 16 bytes names refusal.cause by.blames in
       let same : length names ≡ length refusal.names.items = simp length-map in
       record {
         accepts = tt;
         within = tt;
-        refuses = nothing;
-        over = subst (λ t. refusal.cause ≡ OverBudget → ExceedsBudget t answer bytes budget) loads.over (subst (λ b. refusal.cause ≡ OverBudget → ExceedsBudget (tables_in loader) answer bytes b) loads.within by.over);
-        blames = leads;
-        first = λ other of_bundle. let (none, within) = nothing other in first_past tables (free_of_bundle tables of_bundle) answer by_name budget bytes names refusal.cause other none within leads;
+        refuses = by.refuses;
+        over = by.over;
+        blames = by.blames;
+        first = λ other of_bundle. let (none, within) = by.refuses other in first_past tables (free_of_bundle tables of_bundle) answer by_name budget bytes names refusal.cause other none within by.blames;
         few = omega (arith, short, same);
       }
   found (Err fault.Memory) loaded whole refused = record { accepts = tt; within = tt; refuses = tt; over = tt; blames = tt; first = tt; few = tt }
-
--- a loader with one answer more
-pub one_longer : (old new : Loader) (name : List ℕ) (found : Option (List ℕ)) → wanted_of old ≡ Some name → IfSome (wanted_of old) (λ name. answers_of new ≡ answers_of old ++ record { name = Some name; bytes = found } ∷ [])
-    → length new.answers.items ≡ length old.answers.items + 1
-one_longer old new name found is more =
-    let pushed : answers_of new ≡ answers_of old ++ record { name = Some name; bytes = found } ∷ [] = subst (λ wanted. IfSome wanted (λ name. answers_of new ≡ answers_of old ++ record { name = Some name; bytes = found } ∷ [])) is more in
-    let long : length (answers_of new) ≡ length (answers_of old) + 1 = ap length pushed ∙ simp length-append in
-    let was : length (answers_of old) ≡ length old.answers.items = simp length-map in
-    let now : length (answers_of new) ≡ length new.answers.items = simp length-map in
-    omega (arith, long, was, now)

@@ -12,7 +12,7 @@ use Rattle.cmap_load.specs.Graphs.{AreNamed, EachWhole, IsAwaiting, IsFileOf, Is
 use Rattle.cmap_load.specs.Loading as loading
 use Rattle.cmap_load.specs.Loading.{Answer, IsAnswered, IsRefusal, IsWanted, LeadsToAnswer, MeansOnly, OfBytes, OpensOnly, bytes_at, first_answer}
 use Rattle.cmap_load.specs.Numbers.{text_at}
-use Rattle.cmap_load.specs.Tables.{IsTable, Shows, file_of, texts_in}
+use Rattle.cmap_load.specs.Tables.{IsTable, Shows, file_of}
 use Rattle.cmap_load.specs.declared.graph.Graph.{Graph}
 use Rattle.cmap_load.specs.declared.graph.Node.{Node}
 use Rattle.cmap_load.specs.declared.graph.step.Wanted.{Wanted}
@@ -34,10 +34,10 @@ pub record AreMeant (tables : Option PrefixTables) (answers : List Answer) (text
   pub files : (i : ℕ) (node : Node) → slice_get graph.nodes.items i ≡ Some node → OfBytes (bytes_at answers i) (IsMeant tables text node)
   pub found : (name i : ℕ) → IsFileOf graph name i → first_answer answers (text name) ≡ Some (bytes_at answers i)
 
-pub meant : (tables : Option PrefixTables) (answers : List Answer) (table : Table) → IsTable table → Shows tables answers table → AreMeant tables answers (text_at (texts_in table)) table.graph
-meant tables answers table is shows = record {
+pub meant : (tables : Option PrefixTables) (answers : List Answer) (texts : List (List ℕ)) (table : Table) → IsTable table → Shows tables answers texts table → AreMeant tables answers (text_at texts) table.graph
+meant tables answers texts table is shows = record {
   files = λ i node there. elim (slice_get_cases table.contents.items i).1 [
-    | inl (contents, within, got, _) ↦ (let (bytes, at, holds) = shows.files i node contents there got in (bytes, at, (holds.0, (file_of contents (map (text_at (texts_in table)) node.uses.items), holds.1, refl))))
+    | inl (contents, within, got, _) ↦ (let (bytes, at, holds) = shows.files i node contents there got in (bytes, at, (holds.0, (file_of contents (map (text_at texts) node.uses.items), holds.1, refl))))
     | inr (past, _) ↦ (let lt = slice_get_within table.graph.nodes.items i node there in let all = is.contents in absurd (omega (arith, lt, past, all)))
   ];
   found = shows.found;

@@ -1,15 +1,13 @@
 -- The numbers of names.
-use Rattle.std.proofs.Common.{◌≡◌, ◌≢◌, refl, sym, ap, subst, ◌∙◌, ℕ, ◌+◌, ◌<◌, Bool, true, false, List, [], ◌∷◌, ◌++◌, length, map, get_or, Some, None, inl, inr}
+use Rattle.std.proofs.Common.{◌≡◌, ◌≢◌, refl, sym, ap, subst, ◌∙◌, ℕ, ◌<◌, Bool, true, false, List, Option, [], ◌∷◌, ◌++◌, append-nil, length, map, get_or, Some, None, inl, inr}
 use Rattle.std.specs.Prelude.{All, bytes_eq, slice_get, if◌then◌else◌}
 use Rattle.std.specs.Borrow.{Bor}
-use Rattle.std.proofs.Math.ListN.{length-map}
 use Rattle.std.proofs.lemmas.List.{get_or-map, get_or_append_left, map-append}
 use Rattle.std.proofs.lemmas.List.Elements.{All-head, All-tail}
 use Rattle.std.proofs.lemmas.Option.{get_or_from_slice_get, slice_get-get_or}
 use Rattle.std.proofs.lemmas.Slice.Eq.{bytes_eq-Decides}
 use Rattle.cmap_values.specs.NamesSeen.{names_seen}
-use Rattle.cmap_load.specs.Numbers.{AreNumbered, number_of, text_at, texts_of}
-use Rattle.cmap_load.specs.declared.names.Names.{Names}
+use Rattle.cmap_load.specs.Numbers.{AreDistinct, FindsEach, IsMore, IsNumbered, text_at}
 use Rattle.cmap_load.proofs.GraphGrowing.{slice_get_last, slice_get_left, slice_get_pushed}
 
 pub bytes_eq-same : (name : List ℕ) → bytes_eq name name ≡ true
@@ -47,49 +45,52 @@ texts_still texts more (number ∷ numbers) are =
 pub text_read : (items : List (Bor (List ℕ))) (number : ℕ) (text : Bor (List ℕ)) → number < length items → text ≡ get_or items number text → text.now ≡ text_at (names_seen items) number
 text_read items number text lt is = ap (λ (b : Bor (List ℕ)). b.now) is ∙ sym (get_or-map (λ x. x.now) items number text [] lt)
 
--- two names with one text are one name
-pub one_number : (names : Names) → AreNumbered names → (first second : ℕ) (text : List ℕ) → slice_get (texts_of names) first ≡ Some text → slice_get (texts_of names) second ≡ Some text → first ≡ second
-one_number names are first second text one other =
+-- names that are found by their texts have different texts
+pub distinct : (found : List ℕ → Option ℕ) (texts : List (List ℕ)) → FindsEach found texts → AreDistinct texts
+distinct found texts are = λ first second text one other.
     let e : Some first ≡ Some second = sym (are.all first text one) ∙ are.all second text other in
     cc
 
 -- ---- a further name
-module _ (old new : Names) (name : Bor (List ℕ)) (are : AreNumbered old) (none : number_of old name.now ≡ None) (number : ℕ) (is_number : number ≡ length old.texts.items)
-    (noted : (other : List ℕ) → number_of new other ≡ (if bytes_eq name.now other then Some number else number_of old other)) (pushed : new.texts.items ≡ old.texts.items ++ name ∷ []) where
-  texts : texts_of new ≡ texts_of old ++ name.now ∷ []
-  texts = texts_pushed old.texts.items new.texts.items name pushed
+module _ (old new : List ℕ → Option ℕ) (texts : List (List ℕ)) (name : List ℕ) (are : FindsEach old texts) (none : old name ≡ None) (number : ℕ) (is_number : number ≡ length texts)
+    (noted : (other : List ℕ) → new other ≡ (if bytes_eq name other then Some number else old other)) where
+  noted_same : (other : List ℕ) → name ≡ other → new other ≡ Some number
+  noted_same other same = noted other ∙ ap (λ (b : Bool). if b then Some number else old other) (ap (bytes_eq name) (sym same) ∙ bytes_eq-same name)
 
-  last : number ≡ length (texts_of old)
-  last = is_number ∙ sym (length-map old.texts.items (λ x. x.now))
+  noted_other : (other : List ℕ) → name ≢ other → new other ≡ old other
+  noted_other other differs = noted other ∙ ap (λ (b : Bool). if b then Some number else old other) (bytes_eq-other name other differs)
 
-  noted_same : (other : List ℕ) → name.now ≡ other → number_of new other ≡ Some number
-  noted_same other same = noted other ∙ ap (λ (b : Bool). if b then Some number else number_of old other) (ap (bytes_eq name.now) (sym same) ∙ bytes_eq-same name.now)
+  text_here : slice_get (texts ++ name ∷ []) number ≡ Some name
+  text_here = ap (slice_get (texts ++ name ∷ [])) is_number ∙ slice_get_last texts name
 
-  noted_other : (other : List ℕ) → name.now ≢ other → number_of new other ≡ number_of old other
-  noted_other other differs = noted other ∙ ap (λ (b : Bool). if b then Some number else number_of old other) (bytes_eq-other name.now other differs)
-
-  text_here : slice_get (texts_of new) number ≡ Some name.now
-  text_here = ap (λ l. slice_get l number) texts ∙ ap (slice_get (texts_of old ++ name.now ∷ [])) last ∙ slice_get_last (texts_of old) name.now
-
-  pub numbered_more : AreNumbered new
+  pub numbered_more : FindsEach new (texts ++ name ∷ [])
   numbered_more = record {
     at = λ text found is.
-        let decide : (b : Bool) → bytes_eq name.now text ≡ b → slice_get (texts_of new) found ≡ Some text = λ b. elim b as (λ k. bytes_eq name.now text ≡ k → slice_get (texts_of new) found ≡ Some text) [
+        let decide : (b : Bool) → bytes_eq name text ≡ b → slice_get (texts ++ name ∷ []) found ≡ Some text = λ b. elim b as (λ k. bytes_eq name text ≡ k → slice_get (texts ++ name ∷ []) found ≡ Some text) [
           | true ↦ λ e.
-              let same : name.now ≡ text = (bytes_eq-Decides name.now text).0 e in
+              let same : name ≡ text = (bytes_eq-Decides name text).0 e in
               let numbers : Some number ≡ Some found = sym (noted_same text same) ∙ is in
               let one : number ≡ found = cc in
-              subst (λ t. slice_get (texts_of new) found ≡ Some t) same (subst (λ n. slice_get (texts_of new) n ≡ Some name.now) one text_here)
+              subst (λ t. slice_get (texts ++ name ∷ []) found ≡ Some t) same (subst (λ n. slice_get (texts ++ name ∷ []) n ≡ Some name) one text_here)
           | false ↦ λ e.
-              let was : number_of old text ≡ Some found = sym (ap (λ (b : Bool). if b then Some number else number_of old text) e) ∙ sym (noted text) ∙ is in
-              ap (λ l. slice_get l found) texts ∙ slice_get_left (texts_of old) (name.now ∷ []) found text (are.at text found was)
+              let was : old text ≡ Some found = sym (ap (λ (b : Bool). if b then Some number else old text) e) ∙ sym (noted text) ∙ is in
+              slice_get_left texts (name ∷ []) found text (are.at text found was)
         ] in
-        decide (bytes_eq name.now text) refl;
-    all = λ found text there. elim (slice_get_pushed (texts_of old) name.now found text (ap (λ l. slice_get l found) (sym texts) ∙ there)) [
+        decide (bytes_eq name text) refl;
+    all = λ found text there. elim (slice_get_pushed texts name found text there) [
       | inl before ↦ (
-          let was : number_of old text ≡ Some found = are.all found text before in
-          let differs : name.now ≢ text = λ same. (let e : None ≡ Some found = sym none ∙ ap (number_of old) same ∙ was in absurd (cc)) in
+          let was : old text ≡ Some found = are.all found text before in
+          let differs : name ≢ text = λ same. (let e : None ≡ Some found = sym none ∙ ap old same ∙ was in absurd (cc)) in
           noted_other text differs ∙ was)
-      | inr (end, same) ↦ noted_same text (sym same) ∙ ap Some (last ∙ sym end)
+      | inr (end, same) ↦ noted_same text (sym same) ∙ ap Some (is_number ∙ sym end)
     ];
   }
+
+-- ---- a name that has a number
+pub more_numbered : (before after : List (List ℕ)) (name : List ℕ) (number : ℕ) → IsNumbered before after name number → IsMore before after
+more_numbered before after name number (inl (there, same)) = ([], same ∙ sym (append-nil before))
+more_numbered before after name number (inr (last, more)) = (name ∷ [], more)
+
+pub there_numbered : (before after : List (List ℕ)) (name : List ℕ) (number : ℕ) → IsNumbered before after name number → slice_get after number ≡ Some name
+there_numbered before after name number (inl (there, same)) = ap (λ l. slice_get l number) same ∙ there
+there_numbered before after name number (inr (last, more)) = ap (slice_get after) last ∙ ap (λ l. slice_get l (length before)) more ∙ slice_get_last before name

@@ -1,20 +1,22 @@
--- A table with more names, and with one file more.
+-- A table with more names.
 use Rattle.std.proofs.Common.{◌≡◌, refl, sym, ap, subst, ◌∙◌, arith, ℕ, ◌+◌, ◌<◌, List, [], ◌∷◌, ◌++◌, append-nil, append_assoc, length, map, take, length-append, Some, None, inl, inr}
 use Rattle.std.specs.Prelude.{All, get_or, slice_get}
 use Rattle.std.specs.Borrow.{Bor}
 use Rattle.std.proofs.Math.ListN.{length-map}
 use Rattle.std.proofs.lemmas.List.{get_or-map, map-append, take_more}
 use Rattle.std.proofs.lemmas.List.Elements.{All-push}
+use Rattle.std.proofs.lemmas.Option.{slice_get_within}
 use Rattle.cmap_values.specs.NamesSeen.{names_seen}
 use Rattle.cmap_load.specs.Graphs.{AreNamed}
-use Rattle.cmap_load.specs.Numbers.{text_at}
-use Rattle.cmap_load.specs.Tables.{Grows, IsTable, texts_in}
+use Rattle.cmap_load.specs.Numbers.{AreDistinct, IsMore, IsNumbered, text_at}
+use Rattle.cmap_load.specs.Tables.{Grows, HasTexts}
+use Rattle.cmap_load.specs.declared.graph.Graph.{Graph}
 use Rattle.cmap_load.specs.declared.table.Table.{Table}
 use Rattle.cmap_load.proofs.GraphGrowing.{named_on, slice_get_left, slice_get_pushed}
-use Rattle.cmap_load.proofs.Numbered.{text_at-got, texts_pushed, texts_still}
+use Rattle.cmap_load.proofs.Numbered.{text_at-got, texts_still}
 
 pub Grows-none : (table : Table) → Grows table table
-Grows-none table = record { nodes = refl; heights = refl; budget = refl; contents = refl; more = []; texts = sym (append-nil (texts_in table)); found = λ name file is. is; back = λ name i is. is }
+Grows-none table = record { nodes = refl; heights = refl; budget = refl; contents = refl; found = λ name file is. is; back = λ name i is. is }
 
 pub Grows-more : (a b c : Table) → Grows a b → Grows b c → Grows a c
 Grows-more a b c first second = record {
@@ -22,22 +24,18 @@ Grows-more a b c first second = record {
   heights = second.heights ∙ first.heights;
   budget = second.budget ∙ first.budget;
   contents = second.contents ∙ first.contents;
-  more = first.more ++ second.more;
-  texts = second.texts ∙ ap (λ l. l ++ second.more) first.texts ∙ append_assoc (texts_in a) first.more second.more;
   found = λ name file is. second.found name file (first.found name file is);
   back = λ name i is. first.back name i (second.back name i is);
 }
 
 -- one name more
-pub Grows-named : (old new : Table) (name : Bor (List ℕ)) → new.graph.nodes ≡ old.graph.nodes → new.graph.heights ≡ old.graph.heights → new.graph.budget ≡ old.graph.budget → new.contents ≡ old.contents
-    → new.graph.found.items ≡ old.graph.found.items ++ None ∷ [] → new.names.texts.items ≡ old.names.texts.items ++ name ∷ [] → Grows old new
-Grows-named old new name nodes heights budget contents found texts = record {
+pub Grows-named : (old new : Table) → new.graph.nodes ≡ old.graph.nodes → new.graph.heights ≡ old.graph.heights → new.graph.budget ≡ old.graph.budget → new.contents ≡ old.contents
+    → new.graph.found.items ≡ old.graph.found.items ++ None ∷ [] → Grows old new
+Grows-named old new nodes heights budget contents found = record {
   nodes = nodes;
   heights = heights;
   budget = budget;
   contents = contents;
-  more = name.now ∷ [];
-  texts = texts_pushed old.names.texts.items new.names.texts.items name texts;
   found = λ number file is. ap (λ l. slice_get l number) found ∙ slice_get_left old.graph.found.items (None ∷ []) number file is;
   back = λ number i is. elim (slice_get_pushed old.graph.found.items None number (Some i) (ap (λ l. slice_get l number) (sym found) ∙ is)) [
     | inl before ↦ before
@@ -45,34 +43,61 @@ Grows-named old new name nodes heights budget contents found texts = record {
   ];
 }
 
--- as many texts as names
-pub texts_long : (table : Table) → IsTable table → length table.graph.found.items ≡ length (texts_in table)
-texts_long table is = is.long ∙ sym (length-map table.names.texts.items (λ x. x.now))
+pub IsMore-none : (texts : List (List ℕ)) → IsMore texts texts
+IsMore-none texts = ([], sym (append-nil texts))
 
-module _ (old new : Table) (is : IsTable old) (grows : Grows old new) where
-  pub named_still : IsTable new → (names : List ℕ) → AreNamed old.graph names → AreNamed new.graph names
+pub IsMore-more : (a b c : List (List ℕ)) → IsMore a b → IsMore b c → IsMore a c
+IsMore-more a b c (first, one) (second, other) = (first ++ second, other ∙ ap (λ l. l ++ second) one ∙ append_assoc a first second)
+
+-- ---- names in tables that grow
+module _ (before after : List (List ℕ)) (old new : Graph) (has : HasTexts before old) (more : IsMore before after) where
+  pub named_still : HasTexts after new → (names : List ℕ) → AreNamed old names → AreNamed new names
   named_still now names are =
-      let before = texts_long old is in let after = texts_long new now in
-      let long : length (texts_in new) ≡ length (texts_in old) + length grows.more = ap length grows.texts ∙ length-append (texts_in old) grows.more in
-      named_on (length old.graph.found.items) (length new.graph.found.items) names (omega (arith, before, after, long)) are
+      let long : length after ≡ length before + length more.0 = ap length more.1 ∙ length-append before more.0 in
+      let was = has.long in let is = now.long in
+      named_on (length old.found.items) (length new.found.items) names (omega (arith, was, is, long)) are
 
-  pub map_still : (names : List ℕ) → AreNamed old.graph names → map (text_at (texts_in new)) names ≡ map (text_at (texts_in old)) names
-  map_still names are =
-      let long = texts_long old is in
-      ap (λ t. map (text_at t) names) grows.texts ∙ texts_still (texts_in old) grows.more names (subst (λ n. All (λ name. name < n) names) long are)
+  pub map_still : (names : List ℕ) → AreNamed old names → map (text_at after) names ≡ map (text_at before) names
+  map_still names are = ap (λ t. map (text_at t) names) more.1 ∙ texts_still before more.0 names (subst (λ n. All (λ name. name < n) names) has.long are)
 
 -- the numbers of uses, and of one use more
-module _ (mid new : Table) (is : IsTable mid) (now : IsTable new) (grows : Grows mid new) (uses : List (Bor (List ℕ))) (i : ℕ) (d : Bor (List ℕ)) (lt : i < length uses) (numbers pushed : List ℕ) (number : ℕ) (same : pushed ≡ numbers ++ number ∷ [])
-    (there : slice_get (texts_in new) number ≡ Some (get_or uses i d).now) where
-  pub numbers_named : AreNamed mid.graph numbers → number < length new.graph.found.items → AreNamed new.graph pushed
-  numbers_named are within = subst (AreNamed new.graph) (sym same) (All-push (λ name. name < length new.graph.found.items) numbers number (named_still mid new is grows now numbers are) within)
+module _ (before after : List (List ℕ)) (mid new : Graph) (has : HasTexts before mid) (more : IsMore before after) (now : HasTexts after new) (uses : List (Bor (List ℕ))) (i : ℕ) (d : Bor (List ℕ)) (lt : i < length uses) (numbers pushed : List ℕ) (number : ℕ)
+    (same : pushed ≡ numbers ++ number ∷ []) (there : slice_get after number ≡ Some (get_or uses i d).now) where
+  pub numbers_named : AreNamed mid numbers → AreNamed new pushed
+  numbers_named are =
+      let within = slice_get_within after number _ there in let long = now.long in
+      subst (AreNamed new) (sym same) (All-push (λ name. name < length new.found.items) numbers number (named_still before after mid new has more now numbers are) (omega (arith, within, long)))
 
-  pub numbers_more : AreNamed mid.graph numbers → map (text_at (texts_in mid)) numbers ≡ take i (names_seen uses) → map (text_at (texts_in new)) pushed ≡ take (i + 1) (names_seen uses)
+  pub numbers_more : AreNamed mid numbers → map (text_at before) numbers ≡ take i (names_seen uses) → map (text_at after) pushed ≡ take (i + 1) (names_seen uses)
   numbers_more are so_far =
       let seen : i < length (names_seen uses) = simp length-map lt in
       let name : get_or (names_seen uses) i [] ≡ (get_or uses i d).now = get_or-map (λ x. x.now) uses i d [] lt in
-      let last : text_at (texts_in new) number ≡ get_or (names_seen uses) i [] = text_at-got (texts_in new) number (get_or uses i d).now there ∙ sym name in
-      ap (map (text_at (texts_in new))) same ∙ map-append (text_at (texts_in new)) numbers (number ∷ [])
-      ∙ ap (λ l. l ++ text_at (texts_in new) number ∷ []) (map_still mid new is grows numbers are ∙ so_far)
+      let last : text_at after number ≡ get_or (names_seen uses) i [] = text_at-got after number (get_or uses i d).now there ∙ sym name in
+      ap (map (text_at after)) same ∙ map-append (text_at after) numbers (number ∷ [])
+      ∙ ap (λ l. l ++ text_at after number ∷ []) (map_still before after mid new has more numbers are ∙ so_far)
       ∙ ap (λ t. take i (names_seen uses) ++ t ∷ []) last
       ∙ sym (take_more (names_seen uses) i [] seen)
+
+-- ---- one name
+-- a graph with one name more, if the list of names is longer than before
+module _ (before after : List (List ℕ)) (name : List ℕ) (number : ℕ) (is : IsNumbered before after name number) where
+  pub texts_longer : (old new : Graph) → HasTexts before old → AreDistinct after → number ≡ length old.found.items → new.found.items ≡ old.found.items ++ None ∷ [] → HasTexts after new
+  texts_longer old new has apart at_end found = record {
+    long = elim is [
+      | inl (there, same) ↦ (let within = slice_get_within before number name there in let long = has.long in absurd (omega (arith, within, long, at_end)))
+      | inr (last, more) ↦ (
+          let a : length new.found.items ≡ length old.found.items + 1 = ap length found ∙ length-append old.found.items (None ∷ []) in
+          let b : length after ≡ length before + 1 = ap length more ∙ length-append before (name ∷ []) in
+          let long = has.long in omega (arith, a, b, long))
+    ];
+    distinct = apart;
+  }
+
+  pub texts_same : (old : Graph) → HasTexts before old → AreDistinct after → (number ≡ length old.found.items → ⊥) → HasTexts after old
+  texts_same old has apart other = record {
+    long = elim is [
+      | inl (there, same) ↦ has.long ∙ ap length (sym same)
+      | inr (last, more) ↦ absurd (other (last ∙ sym has.long))
+    ];
+    distinct = apart;
+  }

@@ -17,7 +17,7 @@ use Rattle.cmap_load.specs.Layers.{AreLayers, OfAnswer}
 use Rattle.cmap_load.specs.Loading.{Answer, AreLoaded, IsAnswered, MeansOnly, bytes_at}
 use Rattle.cmap_load.specs.Loading as loading
 use Rattle.cmap_load.specs.Numbers.{text_at}
-use Rattle.cmap_load.specs.Tables.{IsTable, LayersFrom, LayersUnder, Shows, contents_layer, file_of, texts_in}
+use Rattle.cmap_load.specs.Tables.{IsTable, LayersFrom, LayersUnder, Shows, contents_layer, file_of}
 use Rattle.cmap_load.specs.declared.graph.Node.{Node}
 use Rattle.cmap_load.specs.declared.table.Contents.{Contents}
 use Rattle.cmap_load.specs.declared.table.Table.{Table}
@@ -239,7 +239,7 @@ none_zipped : (R : List ℕ → List Layer → Type 0) (each : List (List Layer)
 none_zipped R [] h = refl
 none_zipped R (x ∷ each) h = absurd h
 
-module _ (tables : Option PrefixTables) (answers : List Answer) (table : Table) (shows : Shows tables answers table) where
+module _ (tables : Option PrefixTables) (answers : List Answer) (texts : List (List ℕ)) (table : Table) (shows : Shows tables answers texts table) where
   abbrev Are : ℕ → List ℕ → List Layer → Type 0
   Are most bytes layers = AreLayers (MeansOnly tables) (IsAnswered answers) most bytes layers
 
@@ -247,7 +247,6 @@ module _ (tables : Option PrefixTables) (answers : List Answer) (table : Table) 
   layers_mean zero more i bytes layers found h there g = absurd h
   layers_mean (suc most) zero i bytes layers found h there g = absurd g
   layers_mean (suc most) (suc more) i bytes layers found (node, contents, below, has_node, has, under, same) there (file, base, only, (each, zipped, is_base), is) =
-      let texts = texts_in table in
       let uses = map (text_at texts) node.uses.items in
       let (long, means) = of_bytes (bytes_at answers i) (λ b. (length b ≡ node.length) × MeansOnly tables b (file_of contents uses)) (shows.files i node contents has_node has) bytes there in
       let one : file ≡ file_of contents uses = means.alone file only.holds in

@@ -12,6 +12,8 @@ pub mod SalvageSeen
 pub mod KnownFiles
 pub mod Searches
 pub mod Numbers
+pub mod NameLists
+pub mod NameCopies
 pub mod Loading
 pub mod Graphs
 pub mod Tables

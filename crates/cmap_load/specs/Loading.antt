@@ -11,19 +11,12 @@ use Rattle.cmap_load.specs.Layers.{AreLayers, Means}
 use Rattle.cmap_load.specs.Refusals.{IsFault, IsOwnFault}
 use Rattle.cmap_load.specs.declared.refusal.Cause.{Cause}
 use Rattle.cmap_load.specs.declared.refusal.Cause.TheVariants.{Malformed, NoFile, ChainLength, OverBudget}
-use Rattle.cmap_load.specs.declared.answer.Answer as declared
 
 -- ---- answers
 -- a name that was asked for, and the bytes of its file, if there is one; the first file has no name
 pub record Answer : Type 0 where
   pub name : Option (List ℕ)
   pub bytes : Option (List ℕ)
-
-abbrev pub answer_seen : declared.Answer → Answer
-answer_seen answer = record { name = option_copied answer.name; bytes = option_copied answer.bytes }
-
-abbrev pub answers_seen : List declared.Answer → List Answer
-answers_seen answers = map answer_seen answers
 
 abbrev pub is_of_name : Option (List ℕ) → List ℕ → Bool
 is_of_name None name = false

@@ -1,4 +1,4 @@
--- Private aid: the files that were read, the numbers of their names, and their layers.
+-- Private aid: the files that were read, the texts of the names that they use, and their layers.
 use Rattle.std.specs.Prelude.{◌≡◌, ℕ, zero, suc, ◌⊎◌, List, [], ◌∷◌, ◌++◌, MatchOption, length, map, Option, Some, None, slice_get, slice_set}
 use Rattle.cmap_values.specs.DeclarationsSeen.{lists_seen}
 use Rattle.cmap_values.specs.Files.{File}
@@ -9,14 +9,11 @@ use Rattle.cmap_binary.specs.Bundles.{PrefixTables}
 use Rattle.cmap_layers.specs.Layers.{Layer}
 use Rattle.cmap_load.specs.Graphs.{AreNamed, IsFileOf, IsGraph}
 use Rattle.cmap_load.specs.Loading.{Answer, MeansOnly, OfBytes, bytes_at, first_answer}
-use Rattle.cmap_load.specs.Numbers.{AreNumbered, text_at, texts_of}
+use Rattle.cmap_load.specs.Numbers.{AreDistinct, IsMore, text_at}
 use Rattle.cmap_load.specs.declared.graph.Graph.{Graph}
 use Rattle.cmap_load.specs.declared.graph.Node.{Node}
 use Rattle.cmap_load.specs.declared.table.Contents.{Contents}
 use Rattle.cmap_load.specs.declared.table.Table.{Table}
-
-abbrev pub texts_in : Table → List (List ℕ)
-texts_in table = texts_of table.names
 
 -- the file of these contents and uses
 abbrev pub file_of : Contents → List (List ℕ) → File
@@ -30,14 +27,17 @@ contents_layer contents = record { metadata = metadata_seen contents.metadata; l
 -- the entries of a table are right
 pub record IsTable (table : Table) : Type 0 where
   pub graph : IsGraph table.graph
-  pub numbered : AreNumbered table.names
-  pub long : length table.graph.found.items ≡ length table.names.texts.items
   pub contents : length table.contents.items ≡ length table.graph.nodes.items
+
+-- each name of a graph has a text of its own
+pub record HasTexts (texts : List (List ℕ)) (graph : Graph) : Type 0 where
+  pub long : length graph.found.items ≡ length texts
+  pub distinct : AreDistinct texts
 
 -- a table without files
 pub record IsEmpty (budget : Option ℕ) (table : Table) : Type 0 where
   pub is_table : IsTable table
-  pub texts : table.names.texts.items ≡ []
+  pub found : table.graph.found.items ≡ []
   pub nodes : table.graph.nodes.items ≡ []
   pub within : table.graph.budget ≡ budget
 
@@ -47,8 +47,6 @@ pub record Grows (old new : Table) : Type 0 where
   pub heights : new.graph.heights ≡ old.graph.heights
   pub budget : new.graph.budget ≡ old.graph.budget
   pub contents : new.contents ≡ old.contents
-  pub more : List (List ℕ)
-  pub texts : texts_in new ≡ texts_in old ++ more
   pub found : (name : ℕ) (file : Option ℕ) → slice_get old.graph.found.items name ≡ Some file → slice_get new.graph.found.items name ≡ Some file
   pub back : (name i : ℕ) → IsFileOf new.graph name i → IsFileOf old.graph name i
 
@@ -62,30 +60,31 @@ pub record IsPushed (old new : Table) (name : Option ℕ) (node : Node) (content
   pub nodes : new.graph.nodes.items ≡ old.graph.nodes.items ++ node ∷ []
   pub contents_are : new.contents.items ≡ old.contents.items ++ contents ∷ []
   pub found : MatchOption name (new.graph.found ≡ old.graph.found) (λ name. new.graph.found.items ≡ slice_set old.graph.found.items name (Some (length old.graph.nodes.items)))
-  pub names : new.names ≡ old.names
   pub budget : new.graph.budget ≡ old.graph.budget
 
--- the contents of a file of so many bytes are added
-pub record IsAdded (old new : Table) (name : Option ℕ) (count : ℕ) (file : parsed.File) : Type 0 where
+-- the contents of a file of so many bytes are added; the names that it uses have these texts
+pub record IsAdded (before after : List (List ℕ)) (old new : Table) (name : Option ℕ) (count : ℕ) (file : parsed.File) : Type 0 where
   pub mid : Table
   pub grows : Grows old mid
+  pub more : IsMore before after
   pub table : IsTable mid
+  pub texts : HasTexts after mid.graph
   pub node : Node
   pub long : node.length ≡ count
   pub named : AreNamed mid.graph node.uses.items
-  pub uses : map (text_at (texts_in mid)) node.uses.items ≡ names_seen file.uses.items
+  pub uses : map (text_at after) node.uses.items ≡ names_seen file.uses.items
   pub pushed : IsPushed mid new name node (record { metadata = file.metadata; lists = file.lists })
 
 -- ---- answers
-module _ (tables : Option PrefixTables) (answers : List Answer) (table : Table) where
-  -- the files of a table are the files of these answers, in order
+module _ (tables : Option PrefixTables) (answers : List Answer) (texts : List (List ℕ)) (table : Table) where
+  -- the files of a table, whose names have these texts, are the files of these answers, in order
   pub record Shows : Type 0 where
     pub long : length answers ≡ length table.graph.nodes.items
     pub files : (i : ℕ) (node : Node) (contents : Contents) → slice_get table.graph.nodes.items i ≡ Some node → slice_get table.contents.items i ≡ Some contents
-        → OfBytes (bytes_at answers i) (λ bytes. (length bytes ≡ node.length) × MeansOnly tables bytes (file_of contents (map (text_at (texts_in table)) node.uses.items)))
-    pub found : (name i : ℕ) → IsFileOf table.graph name i → first_answer answers (text_at (texts_in table) name) ≡ Some (bytes_at answers i)
-    pub none : (name : ℕ) → slice_get table.graph.found.items name ≡ Some None → first_answer answers (text_at (texts_in table) name) ≡ None
-    pub known : (text : List ℕ) (bytes : Option (List ℕ)) → first_answer answers text ≡ Some bytes → (name : ℕ) × (slice_get (texts_in table) name ≡ Some text)
+        → OfBytes (bytes_at answers i) (λ bytes. (length bytes ≡ node.length) × MeansOnly tables bytes (file_of contents (map (text_at (texts)) node.uses.items)))
+    pub found : (name i : ℕ) → IsFileOf table.graph name i → first_answer answers (text_at (texts) name) ≡ Some (bytes_at answers i)
+    pub none : (name : ℕ) → slice_get table.graph.found.items name ≡ Some None → first_answer answers (text_at (texts) name) ≡ None
+    pub known : (text : List ℕ) (bytes : Option (List ℕ)) → first_answer answers text ≡ Some bytes → (name : ℕ) × (slice_get (texts) name ≡ Some text)
 
 -- ---- layers
 module _ (table : Table) where

@@ -1,19 +1,21 @@
 //! A loader that is supplied from a `Source`.
 
-ghost use Rattle.std.specs.Prelude.{◌≡◌, ◌≢◌, ◌≤◌, ℕ, IfErr, IfNone, IfOk, IfSome, List, None, OnOk, Option, length};
+ghost use Rattle.std.specs.Prelude.{◌≡◌, ◌≢◌, ◌≤◌, ℕ, IfErr, IfNone, IfOk, IfSome, List, None, OnOk, Option, length, map};
 ghost use Rattle.cmap_load.specs.Answers.{IsByName};
 ghost use Rattle.cmap_load.specs.Maps.{ExceedsBudget, FitsBudget, HasNoMap, IsMapOf, LeadsToFault};
 ghost use Rattle.cmap_load.specs.Opened.{ExceedsBudgetNamed, FitsBudgetNamed, HasNoMapNamed, IsMapNamed, IsUnknown, LeadsToFaultNamed};
 ghost use Rattle.cmap_load.specs.Salvage.{AreOfBundle, IsFirstPastFaults};
 ghost use Rattle.cmap_load.specs.declared.refusal.Cause.TheVariants as Cause;
 ghost use Rattle.cmap_load.specs.Loads.{IsLoading, Loads, wanted_of};
+ghost use Rattle.cmap_load.specs.NameLists.{AreNumbered, texts_of};
+ghost use Rattle.cmap_load.specs.Numbers.{AreWithin, text_at};
 ghost use Rattle.cmap_binary.specs.BundleSeen.{tables_given};
-ghost use Rattle.cmap_binary.specs.Bundles.{PrefixTables};
 ghost use Rattle.cmap_values.specs.NamesSeen.{names_seen};
 ghost use Rattle.cmap_values.specs.Outcomes.{RefusesWith};
 
 use crate::identity::identity_named;
-use crate::loader::Loader;
+use crate::loader::{Loader, RefusedFile};
+use crate::names::NameSlices;
 use crate::refusal::Refusal;
 use crate::source::Source;
 use cmap_binary::Bundle;
@@ -60,9 +62,16 @@ pub fn read_layers<'a, S: Source>(
         (names_seen refusal.names.items) refusal.cause)) }
     ensures few { IfErr result (RefusesWith (λ refusal. length refusal.names.items ≤ 16)) }
 {
-    let mut load = Loader::new(alloc, budget, data, bundle)?;
-    supply_all(&mut load, source)?;
-    load.finish()
+    let mut load = Loader::<NameSlices<'a>>::new(alloc, budget, data, bundle)?;
+    supply_all(&mut load, bundle, source)?;
+    match load.finish() {
+        Ok(layers) => Ok(layers),
+        Err(Fault::Refused(refused)) => {
+            let refusal = refusal_of(alloc, &refused)?;
+            Err(Fault::Refused(refusal))
+        }
+        Err(Fault::Memory) => Err(Fault::Memory),
+    }
 }
 
 /// The layers of the file that `source` answers to this name. The file is read as by `read_layers`,
@@ -114,17 +123,42 @@ pub fn open_layers<'a, S: Source>(
 }
 
 /// Supplies a loader with each file that it wants.
-fn supply_all<'a, S: Source>(load: &mut Loader<'a, '_>, source: &'a S) -> Result<(), AllocError>
+fn supply_all<'a, S: Source>(
+    load: &mut Loader<NameSlices<'a>>,
+    bundle: Option<&Bundle<'_>>,
+    source: &'a S,
+) -> Result<(), AllocError>
     requires can_ask { S.can_ask source.now }
-    requires loading { IsLoading load.old }
-    ensures loading { OnOk result (IsLoading load.new) }
-    ensures all { OnOk result (wanted_of load.new ≡ None) }
-    ensures loads { OnOk result ((tables : Option PrefixTables) (budget : Option ℕ) (bytes : List ℕ)
-        → Loads tables budget (S.answers source.now) bytes load.old
-        → Loads tables budget (S.answers source.now) bytes load.new) }
+    requires loading { IsLoading texts_of AreNumbered load.old }
+    ensures loading { OnOk result (IsLoading texts_of AreNumbered load.new) }
+    ensures all { OnOk result (wanted_of texts_of load.new ≡ None) }
+    ensures loads { OnOk result ((budget : Option ℕ) (bytes : List ℕ)
+        → Loads texts_of (tables_given bundle.entry) budget (S.answers source.now) bytes load.old
+        → Loads texts_of (tables_given bundle.entry) budget (S.answers source.now) bytes load.new) }
 {
     while let Some(name) = load.wanted() {
-        load.supply(source.file(name))?;
+        let bytes = source.file(name);
+        load.supply(bytes, bundle)?;
     }
     Ok(())
+}
+
+/// A refusal with the names themselves.
+fn refusal_of<'a>(
+    alloc: Global,
+    refused: &RefusedFile<NameSlices<'a>>,
+) -> Result<Refusal<'a>, AllocError>
+    requires { AreWithin (texts_of refused.now.list) refused.now.names.items }
+    ensures names { IfOk result (λ refusal. names_seen refusal.names.items
+        ≡ map (text_at (texts_of refused.now.list)) refused.now.names.items) }
+    ensures cause { IfOk result (λ refusal. refusal.cause ≡ refused.now.cause) }
+{
+    let mut names = Vec::new(alloc);
+    for name in &refused.names {
+        names.push(refused.list.texts[*name])?;
+    }
+    Ok(Refusal {
+        names,
+        cause: refused.cause,
+    })
 }

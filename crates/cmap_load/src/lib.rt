@@ -2,7 +2,6 @@
 //! the loader never asks the caller.
 #![tactic(auto)]
 
-mod answer;
 mod budget;
 mod chain;
 mod faults;
@@ -24,7 +23,8 @@ pub use chain::read_file;
 pub use files::uses;
 pub use from_source::{open_layers, read_layers};
 pub use identity::{identity_h, identity_named, identity_text, identity_v};
-pub use loader::Loader;
+pub use loader::{Loader, RefusedFile};
+pub use names::{NameCopies, NameSlices, Names};
 pub use refusal::{Cause, Refusal};
 pub use salvage::{SalvagedLayers, salvaged_layers};
 pub use source::Source;

@@ -1,23 +1,24 @@
 //! A loader that its caller asks for the wanted files, and that never asks the caller.
 
-ghost use Rattle.std.specs.Prelude.{◌≡◌, ◌++◌, ◌<◌, ◌∷◌, [], IfErr, IfOk, IfSome, IsSome, None, OnOk, Some, length, map, option_map};
+ghost use Rattle.std.specs.Prelude.{◌≡◌, ◌⊎◌, ◌+◌, ◌++◌, ◌∷◌, [], IfErr, IfOk, IfSome, IsSome, List, None, OnOk, Option, Some, map, slice_get};
 ghost use Rattle.std.specs.Option.{option_copied};
-ghost use Rattle.cmap_load.specs.Graphs.{AreNamed, IsNext};
-ghost use Rattle.cmap_load.specs.Loads.{AreLoaded, FitsGiven, IsAwaited, IsLoading, IsReady, IsRefused, IsRefusedAs, IsStateOf, answer_to, answers_of, budget_of, tables_in, wanted_of};
-ghost use Rattle.cmap_load.specs.Loading.{FailsToOpen, IsOpened, IsWanted};
-ghost use Rattle.cmap_load.specs.Numbers.{text_at};
-ghost use Rattle.cmap_load.specs.Tables.{IsTable, texts_in};
+ghost use Rattle.cmap_load.specs.Graphs.{AreNamed, IsBegun, IsNext};
+ghost use Rattle.cmap_load.specs.Loads.{AreLoadedBy, FitsBy, IsAwaited, IsLoading, IsRefusedFile, IsSet, LeadsToGiven, NextIs, Reads, budget_of, files_in, given_to, wanted_of};
+ghost use Rattle.cmap_load.specs.Loading.{Answer, FailsToOpen, IsOpened, IsWanted};
+ghost use Rattle.cmap_load.specs.Numbers.{AreWithin, IsMore, text_at};
+ghost use Rattle.cmap_load.specs.Tables.{Grows, IsAdded, IsNew};
+ghost use Rattle.cmap_binary.specs.Bundles.{PrefixTables};
 ghost use Rattle.cmap_binary.specs.BundleSeen.{tables_given};
 ghost use Rattle.cmap_values.specs.FilesSeen.{file_seen};
 ghost use Rattle.cmap_values.specs.NamesSeen.{names_seen};
 ghost use Rattle.cmap_values.specs.Outcomes.{Outcome, RefusesWith};
 
-use crate::answer::Answer;
 use crate::budget::spend;
 use crate::chain::read_file;
-use crate::graph::{Next, Wanted};
+use crate::graph::{Next, Node, Wanted};
+use crate::names::Names;
 use crate::refusal::{Cause, Refusal};
-use crate::table::Table;
+use crate::table::{Contents, Table};
 use cmap_binary::Bundle;
 use cmap_layers::layers::Layers;
 use cmap_values::fault::Fault;
@@ -25,113 +26,176 @@ use cmap_values::file::File;
 use std::alloc::{AllocError, Global};
 use std::mem;
 
+/// A file at fault: the numbers of the names that lead to it, and the cause.
+#[derive(Drop)]
+pub(crate) struct FaultyFile {
+    pub(crate) names: Vec<usize>,
+    pub(crate) cause: Cause,
+}
+
 /// All files are whole, or one file is wanted or refused.
 #[derive(Drop)]
-pub(crate) enum State<'a> {
+pub(crate) enum State {
     Whole,
     Wanted(Wanted),
-    Refused(Refusal<'a>),
+    Refused(FaultyFile),
+}
+
+impl State {
+    /// The state after a walk through the files.
+    fn after(next: Next) -> State
+        ensures { NextIs next result }
+    {
+        match next {
+            Next::Whole => State::Whole,
+            Next::Wanted(wanted) => State::Wanted(wanted),
+            Next::TooLong(names) => State::Refused(FaultyFile {
+                names,
+                cause: Cause::ChainLength,
+            }),
+            Next::OverBudget(names) => State::Refused(FaultyFile {
+                names,
+                cause: Cause::OverBudget,
+            }),
+        }
+    }
+}
+
+/// A file that was refused: the names that lead to the file at fault, and the cause.
+#[derive(Drop)]
+pub struct RefusedFile<N> {
+    pub(crate) list: N,
+    pub(crate) names: Vec<usize>,
+    pub cause: Cause,
+}
+
+impl<'d, N: Names<'d>> RefusedFile<N> {
+    /// The refusal, with the names themselves.
+    pub fn refusal(&self, alloc: Global) -> Result<Refusal<'_>, AllocError>
+        requires { AreWithin (N.texts self.now.list) self.now.names.items }
+        ensures names { IfOk result (λ refusal. names_seen refusal.names.items
+            ≡ map (text_at (N.texts self.now.list)) self.now.names.items) }
+        ensures cause { IfOk result (λ refusal. refusal.cause ≡ self.now.cause) }
+    {
+        let mut names = Vec::new(alloc);
+        for name in &self.names {
+            names.push(self.list.text(*name))?;
+        }
+        Ok(Refusal {
+            names,
+            cause: self.cause,
+        })
+    }
 }
 
 /// Reads a CMap file over the files that it uses. The loader states the name of the file that it
-/// wants, and the caller supplies the file of this name.
+/// wants, and the caller supplies the file of this name. The loader keeps no bytes of the files but
+/// their names, as `N` does.
 ///
 /// Each file is read once, however often it is used. Files are wanted in the order in which a
 /// reader opens them, each before the files that it uses; after a fault, no file is wanted. A file
 /// counts for the budget at each use, and a file that would exceed the budget isn't read.
 #[derive(Drop)]
-pub struct Loader<'a, 'b> {
+pub struct Loader<N> {
     pub(crate) alloc: Global,
-    pub(crate) bundle: Option<&'b Bundle<'b>>,
-    pub(crate) answers: Vec<Answer<'a>>,
-    pub(crate) table: Table<'a>,
-    pub(crate) state: State<'a>,
+    pub(crate) list: N,
+    pub(crate) table: Table,
+    pub(crate) state: State,
 }
 
-impl<'a, 'b> Loader<'a, 'b> {
+impl<'d, N: Names<'d>> Loader<N> {
     /// Reads the first file. The files that are opened have at most `budget` bytes together; `None`
     /// is no budget.
     pub fn new(
         alloc: Global,
         budget: Option<u64>,
-        data: &'a [u8],
-        bundle: Option<&'b Bundle<'b>>,
+        data: &'d [u8],
+        bundle: Option<&Bundle<'_>>,
     ) -> Result<Self, AllocError>
-        ensures loading { IfOk result IsLoading }
-        ensures tables { IfOk result (λ loader. tables_in loader ≡ tables_given bundle.entry) }
+        ensures loading { IfOk result (IsLoading N.texts N.are_numbered) }
         ensures budget { IfOk result (λ loader. budget_of loader ≡ budget) }
-        ensures given { IfOk result (λ loader. answers_of loader
-            ≡ record { name = None; bytes = Some «data».now } ∷ []) }
+
+        // The first file has no name.
+        ensures reads { IfOk result (Reads N.texts (tables_given bundle.entry)
+            (record { name = None; bytes = Some «data».now } ∷ [])) }
     {
         let mut load = Loader {
             alloc,
-            bundle,
-            answers: Vec::new(alloc),
+            list: N::new(alloc),
             table: Table::new(alloc, budget),
             state: State::Whole,
         };
         let names = Vec::new(alloc);
-        load.take(None, names, budget, Some(data))?;
+        load.take(None, names, budget, Some(data), bundle)?;
         Ok(load)
     }
 
     /// The name of the wanted file; `None` if no further file is wanted.
-    pub fn wanted(&self) -> Option<&'a [u8]>
-        requires { IsLoading self.now }
-        ensures asked { option_copied result ≡ wanted_of self.now }
+    pub fn wanted(&self) -> Option<&[u8]>
+        requires { IsLoading N.texts N.are_numbered self.now }
+        ensures asked { option_copied result ≡ wanted_of N.texts self.now }
 
         // A supplied file uses the name, and the name has no answer yet.
-        ensures new { IfSome result
-            (λ name. IsWanted (tables_in self.now) (answers_of self.now) name.now) }
+        ensures new { IfSome result (λ name. (tables : Option PrefixTables) (answers : List Answer)
+            → Reads N.texts tables answers self.now → IsWanted tables answers name.now) }
     {
         match &self.state {
-            State::Wanted(wanted) => Some(self.table.names.texts[wanted.name]),
+            State::Wanted(wanted) => Some(self.list.text(wanted.name)),
             _ => None,
         }
     }
 
-    /// Supplies the wanted file; `None` if no file has the name.
-    pub fn supply(&mut self, bytes: Option<&'a [u8]>) -> Result<(), AllocError>
-        requires loading { IsLoading self.old }
-        requires wanted { IsSome (wanted_of self.old) }
-        ensures loading { OnOk result (IsLoading self.new) }
-        ensures tables { OnOk result (tables_in self.new ≡ tables_in self.old) }
+    /// Supplies the wanted file; `None` if no file has the name. The bundle is the same at each
+    /// call.
+    pub fn supply(
+        &mut self,
+        bytes: Option<&'d [u8]>,
+        bundle: Option<&Bundle<'_>>,
+    ) -> Result<(), AllocError>
+        requires loading { IsLoading N.texts N.are_numbered self.old }
+        requires wanted { IsSome (wanted_of N.texts self.old) }
+        ensures loading { OnOk result (IsLoading N.texts N.are_numbered self.new) }
         ensures budget { OnOk result (budget_of self.new ≡ budget_of self.old) }
-        ensures given { OnOk result (IfSome (wanted_of self.old) (λ name.
-            answers_of self.new ≡ answers_of self.old
-            ++ record { name = Some name; bytes = option_copied bytes.entry } ∷ [])) }
+        ensures reads { OnOk result (IfSome (wanted_of N.texts self.old) (λ name. (answers : List Answer)
+            → Reads N.texts (tables_given bundle.entry) answers self.old
+            → Reads N.texts (tables_given bundle.entry)
+            (answers ++ record { name = Some name; bytes = option_copied bytes.entry } ∷ []) self.new)) }
+
+        // A further name is wanted only after a file was read.
+        ensures further { OnOk result (IsSome (wanted_of N.texts self.new)
+            → files_in self.new ≡ files_in self.old + 1) }
     {
         let State::Wanted(wanted) = mem::replace(&mut self.state, State::Whole) else {
             unreachable!();
         };
         let Wanted { names, name, left } = wanted;
-        self.take(Some(name), names, left, bytes)
+        self.take(Some(name), names, left, bytes, bundle)?;
+        Ok(())
     }
 
     /// The layers of the first file. A refusal contains the names that lead to the file at fault,
     /// and the cause.
-    pub fn finish(self) -> Result<Layers, Fault<Refusal<'a>>>
-        requires loading { IsLoading self }
-        requires all { wanted_of self ≡ None }
-        ensures loads { IfOk result (AreLoaded (tables_in self.entry) (answers_of self.entry)) }
-        ensures within { OnOk result
-            (FitsGiven (tables_in self.entry) (budget_of self.entry) (answers_of self.entry)) }
-        ensures refuses { IfErr result (RefusesWith (λ refusal.
-            IsRefused (tables_in self.entry) (budget_of self.entry) (answers_of self.entry)
-            (names_seen refusal.names.items) refusal.cause)) }
+    pub fn finish(self) -> Result<Layers, Fault<RefusedFile<N>>>
+        requires loading { IsLoading N.texts N.are_numbered self }
+        requires all { wanted_of N.texts self ≡ None }
+        ensures loads { IfOk result (AreLoadedBy N.texts self) }
+        ensures within { OnOk result (FitsBy N.texts self) }
+        ensures refuses { IfErr result (RefusesWith (IsRefusedFile N.texts self)) }
     {
         let Loader {
             alloc,
+            list,
             table,
             state,
-            ..
         } = self;
         match state {
             State::Whole => match table.into_layers(alloc) {
                 Ok(layers) => Ok(layers),
                 Err(AllocError) => Err(Fault::Memory),
             },
-            State::Refused(refusal) => Err(Fault::Refused(refusal)),
+            State::Refused(FaultyFile { names, cause }) => {
+                Err(Fault::Refused(RefusedFile { list, names, cause }))
+            }
             State::Wanted(_) => unreachable!(),
         }
     }
@@ -143,87 +207,89 @@ impl<'a, 'b> Loader<'a, 'b> {
         name: Option<usize>,
         names: Vec<usize>,
         left: Option<u64>,
-        bytes: Option<&'a [u8]>,
+        bytes: Option<&'d [u8]>,
+        bundle: Option<&Bundle<'_>>,
     ) -> Result<(), AllocError>
-        requires { IsAwaited self.old name names.items left (option_copied bytes) }
-        ensures loading { OnOk result (IsLoading self.new) }
-        ensures bundle { self.new.bundle ≡ self.old.bundle }
-        ensures budget { OnOk result
-            (self.new.table.graph.budget ≡ self.old.table.graph.budget) }
-        ensures given { OnOk result (answers_of self.new ≡ answers_of self.old
-            ++ answer_to self.old.table name (option_copied bytes.entry) ∷ []) }
+        requires { IsAwaited N.texts N.are_numbered self.old name names.items }
+        ensures loading { OnOk result (IsLoading N.texts N.are_numbered self.new) }
+        ensures budget { OnOk result (budget_of self.new ≡ budget_of self.old) }
+        ensures reads { OnOk result ((answers : List Answer)
+            → LeadsToGiven N.texts (tables_given bundle.entry) answers self.old name names.items left
+            (option_copied bytes.entry)
+            → Reads N.texts (tables_given bundle.entry)
+            (answers ++ given_to N.texts self.old name (option_copied bytes.entry) ∷ []) self.new) }
+        ensures further { OnOk result (IsSome (wanted_of N.texts self.new)
+            → files_in self.new ≡ files_in self.old + 1) }
     {
-        let text = self.text(name);
-        let state = self.open(name, &names, left, bytes)?;
-        self.answers.push(Answer { name: text, bytes })?;
-        self.state = state;
-        Ok(())
-    }
-
-    /// Reads the file of a name, or the top file, to which these names lead, and goes on.
-    fn open(
-        &mut self,
-        name: Option<usize>,
-        names: &[usize],
-        left: Option<u64>,
-        bytes: Option<&'a [u8]>,
-    ) -> Result<State<'a>, AllocError>
-        requires { IsAwaited self.old name names.now left (option_copied bytes) }
-        ensures ready { IfOk result (IsReady (tables_in self.old) (answers_of self.old
-            ++ answer_to self.old.table name (option_copied bytes.entry) ∷ []) self.new.table) }
-        ensures budget { OnOk result
-            (self.new.table.graph.budget ≡ self.old.table.graph.budget) }
-        ensures answers { self.new.answers ≡ self.old.answers }
-        ensures bundle { self.new.bundle ≡ self.old.bundle }
-    {
-        match open_file(self.alloc, bytes, self.bundle, left) {
+        match open_file(self.alloc, bytes, bundle, left) {
             Ok((length, file)) => {
-                let next = self.table.take(self.alloc, name, length, file)?;
-                let state = self.state_of(next)?;
-                Ok(state)
+                let next = self.add(name, length, file)?;
+                self.state = State::after(next);
+                Ok(())
             }
             Err(Fault::Refused(cause)) => {
-                let state = self.refused(names, cause)?;
-                Ok(state)
+                self.state = State::Refused(FaultyFile { names, cause });
+                Ok(())
             }
             Err(Fault::Memory) => Err(AllocError),
         }
     }
 
-    /// The text of a name.
-    fn text(&self, name: Option<usize>) -> Option<&'a [u8]>
-        requires { IfSome name (λ name. name < length self.now.table.names.texts.items) }
-        ensures { option_copied result ≡ option_map (text_at (texts_in self.now.table)) name }
+    /// Adds the file of a name, or the top file, and goes on.
+    fn add(&mut self, name: Option<usize>, length: u64, file: File<'d>) -> Result<Next, AllocError>
+        requires set { IsSet N.texts N.are_numbered self.old }
+        requires new { IsNew self.old.table.graph name }
+        requires begun { (self.old.table.graph.nodes.items ≡ []) ⊎ IsBegun self.old.table.graph }
+        ensures set { OnOk result (IsSet N.texts N.are_numbered self.new) }
+        ensures begun { OnOk result (IsBegun self.new.table.graph) }
+        ensures added { OnOk result (IsAdded (N.texts self.old.list) (N.texts self.new.list)
+            self.old.table self.new.table name length file.entry) }
+        ensures next { IfOk result (IsNext self.new.table.graph) }
     {
-        match name {
-            Some(name) => Some(self.table.names.texts[name]),
-            None => None,
-        }
+        let File {
+            metadata,
+            lists,
+            uses,
+        } = file;
+        let uses = self.numbers(&uses)?;
+        let node = Node { length, uses };
+        let contents = Contents { metadata, lists };
+        let next = self.table.take(self.alloc, name, node, contents)?;
+        Ok(next)
     }
 
-    /// The state after a walk through the files.
-    fn state_of(&self, next: Next) -> Result<State<'a>, AllocError>
-        requires table { IsTable self.now.table }
-        requires next { IsNext self.now.table.graph next }
-        ensures { IfOk result (IsStateOf self.now.table next) }
+    /// The numbers of the names of uses. New names get numbers.
+    fn numbers(&mut self, uses: &[&'d [u8]]) -> Result<Vec<usize>, AllocError>
+        requires { IsSet N.texts N.are_numbered self.old }
+        ensures set { OnOk result (IsSet N.texts N.are_numbered self.new) }
+        ensures grows { OnOk result (Grows self.old.table self.new.table) }
+        ensures more { OnOk result (IsMore (N.texts self.old.list) (N.texts self.new.list)) }
+        ensures named { IfOk result (λ numbers. AreNamed self.new.table.graph numbers.items) }
+        ensures numbers { IfOk result (λ numbers.
+            map (text_at (N.texts self.new.list)) numbers.items ≡ names_seen uses.now) }
     {
-        match next {
-            Next::Whole => Ok(State::Whole),
-            Next::Wanted(wanted) => Ok(State::Wanted(wanted)),
-            Next::TooLong(names) => self.refused(&names, Cause::ChainLength),
-            Next::OverBudget(names) => self.refused(&names, Cause::OverBudget),
+        let mut numbers = Vec::new(self.alloc);
+        for name in uses {
+            let number = self.number(*name)?;
+            numbers.push(number)?;
         }
+        Ok(numbers)
     }
 
-    /// A refusal of the file to which these names lead.
-    fn refused(&self, names: &[usize], cause: Cause) -> Result<State<'a>, AllocError>
-        requires table { IsTable self.now.table }
-        requires named { AreNamed self.now.table.graph names.now }
-        ensures { IfOk result (λ state. IsRefusedAs state
-            (map (text_at (texts_in self.now.table)) names.now) cause) }
+    /// The number of a name. A new name gets a number.
+    fn number(&mut self, name: &'d [u8]) -> Result<usize, AllocError>
+        requires { IsSet N.texts N.are_numbered self.old }
+        ensures set { OnOk result (IsSet N.texts N.are_numbered self.new) }
+        ensures grows { OnOk result (Grows self.old.table self.new.table) }
+        ensures more { OnOk result (IsMore (N.texts self.old.list) (N.texts self.new.list)) }
+        ensures number { IfOk result
+            (λ number. slice_get (N.texts self.new.list) number ≡ Some name.now) }
     {
-        let names = self.table.texts(self.alloc, names)?;
-        Ok(State::Refused(Refusal { names, cause }))
+        let number = self.list.number(name)?;
+        if number == self.table.graph.found.len() {
+            let _number = self.table.graph.add_name()?;
+        }
+        Ok(number)
     }
 }
 

@@ -1,39 +1,59 @@
-//! The numbers of names.
+//! Lists of names, in which each name has a number.
 
-ghost use Rattle.std.specs.Prelude.{◌≡◌, ◌++◌, ◌∷◌, [], ℕ, List, None, OnOk, Some, bytes_eq, if◌then◌else◌};
-ghost use Rattle.cmap_load.specs.Numbers.{AreNumbered, number_of};
+ghost use Rattle.std.specs.Prelude.{◌≡◌, ◌++◌, ◌<◌, ◌∷◌, [], ℕ, IfOk, List, None, OnOk, Some, bytes_eq, if◌then◌else◌, length};
+ghost use Rattle.cmap_load.specs.Numbers.{AreDistinct, IsNumbered, text_at};
 
+use cmap_values::memory::both;
 use std::alloc::{AllocError, Global};
 use std::collections::BTreeMap;
 
-/// Names, each with a number, in the order of the numbers.
+/// A list of names. The number of a name is its index. A name is a slice of bytes that live for
+/// `'d`; a list keeps the slice, or copies the bytes.
+pub trait Names<'d>: Sized + Drop {
+    /// The texts of the names.
+    ghost texts: { Self → List (List ℕ) };
+
+    /// The number of each name is found.
+    ghost are_numbered: { Self → Type 0 };
+
+    /// No names.
+    fn new(alloc: Global) -> Self
+        ensures numbered { are_numbered result }
+        ensures texts { texts result ≡ [] };
+
+    /// The number of a name. A new name is added to the list.
+    fn number(&mut self, name: &'d [u8]) -> Result<usize, AllocError>
+        requires { are_numbered self.old }
+        ensures numbered { OnOk result (are_numbered self.new) }
+        ensures distinct { OnOk result
+            (AreDistinct (texts self.old) → AreDistinct (texts self.new)) }
+        ensures number { IfOk result (IsNumbered (texts self.old) (texts self.new) name.now) };
+
+    /// The name of a number.
+    fn text(&self, number: usize) -> &[u8]
+        requires { number < length (texts self.now) }
+        ensures { result.now ≡ text_at (texts self.now) number };
+}
+
+/// Names as slices.
 #[derive(Drop)]
-pub(crate) struct Names<'a> {
+pub struct NameSlices<'a> {
     numbers: BTreeMap<&'a [u8], usize>,
     pub(crate) texts: Vec<&'a [u8]>,
 }
 
-impl<'a> Names<'a> {
-    /// No names.
-    pub(crate) fn new(alloc: Global) -> Self
-        ensures numbered { AreNumbered result }
-        ensures texts { result.texts.items ≡ [] }
-    {
-        Names {
-            numbers: BTreeMap::new(alloc),
-            texts: Vec::new(alloc),
-        }
-    }
+impl<'a> NameSlices<'a> {
+    ghost use Rattle.cmap_load.specs.NameLists.{AreNumbered, number_of};
 
     /// The number of a name; `None` if the name has no number.
-    pub(crate) fn find(&self, name: &[u8]) -> Option<usize>
+    fn find(&self, name: &[u8]) -> Option<usize>
         ensures { result ≡ number_of self.now name.now }
     {
         self.numbers.get(name).copied()
     }
 
     /// Adds a name that has no number.
-    pub(crate) fn add(&mut self, name: &'a [u8]) -> Result<(), AllocError>
+    fn add(&mut self, name: &'a [u8]) -> Result<(), AllocError>
         requires numbered { AreNumbered self.old }
         requires new { number_of self.old name.now ≡ None }
         ensures numbered { OnOk result (AreNumbered self.new) }
@@ -55,5 +75,108 @@ impl<'a> Names<'a> {
             Ok(_) => Ok(()),
             Err(_) => Err(AllocError),
         }
+    }
+}
+
+impl<'a> Names<'a> for NameSlices<'a> {
+    ghost use Rattle.cmap_load.specs.NameLists.{AreNumbered, texts_of};
+
+    ghost texts = { texts_of };
+
+    ghost are_numbered = { AreNumbered };
+
+    fn new(alloc: Global) -> Self {
+        NameSlices {
+            numbers: BTreeMap::new(alloc),
+            texts: Vec::new(alloc),
+        }
+    }
+
+    fn number(&mut self, name: &'a [u8]) -> Result<usize, AllocError> {
+        if let Some(number) = self.find(name) {
+            return Ok(number);
+        }
+        let number = self.texts.len();
+        self.add(name)?;
+        Ok(number)
+    }
+
+    fn text(&self, number: usize) -> &[u8] {
+        self.texts[number]
+    }
+}
+
+/// Copies of names.
+#[derive(Drop)]
+pub struct NameCopies {
+    alloc: Global,
+    numbers: BTreeMap<Vec<u8>, usize>,
+    texts: Vec<Vec<u8>>,
+}
+
+impl NameCopies {
+    ghost use Rattle.cmap_load.specs.NameCopies.{AreNumbered, number_of, texts_of};
+
+    /// The number of a name; `None` if the name has no number.
+    fn find(&self, name: &[u8]) -> Option<usize>
+        ensures { result ≡ number_of self.now name.now }
+    {
+        self.numbers.get(name).copied()
+    }
+
+    /// Adds a name that has no number.
+    fn add(&mut self, name: &[u8]) -> Result<(), AllocError>
+        requires numbered { AreNumbered self.old }
+        requires new { number_of self.old name.now ≡ None }
+        ensures numbered { OnOk result (AreNumbered self.new) }
+        ensures texts { OnOk result (texts_of self.new ≡ texts_of self.old ++ name.now ∷ []) }
+    {
+        let number = self.texts.len();
+        let (key, text) = both(
+            Vec::from_slice(self.alloc, name),
+            Vec::from_slice(self.alloc, name),
+        )?;
+        self.insert(key, number)?;
+        self.texts.push(text)?;
+        Ok(())
+    }
+
+    /// Notes the number of a name.
+    fn insert(&mut self, name: Vec<u8>, number: usize) -> Result<(), AllocError>
+        ensures numbers { OnOk result ((other : List ℕ) → number_of self.new other
+            ≡ (if bytes_eq name.items other then Some number else number_of self.old other)) }
+        ensures texts { self.new.texts ≡ self.old.texts }
+    {
+        let _earlier = self.numbers.insert(name, number)?;
+        Ok(())
+    }
+}
+
+impl<'d> Names<'d> for NameCopies {
+    ghost use Rattle.cmap_load.specs.NameCopies.{AreNumbered, texts_of};
+
+    ghost texts = { texts_of };
+
+    ghost are_numbered = { AreNumbered };
+
+    fn new(alloc: Global) -> Self {
+        NameCopies {
+            alloc,
+            numbers: BTreeMap::new(alloc),
+            texts: Vec::new(alloc),
+        }
+    }
+
+    fn number(&mut self, name: &'d [u8]) -> Result<usize, AllocError> {
+        if let Some(number) = self.find(name) {
+            return Ok(number);
+        }
+        let number = self.texts.len();
+        self.add(name)?;
+        Ok(number)
+    }
+
+    fn text(&self, number: usize) -> &[u8] {
+        &self.texts[number]
     }
 }

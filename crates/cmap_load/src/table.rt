@@ -1,18 +1,14 @@
-//! The files that were read, each once, and the numbers of their names.
+//! The files that were read, each once.
 
-ghost use Rattle.std.specs.Prelude.{◌≡◌, ◌⊎◌, ◌++◌, ◌<◌, ◌∷◌, [], ℕ, IfOk, List, MatchOption, OnOk, Some, length, map, slice_get, slice_set};
+ghost use Rattle.std.specs.Prelude.{◌≡◌, ◌⊎◌, ◌++◌, ◌<◌, ◌∷◌, [], ℕ, IfOk, List, MatchOption, OnOk, Some, length, slice_get, slice_set};
 ghost use Rattle.cmap_load.specs.Graphs.{AreNamed, IsBegun, IsNext, IsWhole};
-ghost use Rattle.cmap_load.specs.Numbers.{text_at};
-ghost use Rattle.cmap_load.specs.Tables.{Grows, IsAdded, IsEmpty, IsNew, IsTable, LayersFrom, texts_in};
+ghost use Rattle.cmap_load.specs.Tables.{IsEmpty, IsNew, IsPushed, IsTable, LayersFrom};
 ghost use Rattle.cmap_load.specs.declared.table.Contents.{Contents};
-ghost use Rattle.cmap_values.specs.NamesSeen.{names_seen};
 
 use crate::graph::{Graph, Next, Node};
-use crate::names::Names;
 use cmap_layers::layer::Layer;
 use cmap_layers::layers::Layers;
 use cmap_values::declarations::Lists;
-use cmap_values::file::File;
 use cmap_values::metadata::Metadata;
 use std::alloc::{AllocError, Global};
 use std::mem;
@@ -27,69 +23,20 @@ pub(crate) struct Contents {
 /// The files that were read. The same index holds the contents of a file, and its node in the
 /// graph.
 #[derive(Drop)]
-pub(crate) struct Table<'a> {
-    pub(crate) names: Names<'a>,
+pub(crate) struct Table {
     pub(crate) graph: Graph,
     pub(crate) contents: Vec<Contents>,
 }
 
-impl<'a> Table<'a> {
+impl Table {
     /// A table without files.
     pub(crate) fn new(alloc: Global, budget: Option<u64>) -> Self
         ensures { IsEmpty budget result }
     {
         Table {
-            names: Names::new(alloc),
             graph: Graph::new(alloc, budget),
             contents: Vec::new(alloc),
         }
-    }
-
-    /// The texts of these names.
-    pub(crate) fn texts(&self, alloc: Global, names: &[usize]) -> Result<Vec<&'a [u8]>, AllocError>
-        requires table { IsTable self.now }
-        requires named { AreNamed self.now.graph names.now }
-        ensures { IfOk result (λ texts. names_seen texts.items
-            ≡ map (text_at (texts_in self.now)) names.now) }
-    {
-        let mut texts = Vec::new(alloc);
-        for name in names {
-            texts.push(self.names.texts[*name])?;
-        }
-        Ok(texts)
-    }
-
-    /// The number of a name. A new name gets a number.
-    fn number(&mut self, name: &'a [u8]) -> Result<usize, AllocError>
-        requires table { IsTable self.old }
-        ensures table { OnOk result (IsTable self.new) }
-        ensures grows { OnOk result (Grows self.old self.new) }
-        ensures number { IfOk result
-            (λ number. slice_get (texts_in self.new) number ≡ Some name.now) }
-    {
-        if let Some(number) = self.names.find(name) {
-            return Ok(number);
-        }
-        let number = self.graph.add_name()?;
-        self.names.add(name)?;
-        Ok(number)
-    }
-
-    /// The numbers of the names of uses. New names get numbers.
-    fn numbers(&mut self, alloc: Global, uses: &[&'a [u8]]) -> Result<Vec<usize>, AllocError>
-        requires table { IsTable self.old }
-        ensures table { OnOk result (IsTable self.new) }
-        ensures grows { OnOk result (Grows self.old self.new) }
-        ensures named { IfOk result (λ numbers. AreNamed self.new.graph numbers.items) }
-        ensures numbers { IfOk result (λ numbers. map (text_at (texts_in self.new)) numbers.items
-            ≡ names_seen uses.now) }
-    {
-        let mut numbers = Vec::new(alloc);
-        for name in uses {
-            let number = self.number(*name)?;
-            numbers.push(number)?;
-        }
-        Ok(numbers)
     }
 
     /// Adds the file of a name that has no file, or the top file, which has no name.
@@ -113,7 +60,6 @@ impl<'a> Table<'a> {
             (self.new.graph.found ≡ self.old.graph.found)
             (λ name. self.new.graph.found.items
             ≡ slice_set self.old.graph.found.items name (Some (length self.old.graph.nodes.items)))) }
-        ensures names { self.new.names ≡ self.old.names }
         ensures budget { self.new.graph.budget ≡ self.old.graph.budget }
     {
         match name {
@@ -124,30 +70,24 @@ impl<'a> Table<'a> {
         Ok(())
     }
 
-    /// Adds the contents of the file of a name, or of the top file, which has no name, and goes on.
+    /// Adds the file of a name, or the top file, which has no name, and goes on.
     pub(crate) fn take(
         &mut self,
         alloc: Global,
         name: Option<usize>,
-        length: u64,
-        file: File<'a>,
+        node: Node,
+        contents: Contents,
     ) -> Result<Next, AllocError>
         requires table { IsTable self.old }
         requires new { IsNew self.old.graph name }
+        requires named { AreNamed self.old.graph node.uses.items }
         requires begun { (self.old.graph.nodes.items ≡ []) ⊎ IsBegun self.old.graph }
         ensures table { OnOk result (IsTable self.new) }
         ensures begun { OnOk result (IsBegun self.new.graph) }
-        ensures added { OnOk result (IsAdded self.old self.new name length file.entry) }
+        ensures pushed { OnOk result (IsPushed self.old self.new name node contents) }
         ensures next { IfOk result (IsNext self.new.graph) }
     {
-        let File {
-            metadata,
-            lists,
-            uses,
-        } = file;
-        let uses = self.numbers(alloc, &uses)?;
-        let node = Node { length, uses };
-        self.push(name, node, Contents { metadata, lists })?;
+        self.push(name, node, contents)?;
         let next = self.graph.advance(alloc)?;
         Ok(next)
     }
@@ -156,7 +96,7 @@ impl<'a> Table<'a> {
     pub(crate) fn into_layers(self, alloc: Global) -> Result<Layers, AllocError>
         requires table { IsTable self }
         requires whole { (lengths : List ℕ) × IsWhole self.graph 16 0 lengths }
-        ensures { IfOk result (LayersFrom self.entry 16 0) }
+        ensures { IfOk result (LayersFrom self 16 0) }
     {
         let Table {
             graph,

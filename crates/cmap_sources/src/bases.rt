@@ -10,7 +10,7 @@ use cmap_io::folders::{files_in, is_folder, name_of, why_no_folder};
 use cmap_io::inputs::{read, report_unreadable, unreadable};
 use cmap_io::path_text::path_bytes;
 use cmap_io::status::{ACCEPTED, FAILED};
-use hayro_cmap::{Bundle, BundleFiles, CMap, NamedFile, NamedFiles, Source, identity_text};
+use hayro_cmap::{Bundle, BundleFiles, NamedFile, NamedFiles, Source, identity_text};
 use std::alloc::{AllocError, Global};
 use std::collections::BTreeMap;
 use std::io;
@@ -87,8 +87,6 @@ pub struct Bases<'b> {
     pub search: Search,
     /// The bases that were read.
     read: Vec<Base<'b>>,
-    /// The number of bases at the start of `read` whose used files were read ahead.
-    asked: usize,
     /// Files that can't be read and that aren't reported yet.
     unreadable: Vec<Unreadable>,
     /// Whether a path couldn't be read.
@@ -103,7 +101,6 @@ impl<'b> Bases<'b> {
             paths: BTreeMap::new(alloc),
             search: Search::nowhere(alloc),
             read: Vec::new(alloc),
-            asked: 0,
             unreadable: Vec::new(alloc),
             has_failed: false,
         }
@@ -185,7 +182,7 @@ impl<'b> Bases<'b> {
 
     /// Reads the file of this name, unless it was read before. A base that can't be read is kept for the report, and
     /// the name is looked up once more: in the bundle and by `search`.
-    fn read(&mut self, rt: &HostRuntime, name: &[u8]) -> Result<(), Failure> {
+    pub fn read(&mut self, rt: &HostRuntime, name: &[u8]) -> Result<(), Failure> {
         if !self.has_unread(name) {
             return Ok(());
         }
@@ -197,44 +194,6 @@ impl<'b> Bases<'b> {
         match found {
             Found::File(bytes) => self.add(rt.alloc(), name, bytes)?,
             Found::Unreadable(file) => self.set_unreadable(rt.alloc(), name, file)?,
-            Found::Nothing => self.search.set_absent(rt.alloc(), name)?,
-        }
-        Ok(())
-    }
-
-    /// Reads ahead the files that a file of these bytes uses.
-    pub fn read_used_by(&mut self, rt: &HostRuntime, file: &[u8]) -> Result<(), Failure> {
-        if let Some(names) = CMap::uses(rt.alloc(), file, self.bundle)? {
-            for name in &names {
-                self.read_ahead(rt, name)?;
-            }
-        }
-        Ok(())
-    }
-
-    /// Reads ahead the files that the bases use. Each base is considered once.
-    pub fn read_used(&mut self, rt: &HostRuntime) -> Result<(), Failure> {
-        let count = self.read.len();
-        for index in self.asked..count {
-            let Some(base) = self.read.get(index) else {
-                break;
-            };
-            let file = base.bytes.share()?;
-            self.read_used_by(rt, file.as_slice())?;
-        }
-        self.asked = count;
-        Ok(())
-    }
-
-    /// Reads ahead the file of this name, unless it was read before. A file that can't be read changes nothing: the
-    /// file is reported only if a parse misses it.
-    fn read_ahead(&mut self, rt: &HostRuntime, name: &[u8]) -> Result<(), Failure> {
-        if !self.has_unread(name) {
-            return Ok(());
-        }
-        match self.look_for(rt, name)? {
-            Found::File(bytes) => self.add(rt.alloc(), name, bytes)?,
-            Found::Unreadable(_file) => {}
             Found::Nothing => self.search.set_absent(rt.alloc(), name)?,
         }
         Ok(())
@@ -299,6 +258,11 @@ impl<'b> Bases<'b> {
             Some(base) => Ok(Some(base.bytes.share()?)),
             None => Ok(None),
         }
+    }
+
+    /// The bytes of the file of this name, if it is read.
+    pub fn bytes_of(&self, name: &[u8]) -> Option<&[u8]> {
+        Some(self.base(name)?.bytes.as_slice())
     }
 
     /// The file of this name, if it is read.

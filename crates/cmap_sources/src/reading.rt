@@ -1,10 +1,13 @@
-//! A file is parsed over the bases that were read. If one is missing, it is read, and the file is parsed again.
+//! A file is read over the files that it uses: over each file once, up to a fault. A file with faults is then read past
+//! them, over the files that were read; if a file is missing, it is read, and the file with faults is read again.
 
-use crate::bases::{Bases, Files, ReadBases};
+use crate::bases::{Bases, Files};
 use crate::fault_line::LineCounter;
 use crate::refused::{more_json, more_line, push_refusal_json, push_refusal_line};
 use cmap_io::failure::Failure;
-use hayro_cmap::{CMap, Cause, Fault, Refusal, SalvagedMap};
+use hayro_cmap::{
+    CMap, Cause, Fault, Layers, Loader, NameCopies, Refusal, RefusedFile, SalvagedMap,
+};
 use std::alloc::{AllocError, Global};
 
 /// A file to be parsed.
@@ -21,7 +24,13 @@ pub struct Reading {
     pub map: Option<CMap>,
     /// A line for each fault, without its line end.
     pub faults: Vec<String>,
-    /// The names of missing bases that aren't read yet. If there are any, the file is parsed again.
+}
+
+/// The result of reading a file past its faults, over the bases that were read.
+#[derive(Drop)]
+struct Pass {
+    reading: Reading,
+    /// The names of missing bases that can be read. If there are any, the file is read again.
     missing: Vec<Vec<u8>>,
 }
 
@@ -55,10 +64,10 @@ pub struct Manner {
 /// The most faults of a file that are printed, if no option says otherwise.
 pub const MOST_FAULTS: u64 = 100;
 
-/// The most times that a file is parsed. The loop ends because each parse but the last misses a name that wasn't looked
-/// up before, and files use a limited number of names. No clause states that number, so the loop has this bound, which
-/// no run reaches.
-const MOST_PARSES: u32 = u32::MAX;
+/// The most times that a file is read past its faults. The loop ends because each pass but the last misses a name that
+/// wasn't looked up before, and files use a limited number of names. No clause states that number, so the loop has this
+/// bound, which no run reaches.
+const MOST_PASSES: u32 = u32::MAX;
 
 /// Reads a file over the files that it uses.
 pub fn read_over(
@@ -67,103 +76,87 @@ pub fn read_over(
     manner: Manner,
     bases: &mut Bases<'_>,
 ) -> Result<Reading, Failure> {
-    let mut reading = Reading {
-        map: None,
-        faults: Vec::new(rt.alloc()),
-        missing: Vec::new(rt.alloc()),
-    };
-    reading.read_over(rt, input, manner, bases)?;
-    Ok(reading)
+    match load(rt, input.bytes, manner.budget, bases)? {
+        Ok(layers) => Ok(Reading {
+            map: Some(CMap::of(layers)),
+            faults: Vec::new(rt.alloc()),
+        }),
+        Err(refused) => read_faulty(rt, input, manner, bases, &refused),
+    }
 }
 
-impl Reading {
-    /// Parses a file again until no base that can be read is missing.
-    fn read_over(
-        &mut self,
-        rt: &HostRuntime,
-        input: Input<'_>,
-        manner: Manner,
-        bases: &mut Bases<'_>,
-    ) -> Result<(), Failure> {
-        for parses in 0..MOST_PARSES {
-            self.parse(rt.alloc(), input, manner, bases)?;
-            if self.missing.is_empty() {
-                break;
-            }
-            bases.read_all(rt, &self.missing)?;
-            if let Faults::First = manner.faults {
-                read_ahead(rt, parses, input, bases)?;
-            }
-        }
-        Ok(())
+/// The layers of a file, or a refusal. Each file that is used is read once, when it is wanted.
+fn load(
+    rt: &HostRuntime,
+    bytes: &[u8],
+    budget: Option<u64>,
+    bases: &mut Bases<'_>,
+) -> Result<Result<Layers, RefusedFile<NameCopies>>, Failure> {
+    let mut load = Loader::<NameCopies>::new(rt.alloc(), budget, bytes, bases.bundle)?;
+    while let Some(name) = load.wanted() {
+        bases.read(rt, name)?;
+        load.supply(bases.bytes_of(name), bases.bundle)?;
     }
+    match load.finish() {
+        Ok(layers) => Ok(Ok(layers)),
+        Err(Fault::Refused(refused)) => Ok(Err(refused)),
+        Err(Fault::Memory) => Err(Failure::Memory),
+    }
+}
 
-    /// Parses a file over the bases that were read.
-    fn parse(
-        &mut self,
-        alloc: Global,
-        input: Input<'_>,
-        manner: Manner,
-        bases: &Bases<'_>,
-    ) -> Result<(), AllocError> {
-        let files = bases.read_files();
-        match manner.faults {
-            Faults::First => self.read_strictly(alloc, input, manner, bases, &files),
-            Faults::All => self.read_past(alloc, input, manner, bases, &files),
+/// Reads a file that is refused: up to the refusal, or past all faults.
+fn read_faulty(
+    rt: &HostRuntime,
+    input: Input<'_>,
+    manner: Manner,
+    bases: &mut Bases<'_>,
+    refused: &RefusedFile<NameCopies>,
+) -> Result<Reading, Failure> {
+    match manner.faults {
+        Faults::First => {
+            let refusal = refused.refusal(rt.alloc())?;
+            let faults = lines_of(rt.alloc(), input, manner, bases, &[refusal])?;
+            Ok(Reading { map: None, faults })
         }
+        Faults::All => read_past(rt, input, manner, bases),
     }
+}
 
-    /// Parses a file over these files, up to the first fault.
-    fn read_strictly<'f>(
-        &mut self,
-        alloc: Global,
-        input: Input<'f>,
-        manner: Manner,
-        bases: &Bases<'_>,
-        files: &'f ReadBases<'_>,
-    ) -> Result<(), AllocError> {
-        match CMap::parse_from(alloc, manner.budget, input.bytes, bases.bundle, files) {
-            Ok(map) => {
-                self.map = Some(map);
-                self.set_faults(alloc, input, manner, bases, &[])
-            }
-            Err(Fault::Refused(refusal)) => {
-                self.set_faults(alloc, input, manner, bases, &[refusal])
-            }
-            Err(Fault::Memory) => Err(AllocError),
+/// Reads a file past its faults, until no base that can be read is missing.
+fn read_past(
+    rt: &HostRuntime,
+    input: Input<'_>,
+    manner: Manner,
+    bases: &mut Bases<'_>,
+) -> Result<Reading, Failure> {
+    let mut last = pass(rt.alloc(), input, manner, bases)?;
+    for _ in 0..MOST_PASSES {
+        if last.missing.is_empty() {
+            break;
         }
+        bases.read_all(rt, &last.missing)?;
+        last = pass(rt.alloc(), input, manner, bases)?;
     }
+    Ok(last.reading)
+}
 
-    /// Parses a file over these files, past all faults.
-    fn read_past<'f>(
-        &mut self,
-        alloc: Global,
-        input: Input<'f>,
-        manner: Manner,
-        bases: &Bases<'_>,
-        files: &'f ReadBases<'_>,
-    ) -> Result<(), AllocError> {
-        let read = CMap::salvage(alloc, manner.budget, input.bytes, bases.bundle, files)?;
-        let SalvagedMap { map, faults } = read;
-        self.map = Some(map);
-        self.set_faults(alloc, input, manner, bases, &faults)
-    }
-
-    /// Sets the names of bases that are missing and can be read, or the lines of the faults if there are no such names.
-    fn set_faults(
-        &mut self,
-        alloc: Global,
-        input: Input<'_>,
-        manner: Manner,
-        bases: &Bases<'_>,
-        faults: &[Refusal<'_>],
-    ) -> Result<(), AllocError> {
-        self.missing = missing_names(alloc, bases, faults)?;
-        if self.missing.is_empty() {
-            self.faults = lines_of(alloc, input, manner, bases, faults)?;
-        }
-        Ok(())
-    }
+/// Reads a file past its faults, over the bases that were read.
+fn pass(
+    alloc: Global,
+    input: Input<'_>,
+    manner: Manner,
+    bases: &Bases<'_>,
+) -> Result<Pass, AllocError> {
+    let files = bases.read_files();
+    let read = CMap::salvage(alloc, manner.budget, input.bytes, bases.bundle, &files)?;
+    let SalvagedMap { map, faults } = read;
+    let missing = missing_names(alloc, bases, &faults)?;
+    let faults = lines_of(alloc, input, manner, bases, &faults)?;
+    let map = Some(map);
+    Ok(Pass {
+        reading: Reading { map, faults },
+        missing,
+    })
 }
 
 /// The faults of a file that is read over these files past its faults. With `Faults::First`, there are none.
@@ -180,24 +173,6 @@ pub fn faults_of<'f>(
             let SalvagedMap { map: _, faults } = read;
             Ok(faults)
         }
-    }
-}
-
-/// Reads bases ahead, since a parse up to the first fault finds only one missing base. After the first parse, nothing
-/// is read ahead, since most files use one base.
-fn read_ahead(
-    rt: &HostRuntime,
-    parses: u32,
-    input: Input<'_>,
-    bases: &mut Bases<'_>,
-) -> Result<(), Failure> {
-    match parses {
-        0 => Ok(()),
-        1 => {
-            bases.read_used_by(rt, input.bytes)?;
-            bases.read_used(rt)
-        }
-        _ => bases.read_used(rt),
     }
 }
 

@@ -14,7 +14,9 @@ pub use cmap_layers::layers::Layers;
 pub use cmap_layers::stretches::{CidStretch, Cids, TextStretch};
 pub use cmap_layers::string_codes::StringCode;
 pub use cmap_load::named_files::{BundleFiles, NamedFile, NamedFiles};
-pub use cmap_load::{Cause, Refusal, Source, identity_text};
+pub use cmap_load::{
+    Cause, Loader, NameCopies, NameSlices, Names, Refusal, RefusedFile, Source, identity_text,
+};
 pub use cmap_runs::runs;
 pub use cmap_tokens::token;
 pub use cmap_tokens::utf16::{self, BfString};

@@ -72,6 +72,13 @@ pub struct SalvagedMap<'a> {
 }
 
 impl CMap {
+    /// The map with these layers, which a `Loader` gives.
+    pub fn of(layers: Layers) -> CMap
+        ensures { result ≡ layers }
+    {
+        CMap { layers }
+    }
+
     /// The map of the CMap file `data`; `None` if the file is refused: the file or a file that it
     /// uses is outside the grammar, a use has no answer, or more than 16 files stand in a chain.
     ///

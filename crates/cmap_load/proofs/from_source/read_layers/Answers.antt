@@ -1,15 +1,28 @@
 use Rattle.std.proofs.Common.{subst}
+use Rattle.std.specs.Prelude.{Err, Ok}
 use Rattle.cmap_binary.specs.BundleSeen.{tables_given}
-use Rattle.cmap_load.specs.Loads.{Loads, tables_in}
-use Rattle.cmap_load.proofs.Loaded.{Loads-new, found}
+use Rattle.cmap_values.specs.declared.fault.Fault.TheVariants as fault
+use Rattle.cmap_load.specs.Loads.{FitsGiven}
+use Rattle.cmap_load.proofs.Loaded.{IsRefused-same, Loads-new, found}
 use Rattle.cmap_load.proofs.from_source.read_layers.Goals as goal
 
-pub returns : goal.returns
-returns g c =
-    let tables = tables_given c.args.bundle in let bytes = c.args.«data».now in
-    let answers = g.S.Source.answers c.args.source.now in let load = c.in_ok-load.load in
-    let begun = subst (λ t. Loads t c.args.budget answers bytes load) c.in_ok-load.ensures.tables
-    (subst (λ b. Loads (tables_in load) b answers bytes load) c.in_ok-load.ensures.budget (Loads-new {answer = answers} bytes load c.in_ok-load.ensures.given)) in
-    let loads = c.in_ok-supply_all.ensures.loads tables c.args.budget bytes begun in
-    let done = found c.requires.by_name c.supply_all.new.load loads c.finish.result c.finish.ensures.loads c.finish.ensures.within c.finish.ensures.refuses in
-    record { accepts = done.accepts; within = done.within; refuses = done.refuses; over = done.over; blames = done.blames; first = done.first; few = done.few }
+pub returns-in-Ok : goal.returns-in-Ok
+returns-in-Ok g c =
+    let tables = tables_given c.args.bundle in let budget = c.args.budget in
+    let loads = c.in_ok-supply_all.ensures.loads budget c.args.«data».now (Loads-new c.in_ok-load.load c.in_ok-load.ensures.budget c.in_ok-load.ensures.reads) in
+    let loaded = c.in-Ok.ensures.loads.by tables loads.answers loads.reads in
+    let fits = subst (λ b. FitsGiven tables b loads.answers) loads.within (c.in-Ok.ensures.within.by tables loads.answers loads.reads) in
+    let done = found tables budget c.requires.by_name loads.answers loads.first loads.agrees (Ok c.in-Ok.layers) loaded fits tt in
+    record { accepts = done.accepts; within = done.within; refuses = tt; over = tt; blames = tt; first = tt; few = tt }
+
+pub returns-in_ok-refusal-in-Err-Refused : goal.returns-in_ok-refusal-in-Err-Refused
+returns-in_ok-refusal-in-Err-Refused g c =
+    let tables = tables_given c.args.bundle in let budget = c.args.budget in
+    let loads = c.in_ok-supply_all.ensures.loads budget c.args.«data».now (Loads-new c.in_ok-load.load c.in_ok-load.ensures.budget c.in_ok-load.ensures.reads) in
+    let refusal = c.in_ok-refusal-in-Err-Refused.refusal in
+    let refused = rw c.in-Err-Refused.field-0-is at c.in-Err-Refused.ensures.refuses in
+    let by = refused.by tables loads.answers loads.reads in
+    let told = c.in_ok-refusal-in-Err-Refused.ensures in
+    let is = IsRefused-same tables loads.answers by loads.within told.names told.cause in
+    let done = found tables budget c.requires.by_name loads.answers loads.first loads.agrees (Err (fault.Refused refusal)) tt tt is in
+    record { accepts = tt; within = tt; refuses = done.refuses; over = done.over; blames = done.blames; first = done.first; few = done.few }

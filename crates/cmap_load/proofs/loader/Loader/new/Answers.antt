@@ -1,6 +1,7 @@
-use Rattle.cmap_load.specs.declared.loader.State.TheVariants as state
-use Rattle.cmap_load.proofs.Supplied.{first_awaited}
+use Rattle.std.proofs.Common.{[]}
+use Rattle.cmap_binary.specs.BundleSeen.{tables_given}
+use Rattle.cmap_load.proofs.Supplied.{HasTexts-none, leads_top}
 use Rattle.cmap_load.proofs.loader.Loader.new.Goals as goal
 
-pub take-requires : goal.take-requires
-take-requires c = first_awaited (record { alloc = c.args.alloc; bundle = c.args.bundle; answers = c.new.result; table = c.new-2.result; state = state.Whole }) c.args.«data».now c.new.ensures.items c.args.budget c.new-2.ensures c.new-names.result.items c.new-names.ensures.items
+pub returns-clause-reads : goal.returns-clause-reads
+returns-clause-reads g c = c.in_ok-take.ensures.reads [] (leads_top c.args.budget (g.N.Names.texts c.new.result) c.new.ensures.texts c.new-2.result c.new-2.ensures (tables_given c.args.bundle) c.new-names.result.items c.args.«data».now c.new-names.ensures.items)

@@ -1,19 +1,33 @@
-use Rattle.std.proofs.Common.{ap}
+use Rattle.std.proofs.Common.{map, subst, sym}
 use Rattle.std.specs.Option.{option_copied}
-use Rattle.std.specs.Prelude.{option_map}
 use Rattle.cmap_binary.specs.BundleSeen.{tables_given}
+use Rattle.cmap_load.specs.Loads.{IsRefused}
 use Rattle.cmap_load.specs.Numbers.{text_at}
-use Rattle.cmap_load.specs.Tables.{texts_in}
-use Rattle.cmap_load.proofs.Supplied.{given_now, loading_now}
+use Rattle.cmap_load.proofs.Supplied.{all, failed, follows, ready, shows_added}
 use Rattle.cmap_load.proofs.loader.Loader.take.Goals as goal
 
-pub returns-clause-given : goal.returns-clause-given
-returns-clause-given c =
-    let load = c.args.self.now in
-    given_now load.answers.items c.open.new.self.answers.items c.push.new.self.items (record { name = c.text-text.result; bytes = c.args.bytes }) (option_map (text_at (texts_in load.table)) c.args.name) (ap (λ v. v.items) c.open.ensures.answers) c.in_ok-push.ensures.items c.text-text.ensures
+pub returns-in_ok-next-in-Ok-clause-loading : goal.returns-in_ok-next-in-Ok-clause-loading
+returns-in_ok-next-in-Ok-clause-loading g c =
+    let added = c.in_ok-next-in-Ok.ensures in
+    record { set = record { numbered = added.set.numbered; table = added.set.table; texts_are = added.set.texts_are }; follows = follows c.add.new.self.table added.set.table added.begun c.in_ok-next-in-Ok.next c.after.result added.next c.after.ensures }
 
-pub returns-clause-loading : goal.returns-clause-loading
-returns-clause-loading c =
-    let load = c.args.self.now in
-    let same = given_now load.answers.items c.open.new.self.answers.items c.push.new.self.items (record { name = c.text-text.result; bytes = c.args.bytes }) (option_map (text_at (texts_in load.table)) c.args.name) (ap (λ v. v.items) c.open.ensures.answers) c.in_ok-push.ensures.items c.text-text.ensures in
-    loading_now load (record c.open.new.self { answers = c.push.new.self; state = c.in_ok-state.state }) c.args.name c.args.names.items c.args.left (option_copied c.args.bytes) c.requires (ap tables_given c.open.ensures.bundle) same c.in_ok-state.ensures.ready
+pub returns-in_ok-next-in-Ok-clause-reads : goal.returns-in_ok-next-in-Ok-clause-reads
+returns-in_ok-next-in-Ok-clause-reads g c = λ answers leads.
+    let texts = g.N.Names.texts in let old = c.args.self.now in let new = c.add.new.self in
+    let tables = tables_given c.args.bundle in let bytes = option_copied c.args.bytes in let added = c.in_ok-next-in-Ok.ensures in
+    let shows = shows_added tables answers (texts old.list) old.table c.args.name c.args.names.items c.args.left bytes leads (texts new.list) new.table c.requires.set.table c.requires.set.texts_are c.requires.new c.in-Ok.length c.in-Ok.file c.in-Ok.ensures.0 added.added in
+    record {
+      has = leads.has;
+      ready = ready new.table added.set.table tables (all tables answers (texts old.list) old.table c.args.name c.args.names.items c.args.left bytes leads) (texts new.list) shows c.in_ok-next-in-Ok.next c.after.result added.next c.after.ensures;
+    }
+
+pub returns-in-Err-Refused-clause-reads : goal.returns-in-Err-Refused-clause-reads
+returns-in-Err-Refused-clause-reads g c = λ answers leads.
+    let texts = g.N.Names.texts in let old = c.args.self.now in
+    let tables = tables_given c.args.bundle in let bytes = option_copied c.args.bytes in
+    let fails = rw c.in-Err-Refused.field-0-is at c.in-Err-Refused.ensures.1 in
+    record {
+      has = leads.has;
+      ready = subst (λ cause. IsRefused tables old.table.graph.budget (all tables answers (texts old.list) old.table c.args.name c.args.names.items c.args.left bytes leads) (map (text_at (texts old.list)) c.args.names.items) cause) (sym c.in-Err-Refused.cause-is)
+          (failed tables answers (texts old.list) old.table c.args.name c.args.names.items c.args.left bytes leads c.in-Err-Refused.cause fails);
+    }

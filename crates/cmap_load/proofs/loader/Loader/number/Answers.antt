@@ -1,0 +1,1 @@
+use Rattle.cmap_load.proofs.loader.Loader.number.Goals as goal
