@@ -9,7 +9,6 @@ use cmap_edit::tidy::tidy;
 use cmap_io::digits::push_code;
 use cmap_io::escape::push_text;
 use cmap_io::failure::Failure;
-use cmap_queries::code_lengths::LENGTHS;
 use cmap_runs::runs::{Looks, Table};
 use cmap_values::code_length::CodeLength;
 use cmap_values::declarations::{BfRange, ByLength, CidRange, Lists};
@@ -193,7 +192,7 @@ fn rows_of_file(lists: &Lists) -> u64 {
 
 fn rows_by_length(lists: &ByLength<Vec<CidRange>>) -> u64 {
     let mut rows: u64 = 0;
-    for len in LENGTHS {
+    for len in CodeLength::ALL {
         rows = rows.saturating_add(rows_of(lists.get(*len)));
     }
     rows
@@ -218,7 +217,7 @@ fn rows_of_map(map: &CMap) -> u64 {
 
 fn rows_of_layer(layer: &Layer) -> u64 {
     let mut rows = rows_of_table(layer.texts());
-    for len in LENGTHS {
+    for len in CodeLength::ALL {
         rows = rows.saturating_add(rows_of_table(layer.cids(*len)));
         rows = rows.saturating_add(rows_of_table(layer.notdefs(*len)));
     }
