@@ -31,17 +31,21 @@ pub enum Obstacle {
 impl Display for Obstacle {
     fn fmt<W: Write>(&self, f: &mut Formatter<W>) -> fmt::Result {
         f.write_str(match self {
-            Obstacle::LargeCid(range) => return write_codes(f, "CID above 65535", range),
+            Obstacle::LargeCid(range) => return write_codes(f, "a CID above 65535", range),
             Obstacle::LargeCode(code) => {
                 return write!(f, "the code {code:X} has more bytes than its length");
             }
             Obstacle::ZeroByte => "a registry or an ordering holds a zero byte",
             Obstacle::CustomFamily => "a custom collection has the name of a known one",
             Obstacle::Supplement(number) => {
-                return write!(f, "the supplement {number} isn't 0 to 65535");
+                return write!(f, "the supplement {number} isn't from 0 to 65535");
             }
             Obstacle::Text(range) => {
-                return write_codes(f, "more than 255 units or 65536 texts", range);
+                return write_codes(
+                    f,
+                    "a text of more than 255 units, or more than 65536 texts,",
+                    range,
+                );
             }
             Obstacle::NoWord => "more different numbers than a table holds",
             Obstacle::TooLong => "2^32 bytes or more",

@@ -39,6 +39,6 @@ pub(crate) fn binary_of(
 fn obstacle_line(alloc: Global, path: &str, obstacle: Obstacle) -> Result<String, AllocError> {
     let mut line = String::new(alloc);
     push_text(&mut line, path)?;
-    write!(line, ": the binary form can't say {obstacle}")?;
+    write!(line, ": the binary form can't express the file: {obstacle}")?;
     Ok(line)
 }

@@ -245,7 +245,7 @@ fn rows_in(range: &Range) -> u64 {
 fn large_line(alloc: Global, path: &str) -> Result<String, AllocError> {
     let mut line = String::new(alloc);
     push_text(&mut line, path)?;
-    line.push_str(": its ranges have codes of more than 1048576 rows")?;
+    line.push_str(": its ranges cover more than 1048576 rows of 256 codes")?;
     Ok(line)
 }
 
@@ -253,7 +253,7 @@ fn large_line(alloc: Global, path: &str) -> Result<String, AllocError> {
 fn long_line(alloc: Global, path: &str) -> Result<String, AllocError> {
     let mut line = String::new(alloc);
     push_text(&mut line, path)?;
-    line.push_str(": its texts have more than 16777216 units, each as long as the longest one")?;
+    line.push_str(": the number of its texts, times the units of the longest, exceeds 16777216")?;
     Ok(line)
 }
 
@@ -265,8 +265,8 @@ fn contradiction_line(
 ) -> Result<String, AllocError> {
     let mut line = String::new(alloc);
     push_text(&mut line, path)?;
-    line.push_str(": no one file gives the code <")?;
+    line.push_str(": no single file can give the code <")?;
     push_code(&mut line, contradiction.len.count(), contradiction.code)?;
-    line.push_str("> the CID and the text that its layers give it")?;
+    line.push_str("> both its CID and its text")?;
     Ok(line)
 }
