@@ -16,3 +16,4 @@ pub mod Loading
 pub mod Graphs
 pub mod Tables
 pub mod Loads
+pub mod Results
