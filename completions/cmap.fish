@@ -39,7 +39,7 @@ complete -c cmap -n '__fish_seen_subcommand_from find decode text encode' -l sim
 complete -c cmap -n '__fish_seen_subcommand_from decode text' -l fold -d 'Texts in usual characters'
 complete -c cmap -n '__fish_seen_subcommand_from encode' -l exact -d 'Only codes that are read as the very text'
 complete -c cmap -n '__fish_seen_subcommand_from encode' -l pieces -d 'Also the pieces of each text'
-complete -c cmap -n '__fish_seen_subcommand_from encode' -l missing -x -d 'The code for what no string shows'
+complete -c cmap -n '__fish_seen_subcommand_from encode' -l missing -x -d 'The bytes that replace each unencodable character'
 
 complete -c cmap -n '__fish_seen_subcommand_from check' -l files-from -r -d 'A list of paths'
 complete -c cmap -n '__fish_seen_subcommand_from check' -s 0 -l null -d 'A zero byte ends each path'

@@ -3,7 +3,7 @@
  *     encode FILE TEXT [MISSING]
  *
  * The font has the predefined CMap Identity-H, so its codes have two bytes. FILE is its ToUnicode CMap,
- * which uses no other file. MISSING is a text that stands for each character that no string shows. */
+ * which uses no other file. MISSING is a text that stands for each character that can't be encoded. */
 #include <hayro_cmap.h>
 #include <stdio.h>
 #include <stdlib.h>
@@ -64,11 +64,11 @@ static struct string encoded(hayro_cmap_encoder *encoder, const char *text) {
     hayro_cmap_status status = hayro_cmap_encode(encoder, (const uint8_t *)text, len, string.bytes, 2 * len,
                                                  &string.len, &offset);
     if (status == HAYRO_CMAP_NO_MEMORY) fail("encode", "out of memory");
-    if (status != HAYRO_CMAP_OK) fail(text + offset, "no string shows this");
+    if (status != HAYRO_CMAP_OK) fail(text + offset, "can't be encoded");
     return string;
 }
 
-/* The same with the string `missing` for each character that no string shows. */
+/* The same with the string `missing` for each character that can't be encoded. */
 static struct string encoded_lossy(hayro_cmap_encoder *encoder, const char *text, struct string missing) {
     size_t len = strlen(text), room = len * (2 + missing.len);
     struct string string = {allocated(room), 0};

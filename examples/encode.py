@@ -4,7 +4,7 @@
     encode.py FILE TEXT [MISSING]
 
 The font has the predefined CMap Identity-H, so its codes have two bytes. FILE is its ToUnicode CMap, which uses no
-other file. MISSING is a text that stands for each character that no string shows.
+other file. MISSING is a text that stands for each character that can't be encoded.
 """
 
 import sys
@@ -26,4 +26,4 @@ if __name__ == "__main__":
     try:
         main(*sys.argv[1:])
     except hayro_cmap.Unencodable as fault:
-        sys.exit(f"{fault.text[fault.offset:]}: no string shows this")
+        sys.exit(f"{fault.text[fault.offset:]}: can't be encoded")

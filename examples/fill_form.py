@@ -51,4 +51,4 @@ if __name__ == "__main__":
     try:
         main(*sys.argv[1:])
     except hayro_cmap.Unencodable as fault:
-        sys.exit(f"{fault.text[fault.offset:]}: no string shows this")
+        sys.exit(f"{fault.text[fault.offset:]}: can't be encoded")

@@ -258,7 +258,7 @@ def check_strings_of_texts(checks, setting, command, **environment):
     checks.ended(f"{command_line(command)}: é for x", ran, "000100020002\n")
     ran = run(*command, path, "Reé", **environment)
     checks.ended(f"{command_line(command)}: a text without a string", ran, "", status=1)
-    checks.same("what is said of it", ran.err, "eé: no string shows this\n")
+    checks.same("what is said of it", ran.err, "eé: can't be encoded\n")
 
 
 @needs("gcc")
@@ -296,7 +296,7 @@ def test_python_fills_a_form(checks, setting):
     checks.ended("its text by pdftotext", ran, "".join(f"{text}\n" for _, _, text, _ in forms.FIELDS))
     ran = run(*command, "0=あ한", **environment)
     checks.ended("a text without a string", ran, "", status=1)
-    checks.same("what is said of it", ran.err, "한: no string shows this\n")
+    checks.same("what is said of it", ran.err, "한: can't be encoded\n")
 
 
 @needs("gcc", "valgrind")

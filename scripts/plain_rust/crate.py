@@ -26,7 +26,7 @@ READER = ["hayro_cmap", "cmap_encode", "cmap_unicode", "cmap_edit", "cmap_lint",
 TESTS = TOP / "tests"
 QUERIES = "cmap_queries"
 # crates outside the reader that tests of modules need
-TESTED = ["cmap_maker", "cmap_writer"]
+TESTED = ["cmap_binary_writer", "cmap_bundle_maker"]
 # functions of lookups that Rust inlines only with an attribute; this replaces other such attributes
 INLINED = {
     "cmap_c/src/cids.rt": ["hayro_cmap_cid", "hayro_cmap_cid_strict"],

@@ -1,6 +1,6 @@
 //! A bundle that is made of files, and what it answers.
 
-use super::cmap_maker::{Source, make_named_bundle};
+use super::cmap_bundle_maker::{Source, make_named_bundle};
 use crate::fallible::Vec;
 use crate::fallible::alloc::Global;
 use crate::reader::bcmap::Bundle;

@@ -3,9 +3,9 @@
 //! `scripts/plain-rust` adds the crates that only programs of the project use.
 
 #[allow(clippy::all, dead_code, unused_imports)]
-mod cmap_maker;
+mod cmap_binary_writer;
 #[allow(clippy::all, dead_code, unused_imports)]
-mod cmap_writer;
+mod cmap_bundle_maker;
 
 mod bits;
 mod differences;

@@ -65,7 +65,7 @@ class Refusals(unittest.TestCase):
             self.assertEqual([fault.names for fault in faults], [(), (b"AB",), (b"AB", b"C")])
             self.assertEqual([fault.reason for fault in faults], [Reason.CID_EXPECTED, Reason.CODE_LENGTH, None])
             self.assertEqual([fault.offset for fault in faults], [data.index(b"/X") + 2, 15, None])
-            self.assertEqual(str(faults[1]), "/AB: byte 15: a code has one to four bytes")
+            self.assertEqual(str(faults[1]), "/AB: byte 15: a code must have one to four bytes")
         self.assertEqual(CMap.salvage(SMALL).faults, [])
 
     def test_read_as(self):

@@ -3,7 +3,7 @@
 //!     encode FILE TEXT [MISSING]
 //!
 //! The font has the predefined CMap Identity-H, so its codes have two bytes. FILE is its ToUnicode
-//! CMap, which uses no other file. MISSING is a text that stands for each character that no string shows.
+//! CMap, which uses no other file. MISSING is a text that stands for each character that can't be encoded.
 
 use hayro_cmap::{CMap, Encoder, Extractor};
 use std::error::Error;
@@ -11,7 +11,7 @@ use std::{env, fs, process};
 
 /// The string of a text.
 fn encoded(encoder: &Encoder, text: &str) -> Result<Vec<u8>, String> {
-    let refused = |offset| format!("{}: no string shows this", &text[offset..]);
+    let refused = |offset| format!("{}: can't be encoded", &text[offset..]);
     encoder.encode(text).map_err(|error| refused(error.offset))
 }
 

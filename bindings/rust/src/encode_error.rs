@@ -13,7 +13,7 @@ pub struct EncodeError {
 
 impl Display for EncodeError {
     fn fmt(&self, f: &mut Formatter<'_>) -> fmt::Result {
-        write!(f, "no string shows the text past byte {}", self.offset)
+        write!(f, "the character at byte {} can't be encoded", self.offset)
     }
 }
 

@@ -1195,7 +1195,7 @@ impl EncoderHandle {
         pieces.ok_or(offset)
     }
 
-    /// The string of a text with the bytes `missing` for each character that no string shows; `None` if these
+    /// The string of a text with the bytes `missing` for each character that can't be encoded; `None` if these
     /// bytes aren't whole codes.
     pub(crate) fn encode_lossy(&mut self, text: &str, missing: &[u8]) -> Option<Vec<u8>> {
         written(BYTES_EACH * text.len(), |room, needed| {

@@ -34,7 +34,7 @@ fn a_text_is_refused_where_its_longest_prefix_ends() {
     assert_eq!(refused("ffx"), Err(2));
     assert_eq!(refused("x"), Err(0));
     let error = encoder().encode("日x").unwrap_err();
-    assert_eq!(error.to_string(), "no string shows the text past byte 3");
+    assert_eq!(error.to_string(), "the character at byte 3 can't be encoded");
     assert_eq!(font(&[]).encoder().encode("f").unwrap_err().offset, 0);
 }
 

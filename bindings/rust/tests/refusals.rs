@@ -25,7 +25,7 @@ fn a_malformed_file_has_an_offset_and_a_reason() {
             "byte 19: the file ends within a section",
         ),
         (b"begincidchar 1 1", 14, Reason::CodeExpected, "byte 14: a code was expected"),
-        (b"begincidchar <> 1", 15, Reason::CodeLength, "byte 15: a code has one to four bytes"),
+        (b"begincidchar <> 1", 15, Reason::CodeLength, "byte 15: a code must have one to four bytes"),
         (b"begincidchar <01> x", 19, Reason::CidExpected, "byte 19: a CID was expected"),
         (
             b"beginbfchar <01> 1 ",
@@ -272,7 +272,7 @@ fn files_are_read_past_their_faults() {
     assert_eq!(cids, [Some(5), None, Some(7), Some(9)]);
     let shown: Vec<String> = found.faults.iter().map(Refusal::to_string).collect();
     assert_eq!(shown[0], "byte 39: a CID was expected");
-    assert_eq!(shown[1], "AB: byte 15: a code has one to four bytes");
+    assert_eq!(shown[1], "AB: byte 15: a code must have one to four bytes");
     assert_eq!((shown.len(), found.faults[2].cause()), (3, Cause::NoFile));
     assert_eq!(found.faults[1].line(b"begincidchar\n<> 8\r<44> 9\nendcidchar /C usecmap"), Some(2));
     assert_eq!((found.faults[0].line(data), found.faults[2].line(data)), (Some(1), None));

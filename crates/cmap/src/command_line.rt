@@ -170,7 +170,7 @@ const OF_FILES: &[Form] = &[
             id: ARGUMENT,
             value_name: "WANTED",
             unless: None,
-            help: "cid:N for the codes of a CID, text:TEXT for those of a text",
+            help: "cid:N for the codes of a CID, text:TEXT for the codes of a text",
         }),
     },
     Form {
@@ -339,7 +339,7 @@ fn add_forms<'a>(
 
 fn program<'a>(alloc: Global) -> Result<Command<'a>, AllocError> {
     Command::new(alloc, "cmap")
-        .about("Prints what is in CMap files, where they are wrong, and what strings say")
+        .about("Prints, checks, repairs and writes CMap files; decodes and encodes strings")
         .version("1.0.0 (a port of hayro-cmap 0.1.1)")
         .subcommand_required(true)
         .arg_required_else_help(true)

@@ -130,10 +130,10 @@ impl Printer {
     }
 }
 
-/// Reports the offset past which no string shows a text.
+/// Reports the first character of a text that can't be encoded.
 fn report_stop(rt: &HostRuntime, text: &str, offset: usize) -> Result<bool, Failure> {
     let mut shown = String::new(rt.alloc());
     push_path(&mut shown, text)?;
-    eprintln!(rt; "cmap: {shown}: no string shows it past byte {offset}")?;
+    eprintln!(rt; "cmap: {shown}: the character at byte {offset} can't be encoded")?;
     Ok(false)
 }

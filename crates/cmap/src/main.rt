@@ -61,7 +61,7 @@ fn run_arguments(rt: &HostRuntime, matches: &ArgMatches<'_>) -> Result<u8, Failu
         return Ok(FAILED);
     };
     if asks_twice_for_standard_input(arguments) {
-        let message = String::from_str(rt.alloc(), "the standard input is asked for twice")?;
+        let message = String::from_str(rt.alloc(), "the standard input can be used only once")?;
         return Err(Failure::Message(message));
     }
     match Subcommand::of(name, arguments) {

@@ -69,7 +69,7 @@ impl Candidates {
     fn add_folder(&mut self, rt: &HostRuntime, folder: &str) -> Result<(), Failure> {
         let found = files_in(rt, folder)?;
         if found.unreadable.get() > 0 {
-            return Err(fault(rt, folder, "can't be read as a whole"));
+            return Err(fault(rt, folder, "can't be read completely"));
         }
         for path in &found.files {
             match known_file_name(path.as_str()) {

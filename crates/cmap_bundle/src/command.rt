@@ -112,6 +112,6 @@ fn compare_bundle(
     if lines.is_empty() {
         return Ok(());
     }
-    let wrong = "not written, since it says something else than the files";
+    let wrong = "not written, since it gives other answers than the files";
     Err(fault(rt, output, wrong))
 }

@@ -1,9 +1,9 @@
 //! The bundle of the files that are chosen.
 
 use crate::choice::Chosen;
+use cmap_bundle_maker::{Source, Unwritable, make_named_bundle};
 use cmap_io::escape::push_text;
 use cmap_io::failure::Failure;
-use cmap_maker::{Source, Unwritable, make_named_bundle};
 use cmap_values::fault::Fault;
 use std::alloc::{AllocError, Global};
 

@@ -3,7 +3,6 @@
 use crate::choice::Chosen;
 use crate::difference::{Difference, push_difference};
 use cmap_io::escape::push_text;
-use cmap_queries::code_lengths::LENGTHS;
 use cmap_unicode::declared_cid;
 use hayro_cmap::runs::{HasRange, Looks, Range, Table};
 use hayro_cmap::{
@@ -101,7 +100,7 @@ impl Pair<'_> {
         if let Some(difference) = self.of_metadata() {
             return Ok(Some(difference));
         }
-        for len in LENGTHS {
+        for len in CodeLength::ALL {
             if let Some(difference) = self.of_cids(*len) {
                 return Ok(Some(difference));
             }

@@ -1,17 +1,9 @@
-//! The lengths that codes can have, and the length with which the codes of a text are printed.
+//! Whether a map has codes of a length, and the lengths with which codes are printed.
 
 use crate::layer::Layer;
 use crate::layers::Layers;
 use cmap_values::code_length::CodeLength;
 use cmap_values::range::Range;
-
-/// The lengths that codes can have.
-pub const LENGTHS: &[CodeLength] = &[
-    CodeLength::One,
-    CodeLength::Two,
-    CodeLength::Three,
-    CodeLength::Four,
-];
 
 /// Whether a codespace range, or a declaration of CIDs or notdefs, of some layer has codes of this
 /// length.

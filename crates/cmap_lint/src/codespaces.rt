@@ -8,7 +8,6 @@ use crate::ranges::{push_range, ranges_apart};
 use crate::shown::Concerned;
 use crate::text_spans::without_text;
 use crate::warning::Warning;
-use cmap_layers::code_lengths::LENGTHS;
 use cmap_layers::layer::Layer;
 use cmap_layers::layers::Layers;
 use cmap_layers::stretches::TextStretch;
@@ -67,7 +66,7 @@ pub(crate) fn outside_codespace<'m>(
     layer: &Layer,
 ) -> Result<Finding<'m>, AllocError> {
     let mut finding = OpenFinding::new(alloc, Warning::OutsideCodespace, subject.shown);
-    for len in LENGTHS {
+    for len in CodeLength::ALL {
         add_outside(alloc, &mut finding, subject.map, layer, *len)?;
     }
     finding.finish(alloc)

@@ -10,9 +10,10 @@ use crate::shapes::Shapes;
 use crate::strings::Strings;
 use crate::text_spans::no_text;
 use crate::warning::Warning;
-use cmap_layers::code_lengths::{LENGTHS, has_codes};
+use cmap_layers::code_lengths::has_codes;
 use cmap_layers::layer::Layer;
 use cmap_layers::layers::Layers;
+use cmap_values::code_length::CodeLength;
 use std::alloc::{AllocError, Global};
 
 /// An accepted file.
@@ -65,7 +66,7 @@ pub fn nothing_declared<'m>(map: &Layers) -> Finding<'m> {
 
 /// Whether a map has a codespace range, or a declaration of CIDs or notdefs.
 fn has_codes_of_any_length(map: &Layers) -> bool {
-    for len in LENGTHS {
+    for len in CodeLength::ALL {
         if has_codes(map, *len) {
             return true;
         }

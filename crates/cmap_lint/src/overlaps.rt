@@ -5,7 +5,7 @@ use crate::finding::{Finding, OpenFinding};
 use crate::lint::Subject;
 use crate::ranges::{join, push_range, ranges_apart, sort};
 use crate::warning::Warning;
-use cmap_layers::code_lengths::{LENGTHS, text_code_len};
+use cmap_layers::code_lengths::text_code_len;
 use cmap_layers::layer::Layer;
 use cmap_layers::layers::Layers;
 use cmap_runs::runs::{Looks, Range, Table};
@@ -64,7 +64,7 @@ fn add_list(
     layer: &Layer,
     list: CidList,
 ) -> Result<(), AllocError> {
-    for len in LENGTHS {
+    for len in CodeLength::ALL {
         add_of_length(alloc, finding, layer, list, *len)?;
     }
     Ok(())

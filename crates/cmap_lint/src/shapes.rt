@@ -4,7 +4,7 @@ use crate::declared::{CID_LISTS, CidList};
 use crate::finding::{OpenFinding, Place};
 use crate::lint::Subject;
 use crate::warning::Warning;
-use cmap_layers::code_lengths::{LENGTHS, text_code_len};
+use cmap_layers::code_lengths::text_code_len;
 use cmap_layers::layer::Layer;
 use cmap_layers::layers::Layers;
 use cmap_runs::runs::{Looks, Range};
@@ -37,7 +37,7 @@ impl<'m> Shapes<'m> {
 
     /// Checks the declarations of a list, in ascending order of the length of their codes.
     fn add_list(&mut self, layer: &Layer, list: CidList) {
-        for len in LENGTHS {
+        for len in CodeLength::ALL {
             self.add_cids(layer, list, *len);
         }
     }

@@ -4,10 +4,9 @@ use crate::codespaces::codespace_lengths;
 use crate::finding::{OpenFinding, Place};
 use crate::lint::Subject;
 use crate::warning::Warning;
-use cmap_layers::code_lengths::LENGTHS;
 use cmap_runs::runs::Range;
 use cmap_tokens::token::StringToken;
-use cmap_values::code_length::read_code;
+use cmap_values::code_length::{CodeLength, read_code};
 use cmap_values::declarations::ByLength;
 use std::alloc::{AllocError, Global};
 
@@ -157,7 +156,8 @@ impl<'m> Strings<'m> {
 
     /// Whether a codespace range of the map has codes of `byte_len` bytes.
     fn has_codespace(&self, byte_len: usize) -> bool {
-        LENGTHS.iter().any(|len| usize::from(len.count()) == byte_len && *self.lengths.get(*len))
+        CodeLength::ALL.iter().any(|len| usize::from(len.count()) == byte_len
+            && *self.lengths.get(*len))
     }
 }
 

@@ -14,7 +14,7 @@ use Rattle.cmap_load.specs.Budgets.{IsOver, OpensFirst, PassesAt, Trail}
 use Rattle.cmap_load.specs.Layers.{Means}
 use Rattle.cmap_load.specs.Maps.{ExceedsBudget, FitsBudget, HasNoMap, IsMapOf, LeadsToFault}
 use Rattle.cmap_load.specs.Refusals.{IsFault}
-use Rattle.cmap_load.specs.Salvage.{AreOfBundle, IsFirstPastFaults}
+use Rattle.cmap_load.specs.Results.{ReadsLayers}
 use Rattle.cmap_load.specs.declared.refusal.Refusal.{Refusal}
 use Rattle.cmap_load.specs.declared.refusal.Cause.{Cause}
 use Rattle.cmap_load.specs.declared.refusal.Cause.TheVariants.{Malformed, NoFile, ChainLength, OverBudget}
@@ -127,18 +127,8 @@ IsRefused-same tables answers {budget} {other} {names} {same} {cause} {this} is 
 
 -- what a loader finds, by answers that agree with what it was given
 module _ (tables : Option PrefixTables) (budget : Option ℕ) {answer : List ℕ → Option (List ℕ) → Type 0} {bytes : List ℕ} (by_name : IsByName answer) (given : List Answer) (begins : bytes_at given 0 ≡ Some bytes) (agrees : Agrees (IsAnswered given) answer) where
-  -- what is found says this
-  pub record IsFoundBy (result : Result (List Layer) (Fault Refusal)) : Type 0 where
-    pub accepts : IfOk result (IsMapOf tables answer bytes)
-    pub within : OnOk result (FitsBudget tables answer bytes budget)
-    pub refuses : IfErr result (RefusesWith (λ refusal. refusal.cause ≢ OverBudget → HasNoMap tables answer bytes × FitsBudget tables answer bytes budget))
-    pub over : IfErr result (RefusesWith (λ refusal. refusal.cause ≡ OverBudget → ExceedsBudget tables answer bytes budget))
-    pub blames : IfErr result (RefusesWith (λ refusal. LeadsToFault tables answer bytes budget (names_seen refusal.names.items) refusal.cause))
-    pub first : IfErr result (RefusesWith (λ refusal. refusal.cause ≢ OverBudget → AreOfBundle tables → IsFirstPastFaults tables answer bytes budget (names_seen refusal.names.items) refusal.cause))
-    pub few : IfErr result (RefusesWith (λ refusal. length refusal.names.items ≤ 16))
-
   pub found : (result : Result (List Layer) (Fault Refusal)) → IfOk result (AreLoaded tables given) → OnOk result (FitsGiven tables budget given)
-      → IfErr result (RefusesWith (λ refusal. IsRefused tables budget given (names_seen refusal.names.items) refusal.cause)) → IsFoundBy result
+      → IfErr result (RefusesWith (λ refusal. IsRefused tables budget given (names_seen refusal.names.items) refusal.cause)) → ReadsLayers tables answer bytes budget result
   found (Ok layers) loaded whole refused = record {
     accepts = IsMapOf-loaded tables given budget agrees by_name bytes layers begins loaded;
     within = FitsBudget-within tables given budget agrees by_name bytes (whole.from bytes begins);

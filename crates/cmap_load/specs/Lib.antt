@@ -18,3 +18,4 @@ pub mod Loading
 pub mod Graphs
 pub mod Tables
 pub mod Loads
+pub mod Results

@@ -1,17 +1,13 @@
 //! A loader that is supplied from a `Source`.
 
-ghost use Rattle.std.specs.Prelude.{◌≡◌, ◌≢◌, ◌≤◌, ℕ, IfErr, IfNone, IfOk, IfSome, List, None, OnOk, Option, length, map};
+ghost use Rattle.std.specs.Prelude.{◌≡◌, ℕ, IfOk, List, None, OnOk, Option, map};
 ghost use Rattle.cmap_load.specs.Answers.{IsByName};
-ghost use Rattle.cmap_load.specs.Maps.{ExceedsBudget, FitsBudget, HasNoMap, IsMapOf, LeadsToFault};
-ghost use Rattle.cmap_load.specs.Opened.{ExceedsBudgetNamed, FitsBudgetNamed, HasNoMapNamed, IsMapNamed, IsUnknown, LeadsToFaultNamed};
-ghost use Rattle.cmap_load.specs.Salvage.{AreOfBundle, IsFirstPastFaults};
-ghost use Rattle.cmap_load.specs.declared.refusal.Cause.TheVariants as Cause;
+ghost use Rattle.cmap_load.specs.Results.{OpensLayers, ReadsLayers};
 ghost use Rattle.cmap_load.specs.Loads.{IsLoading, Loads, wanted_of};
 ghost use Rattle.cmap_load.specs.NameLists.{AreNumbered, texts_of};
 ghost use Rattle.cmap_load.specs.Numbers.{AreWithin, text_at};
 ghost use Rattle.cmap_binary.specs.BundleSeen.{tables_given};
 ghost use Rattle.cmap_values.specs.NamesSeen.{names_seen};
-ghost use Rattle.cmap_values.specs.Outcomes.{RefusesWith};
 
 use crate::identity::identity_named;
 use crate::loader::{Loader, RefusedFile};
@@ -36,31 +32,7 @@ pub fn read_layers<'a, S: Source>(
     // A caller whose `Source` defines its answer to each name meets both premises.
     requires can_ask { S.can_ask source.now }
     requires by_name { IsByName (S.answers source.now) }
-    ensures accepts { IfOk result
-        (IsMapOf (tables_given bundle.entry) (S.answers source.now) «data».now) }
-    ensures within { OnOk result
-        (FitsBudget (tables_given bundle.entry) (S.answers source.now) «data».now budget) }
-
-    // There is no map, or the files that are opened exceed the budget.
-    ensures refuses { IfErr result (RefusesWith (λ refusal. refusal.cause ≢ Cause.OverBudget
-        → HasNoMap (tables_given bundle.entry) (S.answers source.now) «data».now
-        × FitsBudget (tables_given bundle.entry) (S.answers source.now) «data».now budget)) }
-    ensures over { IfErr result (RefusesWith (λ refusal. refusal.cause ≡ Cause.OverBudget
-        → ExceedsBudget (tables_given bundle.entry) (S.answers source.now) «data».now budget)) }
-
-    // The names lead to the file at fault; over a budget, to the first file that exceeds the
-    // budget.
-    ensures blames { IfErr result (RefusesWith (λ refusal.
-        LeadsToFault (tables_given bundle.entry) (S.answers source.now) «data».now budget
-        (names_seen refusal.names.items) refusal.cause)) }
-
-    // Unless the budget is exceeded, the cause is the first fault that is read past, or in a text
-    // in rows a fault after it.
-    ensures first { IfErr result (RefusesWith (λ refusal. refusal.cause ≢ Cause.OverBudget
-        → AreOfBundle (tables_given bundle.entry)
-        → IsFirstPastFaults (tables_given bundle.entry) (S.answers source.now) «data».now budget
-        (names_seen refusal.names.items) refusal.cause)) }
-    ensures few { IfErr result (RefusesWith (λ refusal. length refusal.names.items ≤ 16)) }
+    ensures { ReadsLayers (tables_given bundle.entry) (S.answers source.now) «data».now budget result }
 {
     let mut load = Loader::<NameSlices<'a>>::new(alloc, budget, data, bundle)?;
     supply_all(&mut load, bundle, source)?;
@@ -87,25 +59,7 @@ pub fn open_layers<'a, S: Source>(
 ) -> Result<Option<Layers>, Fault<Refusal<'a>>>
     requires can_ask { S.can_ask source.now }
     requires by_name { IsByName (S.answers source.now) }
-    ensures accepts { IfOk result (λ found. IfSome found
-        (IsMapNamed (tables_given bundle.entry) (S.answers source.now) name.now)) }
-    ensures absent { IfOk result
-        (λ found. IfNone found (IsUnknown (S.answers source.now) name.now)) }
-    ensures within { OnOk result
-        (FitsBudgetNamed (tables_given bundle.entry) (S.answers source.now) name.now budget) }
-
-    // A file has the name. There is no map, or the files that are opened exceed the budget.
-    ensures refuses { IfErr result (RefusesWith (λ refusal. refusal.cause ≢ Cause.OverBudget
-        → HasNoMapNamed (tables_given bundle.entry) (S.answers source.now) name.now
-        × FitsBudgetNamed (tables_given bundle.entry) (S.answers source.now) name.now budget)) }
-    ensures over { IfErr result (RefusesWith (λ refusal. refusal.cause ≡ Cause.OverBudget
-        → ExceedsBudgetNamed (tables_given bundle.entry) (S.answers source.now) name.now budget)) }
-
-    // The names lead from this file to the file at fault.
-    ensures blames { IfErr result (RefusesWith (λ refusal.
-        LeadsToFaultNamed (tables_given bundle.entry) (S.answers source.now) name.now budget
-        (names_seen refusal.names.items) refusal.cause)) }
-    ensures few { IfErr result (RefusesWith (λ refusal. length refusal.names.items ≤ 16)) }
+    ensures { OpensLayers (tables_given bundle.entry) (S.answers source.now) name.now budget result }
 {
     match source.file(name) {
         Some(data) => {

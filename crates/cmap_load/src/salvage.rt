@@ -1,6 +1,6 @@
 //! Files over the files that they use, read past their faults.
 
-ghost use Rattle.std.specs.Prelude.{◌≡◌, ◌≤◌, ◌∷◌, ◌⊎◌, [], ℕ, All, IfOk, List, MatchOption, None, Ok, OnOk, false, length, true};
+ghost use Rattle.std.specs.Prelude.{◌≡◌, ◌≤◌, ◌∷◌, [], ℕ, IfOk, List, MatchOption, None, Ok, OnOk, false, true};
 ghost use Rattle.cmap_binary.specs.BundleSeen.{tables_given};
 ghost use Rattle.cmap_values.specs.FilesSeen.{file_seen};
 ghost use Rattle.cmap_values.specs.NamesSeen.{names_seen};
@@ -8,9 +8,9 @@ ghost use Rattle.cmap_layers.specs.Layers.{layer_of};
 ghost use Rattle.cmap_layers.specs.LayersSeen.{layers_seen};
 ghost use Rattle.cmap_load.specs.Answers.{IsByName};
 ghost use Rattle.cmap_load.specs.KnownFiles.{file_known};
-ghost use Rattle.cmap_load.specs.Maps.{ExceedsBudget, HasNoMap};
-ghost use Rattle.cmap_load.specs.Salvage.{BeginsWithFault, GivesMap, IsReadPast, SalvagesBytes, SalvagesMap};
-ghost use Rattle.cmap_load.specs.SalvageSeen.{AreMarked, Knows, Lists, ReadsOn, WalksFile, WalksNamed, WalksOpen, WalksUse, WalksUses, faults_seen, opening_seen};
+ghost use Rattle.cmap_load.specs.Salvage.{IsReadPast, SalvagesBytes};
+ghost use Rattle.cmap_load.specs.Results.{SalvagesLayers};
+ghost use Rattle.cmap_load.specs.SalvageSeen.{AreMarked, Knows, Lists, ReadsOn, WalksFile, WalksNamed, WalksOpen, WalksUse, WalksUses, opening_seen};
 ghost use Rattle.cmap_load.specs.Searches.{PassesOver};
 
 use crate::budget::spend;
@@ -61,24 +61,8 @@ pub fn salvaged_layers<'a, S: Source>(
 ) -> Result<SalvagedLayers<'a>, AllocError>
     requires can_ask { S.can_ask source.now }
     requires by_name { IsByName (S.answers source.now) }
-    ensures says { IfOk result (λ found.
-        SalvagesMap (tables_given bundle.entry) (S.answers source.now) «data».now budget
-        found.layers (faults_seen found.faults.items)) }
-
-    // If the file has a map, and the budget suffices, the answer is this map without a fault.
-    ensures right { IfOk result (λ found.
-        GivesMap (tables_given bundle.entry) (S.answers source.now) «data».now budget
-        found.layers (faults_seen found.faults.items)) }
-
-    // If the file has no map or exceeds the budget, the first fault is the cause of a refusal, or
-    // in a text in rows a fault before the cause.
-    ensures wrong { IfOk result (λ found.
-        HasNoMap (tables_given bundle.entry) (S.answers source.now) «data».now
-        ⊎ ExceedsBudget (tables_given bundle.entry) (S.answers source.now) «data».now budget
-        → BeginsWithFault (tables_given bundle.entry) (S.answers source.now) «data».now budget
-        (faults_seen found.faults.items)) }
-    ensures few { IfOk result
-        (λ found. All (λ fault. length fault.names.items ≤ 16) found.faults.items) }
+    ensures { IfOk result (λ found. SalvagesLayers (tables_given bundle.entry) (S.answers source.now) «data».now
+        budget found.layers found.faults.items) }
 {
     let mut walk = Walk::new(alloc, budget);
     let file = salvage_file(alloc, data, bundle, source, MOST_FILES - 1, true, &mut walk)?;

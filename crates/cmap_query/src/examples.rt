@@ -1,10 +1,10 @@
 //! Callers that the crates' pages show.
 
+use cmap_bundle_maker::{Source, make_named_bundle};
 use cmap_edit::diff::first_cid_difference;
 use cmap_edit::flatten::{Codes, Contradiction, subset};
 use cmap_edit::tidy::tidy;
 use cmap_encode::{Encoder, Unencodable};
-use cmap_maker::{Source, make_named_bundle};
 use cmap_text::read_text;
 use cmap_unicode::Extractor;
 use cmap_values::file::File;

@@ -6,7 +6,6 @@ pub mod metadata;
 use self::codespaces::add_codespaces;
 use crate::list::line::{Given, Line, Place, add_texts_of, push_json, push_line};
 use cmap_edit::diff::{CidDifference, TextDifference, cid_differences, text_differences};
-use cmap_queries::code_lengths::LENGTHS;
 use hayro_cmap::runs::Range;
 use hayro_cmap::{BfRange, CMap, Cids, CodeLength, Layer};
 use std::alloc::{AllocError, Global};
@@ -52,7 +51,7 @@ pub fn diff_lines(alloc: Global, left: &CMap, right: &CMap) -> Result<Vec<DiffLi
     let mut lines = Vec::new(alloc);
     add_codespaces(alloc, &mut lines, left, right)?;
     if declares_cids(left) || declares_cids(right) {
-        for len in LENGTHS {
+        for len in CodeLength::ALL {
             add_cids(alloc, &mut lines, left, right, *len)?;
         }
     }
@@ -69,7 +68,7 @@ fn declares_cids(map: &CMap) -> bool {
 
 /// Whether a layer has a declaration of CIDs or notdefs.
 fn has_cids(layer: &Layer) -> bool {
-    LENGTHS.iter().any(|len| layer.cids(*len).decl_count() > 0
+    CodeLength::ALL.iter().any(|len| layer.cids(*len).decl_count() > 0
         || layer.notdefs(*len).decl_count() > 0)
 }
 

@@ -9,7 +9,7 @@ use cmap_io::object::Object;
 use cmap_io::value::Value;
 use cmap_io::{escape, json};
 use cmap_queries::arguments::decimal;
-use cmap_queries::code_lengths::{LENGTHS, fewest_bytes, has_codes, text_code_len};
+use cmap_queries::code_lengths::{fewest_bytes, has_codes, text_code_len};
 use cmap_unicode::Extractor;
 use hayro_cmap::runs::Range;
 use hayro_cmap::{CodeLength, Layers};
@@ -160,7 +160,7 @@ fn codes_of(
 /// The codes of a CID, for each length that codes of the font have.
 fn codes_of_cid(alloc: Global, encoding: &Layers, cid: u32) -> Result<Vec<Codes>, AllocError> {
     let mut found = Vec::new(alloc);
-    for len in LENGTHS {
+    for len in CodeLength::ALL {
         if has_codes(encoding, *len) {
             let ranges = encoding.codes_of_cid(alloc, cid, *len)?;
             add_ranges(&mut found, &ranges, *len)?;
@@ -210,7 +210,7 @@ fn add_with_lengths(
         found.push(Codes { byte_len, range })?;
         return Ok(());
     }
-    for len in LENGTHS {
+    for len in CodeLength::ALL {
         add_read(found, encoding, range, *len)?;
     }
     add_outside(found, encoding, range)
@@ -249,7 +249,7 @@ fn codes_of_text(
     text: &str,
 ) -> Result<Vec<Codes>, AllocError> {
     let mut found = Vec::new(alloc);
-    for len in LENGTHS {
+    for len in CodeLength::ALL {
         if has_codes(font.encoding, *len) {
             for range in &font.codes_of_text(alloc, text, *len)? {
                 add_readable(&mut found, font.encoding, *range, *len)?;
@@ -319,7 +319,7 @@ fn is_read(encoding: &Layers, code: u32, len: CodeLength) -> bool {
 
 /// Whether a code lies in a codespace range, as a code of some length.
 fn is_in_codespace(encoding: &Layers, code: u32) -> bool {
-    LENGTHS
+    CodeLength::ALL
         .iter()
         .any(|len| encoding.in_codespace(code, len.count()))
 }

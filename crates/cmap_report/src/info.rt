@@ -7,7 +7,6 @@ use cmap_io::digits::{code_digits, push_code};
 use cmap_io::object::Object;
 use cmap_io::value::Value;
 use cmap_io::{escape, json};
-use cmap_queries::code_lengths::LENGTHS;
 use hayro_cmap::{
     ByLength, CMap, CharacterCollection, CodeLength, Codespace, Layer, Metadata, WritingMode,
 };
@@ -152,7 +151,7 @@ fn push_declarations(out: &mut String, layer: &Layer) -> Result<(), AllocError> 
 fn push_counts(out: &mut String, label: &str, counts: &ByLength<usize>) -> Result<(), AllocError> {
     out.push_str(label)?;
     let before = out.len();
-    for len in LENGTHS {
+    for len in CodeLength::ALL {
         let separator = if out.len() == before { "" } else { ", " };
         push_count(out, separator, *len, *counts.get(*len))?;
     }
@@ -241,7 +240,7 @@ fn set_metadata(alloc: Global, object: &mut Object, metadata: &Metadata) {
 /// The counts for codes of one, two, three and four bytes.
 fn count_list(alloc: Global, counts: &ByLength<usize>) -> Result<Vec<Value>, AllocError> {
     let mut list = Vec::new(alloc);
-    for len in LENGTHS {
+    for len in CodeLength::ALL {
         list.push(Value::from(*counts.get(*len)))?;
     }
     Ok(list)

@@ -5,7 +5,6 @@ pub mod line;
 pub mod metadata;
 
 use self::line::{Given, Line, add_texts_of};
-use cmap_queries::code_lengths::LENGTHS;
 use hayro_cmap::runs::{Looks, Range, Table};
 use hayro_cmap::{BfRange, CMap, CidRange, CodeLength, Codespace, Layer};
 use std::alloc::{AllocError, Global};
@@ -71,7 +70,7 @@ impl CidList {
 
 /// Adds a list of a layer, the declarations for codes of one byte first.
 fn add_list(lines: &mut Vec<Line>, layer: &Layer, list: CidList) -> Result<(), AllocError> {
-    for len in LENGTHS {
+    for len in CodeLength::ALL {
         add_declarations(lines, layer, list, *len)?;
     }
     Ok(())

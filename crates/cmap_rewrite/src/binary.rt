@@ -1,11 +1,11 @@
 //! The binary form of a file, written with the tables of a bundle.
 
 use cmap_binary::Bundle;
+use cmap_binary_writer::{Encoders, Obstacle, write_file};
 use cmap_io::escape::push_text;
 use cmap_io::failure::{Failure, fault};
 use cmap_values::fault::Fault;
 use cmap_values::file::File;
-use cmap_writer::{Encoders, Obstacle, write_file};
 use std::alloc::{AllocError, Global};
 
 /// The bytes of a file in the binary form. `path` is the path that the file was read from.
@@ -39,6 +39,6 @@ pub(crate) fn binary_of(
 fn obstacle_line(alloc: Global, path: &str, obstacle: Obstacle) -> Result<String, AllocError> {
     let mut line = String::new(alloc);
     push_text(&mut line, path)?;
-    write!(line, ": the binary form can't say {obstacle}")?;
+    write!(line, ": the binary form can't express the file: {obstacle}")?;
     Ok(line)
 }

@@ -9,7 +9,6 @@ use cmap_edit::tidy::tidy;
 use cmap_io::digits::push_code;
 use cmap_io::escape::push_text;
 use cmap_io::failure::Failure;
-use cmap_queries::code_lengths::LENGTHS;
 use cmap_runs::runs::{Looks, Table};
 use cmap_values::code_length::CodeLength;
 use cmap_values::declarations::{BfRange, ByLength, CidRange, Lists};
@@ -193,7 +192,7 @@ fn rows_of_file(lists: &Lists) -> u64 {
 
 fn rows_by_length(lists: &ByLength<Vec<CidRange>>) -> u64 {
     let mut rows: u64 = 0;
-    for len in LENGTHS {
+    for len in CodeLength::ALL {
         rows = rows.saturating_add(rows_of(lists.get(*len)));
     }
     rows
@@ -218,7 +217,7 @@ fn rows_of_map(map: &CMap) -> u64 {
 
 fn rows_of_layer(layer: &Layer) -> u64 {
     let mut rows = rows_of_table(layer.texts());
-    for len in LENGTHS {
+    for len in CodeLength::ALL {
         rows = rows.saturating_add(rows_of_table(layer.cids(*len)));
         rows = rows.saturating_add(rows_of_table(layer.notdefs(*len)));
     }
@@ -246,7 +245,7 @@ fn rows_in(range: &Range) -> u64 {
 fn large_line(alloc: Global, path: &str) -> Result<String, AllocError> {
     let mut line = String::new(alloc);
     push_text(&mut line, path)?;
-    line.push_str(": its ranges have codes of more than 1048576 rows")?;
+    line.push_str(": its ranges cover more than 1048576 rows of 256 codes")?;
     Ok(line)
 }
 
@@ -254,7 +253,7 @@ fn large_line(alloc: Global, path: &str) -> Result<String, AllocError> {
 fn long_line(alloc: Global, path: &str) -> Result<String, AllocError> {
     let mut line = String::new(alloc);
     push_text(&mut line, path)?;
-    line.push_str(": its texts have more than 16777216 units, each as long as the longest one")?;
+    line.push_str(": the number of its texts, times the units of the longest, exceeds 16777216")?;
     Ok(line)
 }
 
@@ -266,8 +265,8 @@ fn contradiction_line(
 ) -> Result<String, AllocError> {
     let mut line = String::new(alloc);
     push_text(&mut line, path)?;
-    line.push_str(": no one file gives the code <")?;
+    line.push_str(": no single file can give the code <")?;
     push_code(&mut line, contradiction.len.count(), contradiction.code)?;
-    line.push_str("> the CID and the text that its layers give it")?;
+    line.push_str("> both its CID and its text")?;
     Ok(line)
 }

@@ -56,7 +56,8 @@ impl WrongLine {
     pub fn words(self) -> &'static str {
         match self {
             WrongLine::Kind => "neither codespace, cid, notdef nor text",
-            WrongLine::Layer => "a file has one layer; --effective lists what all of them say",
+            WrongLine::Layer =>
+                "a table can have only one layer; cmap list --effective prints all layers as one",
             WrongLine::Codes => "no first and last code, as <8140> <817E>",
             WrongLine::Lengths => "the codes of a codespace range have several lengths",
             WrongLine::Cid => "a CID was expected",

@@ -32,7 +32,7 @@ pub fn format_of(
     } else if Bundle::parse(alloc, bytes)?.is_some() {
         Ok(Some("this is a bundle, which the option --bundle takes"))
     } else if bundle.is_none() && is_marked_binary(bytes) {
-        Ok(Some("this is in the binary form, for which --bundle has the tables"))
+        Ok(Some("this is a binary file, which needs the tables of a --bundle"))
     } else {
         Ok(encoding_of(bytes))
     }

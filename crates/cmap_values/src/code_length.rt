@@ -13,6 +13,14 @@ pub enum CodeLength {
 }
 
 impl CodeLength {
+    /// The lengths that codes can have.
+    pub const ALL: &'static [CodeLength] = &[
+        CodeLength::One,
+        CodeLength::Two,
+        CodeLength::Three,
+        CodeLength::Four,
+    ];
+
     /// The length of codes of `count` bytes; `None` unless `count` is from one to four.
     pub fn of(count: u8) -> Option<CodeLength>
         ensures { MatchOption result (IsCodeLength count → ⊥)

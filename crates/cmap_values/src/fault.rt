@@ -52,7 +52,7 @@ impl Display for Reason {
             Reason::StrayDelimiter => "a ) or > stands alone",
             Reason::EndWithinSection => "the file ends within a section",
             Reason::CodeExpected => "a code was expected",
-            Reason::CodeLength => "a code has one to four bytes",
+            Reason::CodeLength => "a code must have one to four bytes",
             Reason::UnequalLengths => "the ends of a codespace range have unequal lengths",
             Reason::CidExpected => "a CID was expected",
             Reason::TextExpected => "the text of a code was expected",

@@ -1,19 +1,16 @@
 //! Maps: the CIDs and the texts that the codes of a CMap file stand for.
 
-ghost use Rattle.std.specs.Prelude.{◌⊎◌, ◌≡◌, ◌≢◌, [], ◌∷◌, ◌≤◌, IfErr, IfOk, IfSome, IfNone, IsErrOf, IsSome, MatchOption, OnOk, Some, codes, length};
-ghost use Rattle.std.specs.List.{All};
+ghost use Rattle.std.specs.Prelude.{◌≡◌, ◌≢◌, [], ◌∷◌, ◌≤◌, IfErr, IfOk, IfSome, IfNone, IsErrOf, IsSome, MatchOption, OnOk, Some, codes, length};
 ghost use Rattle.cmap_load.specs.Answers.{Answers, AnswersByName, IsByName};
 ghost use Rattle.cmap_values.specs.Files as files;
 ghost use Rattle.cmap_values.specs.NamesSeen.{names_seen};
 ghost use Rattle.cmap_load.specs.Identity.{identity_layer};
 ghost use Rattle.cmap_binary.specs.BundleSeen.{tables_given};
 ghost use Rattle.cmap_load.specs.Layers.{AreUses, Means};
-ghost use Rattle.cmap_load.specs.Maps.{ExceedsBudget, FitsBudget, HasNoMap, IsMapOf, LeadsToFault};
-ghost use Rattle.cmap_load.specs.Opened.{ExceedsBudgetNamed, FitsBudgetNamed, HasNoMapNamed, IsMapNamed, IsUnknown, LeadsToFaultNamed};
+ghost use Rattle.cmap_load.specs.Maps.{ExceedsBudget, FitsBudget, HasNoMap, IsMapOf};
 ghost use Rattle.cmap_layers.specs.LayersSeen.{metadata_seen};
 ghost use Rattle.cmap_layers.specs.Layers.{top_metadata};
-ghost use Rattle.cmap_load.specs.Salvage.{AreOfBundle, BeginsWithFault, GivesMap, IsFirstPastFaults, SalvagesMap};
-ghost use Rattle.cmap_load.specs.SalvageSeen.{faults_seen};
+ghost use Rattle.cmap_load.specs.Results.{OpensLayers, ReadsLayers, SalvagesLayers};
 ghost use Rattle.std.specs.Str.{chars};
 ghost use Rattle.cmap_layers.specs.CodeStretches.{AreCodesOfCid, AreCodesOfText};
 ghost use Rattle.cmap_layers.specs.Lookups.{cid_of};
@@ -164,31 +161,7 @@ impl CMap {
         // A caller whose `Source` defines its answer to each name meets both premises.
         requires can_ask { S.can_ask source.now }
         requires by_name { IsByName (S.answers source.now) }
-        ensures accepts { IfOk result
-            (IsMapOf (tables_given bundle.entry) (S.answers source.now) «data».now) }
-        ensures within { OnOk result
-            (FitsBudget (tables_given bundle.entry) (S.answers source.now) «data».now budget) }
-
-        // There is no map, or the files that are opened exceed the budget.
-        ensures refuses { IfErr result (RefusesWith (λ refusal. refusal.cause ≢ Cause.OverBudget
-            → HasNoMap (tables_given bundle.entry) (S.answers source.now) «data».now
-            × FitsBudget (tables_given bundle.entry) (S.answers source.now) «data».now budget)) }
-        ensures over { IfErr result (RefusesWith (λ refusal. refusal.cause ≡ Cause.OverBudget
-            → ExceedsBudget (tables_given bundle.entry) (S.answers source.now) «data».now budget)) }
-
-        // The names lead to the file at fault; over a budget, to the first file that exceeds the
-        // budget.
-        ensures blames { IfErr result (RefusesWith (λ refusal.
-            LeadsToFault (tables_given bundle.entry) (S.answers source.now) «data».now budget
-            (names_seen refusal.names.items) refusal.cause)) }
-
-        // Unless the budget is exceeded, the cause is the first fault that `salvage` gives, or in a
-        // text in rows a fault after it.
-        ensures first { IfErr result (RefusesWith (λ refusal. refusal.cause ≢ Cause.OverBudget
-            → AreOfBundle (tables_given bundle.entry)
-            → IsFirstPastFaults (tables_given bundle.entry) (S.answers source.now) «data».now budget
-            (names_seen refusal.names.items) refusal.cause)) }
-        ensures few { IfErr result (RefusesWith (λ refusal. length refusal.names.items ≤ 16)) }
+        ensures { ReadsLayers (tables_given bundle.entry) (S.answers source.now) «data».now budget result }
     {
         let layers = read_layers(alloc, budget, data, bundle, source)?;
         Ok(CMap { layers })
@@ -206,25 +179,7 @@ impl CMap {
     ) -> Result<Option<CMap>, Fault<Refusal<'a>>>
         requires can_ask { S.can_ask source.now }
         requires by_name { IsByName (S.answers source.now) }
-        ensures accepts { IfOk result (λ found. IfSome found
-            (IsMapNamed (tables_given bundle.entry) (S.answers source.now) name.now)) }
-        ensures absent { IfOk result
-            (λ found. IfNone found (IsUnknown (S.answers source.now) name.now)) }
-        ensures within { OnOk result
-            (FitsBudgetNamed (tables_given bundle.entry) (S.answers source.now) name.now budget) }
-
-        // A file has the name. There is no map, or the files that are opened exceed the budget.
-        ensures refuses { IfErr result (RefusesWith (λ refusal. refusal.cause ≢ Cause.OverBudget
-            → HasNoMapNamed (tables_given bundle.entry) (S.answers source.now) name.now
-            × FitsBudgetNamed (tables_given bundle.entry) (S.answers source.now) name.now budget)) }
-        ensures over { IfErr result (RefusesWith (λ refusal. refusal.cause ≡ Cause.OverBudget
-            → ExceedsBudgetNamed (tables_given bundle.entry) (S.answers source.now) name.now budget)) }
-
-        // The names lead from this file to the file at fault.
-        ensures blames { IfErr result (RefusesWith (λ refusal.
-            LeadsToFaultNamed (tables_given bundle.entry) (S.answers source.now) name.now budget
-            (names_seen refusal.names.items) refusal.cause)) }
-        ensures few { IfErr result (RefusesWith (λ refusal. length refusal.names.items ≤ 16)) }
+        ensures { OpensLayers (tables_given bundle.entry) (S.answers source.now) name.now budget result }
     {
         match open_layers(alloc, budget, name, bundle, source)? {
             Some(layers) => Ok(Some(CMap { layers })),
@@ -253,24 +208,8 @@ impl CMap {
     ) -> Result<SalvagedMap<'a>, AllocError>
         requires can_ask { S.can_ask source.now }
         requires by_name { IsByName (S.answers source.now) }
-        ensures says { IfOk result (λ found.
-            SalvagesMap (tables_given bundle.entry) (S.answers source.now) «data».now budget
-            found.map (faults_seen found.faults.items)) }
-
-        // If the file has a map, and the budget suffices, the answer is this map without a fault.
-        ensures right { IfOk result (λ found.
-            GivesMap (tables_given bundle.entry) (S.answers source.now) «data».now budget
-            found.map (faults_seen found.faults.items)) }
-
-        // If the file has no map or exceeds the budget, the first fault is the cause of a refusal,
-        // or in a text in rows a fault before the cause.
-        ensures wrong { IfOk result (λ found.
-            HasNoMap (tables_given bundle.entry) (S.answers source.now) «data».now
-            ⊎ ExceedsBudget (tables_given bundle.entry) (S.answers source.now) «data».now budget
-            → BeginsWithFault (tables_given bundle.entry) (S.answers source.now) «data».now budget
-            (faults_seen found.faults.items)) }
-        ensures few { IfOk result
-            (λ found. All (λ fault. length fault.names.items ≤ 16) found.faults.items) }
+        ensures { IfOk result (λ found. SalvagesLayers (tables_given bundle.entry) (S.answers source.now) «data».now
+            budget found.map found.faults.items) }
     {
         let SalvagedLayers { layers, faults } = salvaged_layers(
             alloc, budget, data, bundle, source,

@@ -6,7 +6,6 @@ use crate::library::{
 };
 use crate::row_error::Answer;
 use hayro_cmap::fallible::alloc::Global;
-use hayro_cmap::reader::code_lengths::LENGTHS;
 use hayro_cmap::reader::runs::{Looks, Range, Table};
 use hayro_cmap::reader::{
     self, BfString, ByLength, CMap, CharacterCollection, CidFamily, CodeLength, WritingMode, utf16,
@@ -121,7 +120,7 @@ fn counts_of(counts: &ByLength<usize>) -> [usize; 4] {
 }
 
 fn by_length<T>(of: impl Fn(CodeLength) -> T) -> [T; 4] {
-    std::array::from_fn(|index| of(LENGTHS[index]))
+    std::array::from_fn(|index| of(CodeLength::ALL[index]))
 }
 
 fn codespace(space: &reader::Codespace) -> Codespace {

@@ -52,7 +52,9 @@ fn words_of(warning: Warning) -> Words {
         }
         Warning::NoCodespace => Words::Sentence("no layer has a codespace range"),
         Warning::NameDiffers => Words::Sentence("the file has another name than"),
-        Warning::ModeDiffers => Words::Sentence("the writing mode isn't vertical, but the name is"),
+        Warning::ModeDiffers => Words::Sentence(
+            "the writing mode isn't vertical, contrary to the name",
+        ),
         Warning::NoEndcmap => Words::Sentence("after begincmap comes no endcmap"),
         Warning::OutsideCodespace
         | Warning::Overlap

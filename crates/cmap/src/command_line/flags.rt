@@ -155,7 +155,7 @@ pub(crate) const MISSING: Flag = Flag {
     short: None,
     long: "missing",
     value: Value::Text("HEX"),
-    help: "The code for each character without a string",
+    help: "The bytes that replace each character that can't be encoded",
 };
 
 /// An option of `find`, `decode`, `text` and `encode`.

@@ -1,7 +1,7 @@
 //! The declared CIDs and the texts of codes over all layers, run by run.
 
 use crate::list::line::{Given, Line, add_texts_of};
-use cmap_queries::code_lengths::{LENGTHS, has_codes};
+use cmap_queries::code_lengths::has_codes;
 use cmap_unicode::declared_stretch;
 use hayro_cmap::runs::Range;
 use hayro_cmap::{CMap, CidStretch, Cids, CodeLength, TextStretch};
@@ -10,7 +10,7 @@ use std::alloc::{AllocError, Global};
 /// The lines of the codes of a map: first the CIDs, for each length that codes of the map have, then the texts.
 pub fn effective_lines(alloc: Global, map: &CMap) -> Result<Vec<Line>, AllocError> {
     let mut lines = Vec::new(alloc);
-    for len in LENGTHS {
+    for len in CodeLength::ALL {
         if has_codes(map.layers(), *len) {
             add_cids(&mut lines, map, *len)?;
         }

@@ -12,8 +12,7 @@ returns-in-Ok g c =
     let loads = c.in_ok-supply_all.ensures.loads budget c.args.«data».now (Loads-new c.in_ok-load.load c.in_ok-load.ensures.budget c.in_ok-load.ensures.reads) in
     let loaded = c.in-Ok.ensures.loads.by tables loads.answers loads.reads in
     let fits = subst (λ b. FitsGiven tables b loads.answers) loads.within (c.in-Ok.ensures.within.by tables loads.answers loads.reads) in
-    let done = found tables budget c.requires.by_name loads.answers loads.first loads.agrees (Ok c.in-Ok.layers) loaded fits tt in
-    record { accepts = done.accepts; within = done.within; refuses = tt; over = tt; blames = tt; first = tt; few = tt }
+    found tables budget c.requires.by_name loads.answers loads.first loads.agrees (Ok c.in-Ok.layers) loaded fits tt
 
 pub returns-in_ok-refusal-in-Err-Refused : goal.returns-in_ok-refusal-in-Err-Refused
 returns-in_ok-refusal-in-Err-Refused g c =
@@ -24,5 +23,4 @@ returns-in_ok-refusal-in-Err-Refused g c =
     let by = refused.by tables loads.answers loads.reads in
     let told = c.in_ok-refusal-in-Err-Refused.ensures in
     let is = IsRefused-same tables loads.answers by loads.within told.names told.cause in
-    let done = found tables budget c.requires.by_name loads.answers loads.first loads.agrees (Err (fault.Refused refusal)) tt tt is in
-    record { accepts = tt; within = tt; refuses = done.refuses; over = done.over; blames = done.blames; first = done.first; few = done.few }
+    found tables budget c.requires.by_name loads.answers loads.first loads.agrees (Err (fault.Refused refusal)) tt tt is

@@ -1,0 +1,17 @@
+use Rattle.std.proofs.Common.{All, length, map}
+use Rattle.cmap_values.specs.DeclarationsSeen.{bf_entry_seen}
+use Rattle.cmap_values.specs.Files.{Declaration}
+use Rattle.cmap_binary_writer.specs.Pieces.{IsShortText}
+use Rattle.cmap_binary_writer.proofs.Arranged.{FullTo}
+use Rattle.cmap_binary_writer.proofs.SegmentsAdded.{AddedTo}
+use Rattle.cmap_binary_writer.proofs.texts.add_texts.Given as goal
+
+abbrev pub invariant-loop-left : goal.invariant-loop-left
+invariant-loop-left l = record {
+  short : All IsShortText (map bf_entry_seen l.left);
+  done : AddedTo (λ xs. map Declaration.bf (map bf_entry_seen xs)) l.pieces l.left l.initial.segments.items l.segments.items;
+  full : FullTo (λ xs. map Declaration.bf (map bf_entry_seen xs)) l.pieces l.left l.initial.segments.items l.segments.items;
+}
+
+abbrev pub decreases-loop-left : goal.decreases-loop-left
+decreases-loop-left l = length l.left

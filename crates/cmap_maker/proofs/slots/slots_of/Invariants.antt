@@ -1,5 +1,0 @@
-use Rattle.cmap_maker.specs.Slots.{AreSlotsFor}
-use Rattle.cmap_maker.proofs.slots.slots_of.Given as goal
-
-abbrev pub invariant-loop-place : goal.invariant-loop-place
-invariant-loop-place l = AreSlotsFor l.sources l.slots.items l.place

@@ -1,6 +1,0 @@
-use Rattle.std.proofs.Common.{◌≡◌, take}
-use Rattle.cmap_writer.proofs.tables.narrowed.Given as goal
-
--- those so far
-abbrev pub invariant-loop-number : goal.invariant-loop-number
-invariant-loop-number l = l.narrow.items ≡ take l.number-index l.numbers
