@@ -1,10 +1,10 @@
 -- What holds of the lists for codes of each length.
-use Rattle.std.proofs.Common.{ℕ, Bool, true, false, List, [], refl, inl, arith}
+use Rattle.std.proofs.Common.{ℕ, Bool, true, false, List, [], refl, inl, inr}
 use Rattle.std.specs.Prelude.{◌==◌, if◌then◌else◌}
 use Rattle.cmap_values.specs.Files.{ByLength, CidEntry, of_length}
-use Rattle.cmap_layers.specs.Lookups.{cid_span}
-use Rattle.cmap_edit.specs.Tidied.{AreTidiedCids, AreTidiedNotdefs}
-use Rattle.cmap_edit.specs.Tidy.{AreTidy}
+use Rattle.cmap_edit.specs.Kinds.{AreTidiedOf, Kind, notdef_kind}
+use Rattle.cmap_edit.specs.Tidied.{AreTidiedNotdefs}
+use Rattle.cmap_edit.proofs.TidyLists.{no_entries}
 
 -- the tests of a length
 if_both : {A : Type 0} (R : A → A → Type 0) (test : Bool) (old new old_else new_else : A) → R old new → R old_else new_else → R (if test then old else old_else) (if test then new else new_else)
@@ -17,11 +17,10 @@ each_length R old new one two three four none len =
     if_both R (len == 1) old.one new.one _ _ one
     (if_both R (len == 2) old.two new.two _ _ two (if_both R (len == 3) old.three new.three _ _ three (if_both R (len == 4) old.four new.four [] [] four none)))
 
-no_entries : (IsRow : CidEntry → Type 0) (CouldBeOne : CidEntry → CidEntry → Type 0) → AreTidy cid_span IsRow CouldBeOne []
-no_entries IsRow CouldBeOne = record { rows = λ k d lt. absurd (omega arith); apart = λ i j d lt within. absurd (omega arith); joined = λ i j d lt within. absurd (omega arith) }
+pub none_anew : {X : Type 0} (kind : Kind X) → AreTidiedOf kind [] []
+none_anew kind = inl (no_entries _ _ _, λ code lt. refl)
 
-pub no_cids : AreTidiedCids [] []
-no_cids = inl (no_entries _ _, λ code lt. refl)
-
-pub no_notdefs : AreTidiedNotdefs [] []
-no_notdefs = (no_entries _ _, λ code lt. refl)
+-- no notdef is lost
+pub notdefs_tidied : (old new : List CidEntry) → AreTidiedOf notdef_kind old new → AreTidiedNotdefs old new
+notdefs_tidied old new (inl tidied) = tidied
+notdefs_tidied old new (inr (lost, same)) = absurd lost.2

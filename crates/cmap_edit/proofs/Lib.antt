@@ -4,12 +4,10 @@ pub mod Patterns
 pub mod TextsAlike
 pub mod TextsGrow
 pub mod TextsInRow
-pub mod CidsAdded
 pub mod InPart
 pub mod ListsEnd
 pub mod ListsSaid
 pub mod TidyAdded
-pub mod NotdefsAdded
 pub mod TextUnits
 pub mod TextsAdded
 pub mod RowsSaid

@@ -20,7 +20,7 @@ module _ {X : Type 0} (here : ℕ → X) (before : ℕ → Option X) where
   -- one row more
   pub row_said : (first next end : ℕ) (mid now : ℕ → Option X) (row : ℕ → X) → first ≤ next → next ≤ end → IsSaidTo first next here before mid
       → ((code : ℕ) → now code ≡ (if contains (record { start = next; end = end }) code then Some (row code) else mid code))
-      → ((code : ℕ) → next ≤ code → row code ≡ here code) → IsSaidTo first (end + 1) here before now
+      → ((code : ℕ) → next ≤ code → code ≤ end → row code ≡ here code) → IsSaidTo first (end + 1) here before now
   row_said first next end mid now row from filled old new same code =
       let is = new code in
       let was = old code in
@@ -34,6 +34,6 @@ module _ {X : Type 0} (here : ℕ → X) (before : ℕ → Option X) where
         | inr after ↦
             elim (cases_lt end code) [
               | inl past ↦ rw (is, is_after (record { start = next; end = end }) code past, was, later first next code after, later first (end + 1) code (omega arith)) refl
-              | inr within ↦ rw (is, is_in (record { start = next; end = end }) code after within, between first (end + 1) code (omega arith) (omega arith)) (ap Some (same code after))
+              | inr within ↦ rw (is, is_in (record { start = next; end = end }) code after within, between first (end + 1) code (omega arith) (omega arith)) (ap Some (same code after within))
             ]
       ]

@@ -5,7 +5,7 @@ use Rattle.cmap_values.specs.Files.{BfEntry}
 use Rattle.cmap_layers.specs.Lookups.{bf_span}
 use Rattle.cmap_edit.specs.Tidy.{CouldBeOneText, IsTextRow, units_at}
 use Rattle.cmap_edit.proofs.TextUnits.{shifted_is, shifted_twice}
-use Rattle.cmap_edit.proofs.TidyAdded.{AreMerged}
+use Rattle.cmap_edit.specs.TidyAdded.{AreMerged}
 
 -- the one that two could be
 abbrev pub merge : BfEntry → BfEntry → BfEntry

@@ -8,7 +8,7 @@ use Rattle.std.proofs.lemmas.List.Quantifiers.{all_pairs_push}
 use Rattle.std.proofs.lemmas.Option.{get_or_from_slice_get, slice_get_within, slice_get-get_or}
 use Rattle.cmap_runs.specs.Ranges.{Span}
 use Rattle.cmap_edit.specs.Tidy.{AreTidy}
-use Rattle.cmap_edit.specs.TidyAdded.{AddsRow}
+use Rattle.cmap_edit.specs.TidyAdded.{AddsRow, AreMerged}
 use Rattle.cmap_edit.proofs.ListsEnd.{last_split}
 use Rattle.cmap_edit.proofs.ListsSaid.{said_pushed, said_went_on}
 
@@ -20,16 +20,6 @@ pairs_pop R front last pairs =
       λ k d lt. subst (λ x. R x last) (get_or_append_left front (last ∷ []) d k lt)
           (subst (R (get_or (front ++ last ∷ []) k d)) (get_or_push front last d (length front) refl) (pairs k (length front) d lt (omega arith))),
     )
-
--- what declarations of a kind keep: `merge` gives the one that two could be
-pub record AreMerged {E X : Type 0} (span : E → Span) (at : E → ℕ → X) (IsRow : E → Type 0) (CouldBeOne : E → E → Type 0) (merge : E → E → E) : Type 0 where
-  pub filled : (e : E) → IsRow e → (span e).start ≤ (span e).end
-  pub meets : (e later : E) → CouldBeOne e later → (span e).end + 1 ≡ (span later).start
-  pub row : (e later : E) → IsRow e → IsRow later → CouldBeOne e later → IsRow (merge e later)
-  pub spans : (e later : E) → span (merge e later) ≡ record { start = (span e).start; end = (span later).end }
-  pub old : (e later : E) (code : ℕ) → at (merge e later) code ≡ at e code
-  pub new : (e later : E) (code : ℕ) → IsRow e → IsRow later → CouldBeOne e later → (span later).start ≤ code → code ≤ (span later).end → at (merge e later) code ≡ at later code
-  pub before : (x e later : E) → CouldBeOne x (merge e later) → CouldBeOne x e
 
 module _ {E X : Type 0} (span : E → Span) (at : E → ℕ → X) (IsRow : E → Type 0) (CouldBeOne : E → E → Type 0) (merge : E → E → E) (kind : AreMerged span at IsRow CouldBeOne merge) where
   tidy_pushed : (old : List E) (row : E) → AreTidy span IsRow CouldBeOne old → All (λ e. (span e).end < (span row).start) old → IsRow row

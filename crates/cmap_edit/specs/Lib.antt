@@ -3,6 +3,8 @@ pub mod UnitsAlike
 pub mod Tidied
 pub mod Tidy
 pub mod TidyAdded
+pub mod Kinds
+pub mod KindLaws
 pub mod Chosen
 pub mod Subsets
 pub mod Parts

@@ -3,9 +3,9 @@ use Rattle.std.specs.Prelude.{◌≡◌, ℕ, ◌+◌, ◌-◌, ◌<◌, ◌≤�
 use Rattle.cmap_runs.specs.Ranges.{Span, contains}
 use Rattle.cmap_values.specs.declared.range.Range.{Range}
 use Rattle.cmap_tokens.specs.Texts.{shifted}
-use Rattle.cmap_values.specs.Files.{BfEntry, CidEntry}
-use Rattle.cmap_layers.specs.Lookups.{bf_span, cid_at, cid_span}
-use Rattle.cmap_edit.specs.Tidy.{AreTidy, AreTidyTexts, CouldBeOneCid, CouldBeOneNotdef, CouldBeOneText, IsCidRow, IsNotdefRow, IsTextRow, last_unit, notdef_at, said, said_with, units_at, units_said}
+use Rattle.cmap_values.specs.Files.{BfEntry}
+use Rattle.cmap_layers.specs.Lookups.{bf_span}
+use Rattle.cmap_edit.specs.Tidy.{AreTidy, AreTidyTexts, CouldBeOneText, IsTextRow, last_unit, said, said_with, units_at, units_said}
 pub use Rattle.cmap_edit.specs.Tidy.{IsSaidTo}
 
 -- the new list is tidy, gives the codes of the row the answers of the row, and gives other codes the answers of the old list
@@ -14,11 +14,15 @@ pub record AddsRow {E X : Type 0} (span : E → Span) (at : E → ℕ → X) (Is
   pub said : (code : ℕ) → said span at new code ≡ (if contains (span row) code then Some (at row code) else said span at old code)
   pub last : All (λ e. (span e).end ≤ (span row).end) new
 
-abbrev pub AddsCidRow : List CidEntry → CidEntry → List CidEntry → Type 0
-AddsCidRow old row new = AddsRow cid_span cid_at IsCidRow CouldBeOneCid old row new
-
-abbrev pub AddsNotdefRow : List CidEntry → CidEntry → List CidEntry → Type 0
-AddsNotdefRow old row new = AddsRow cid_span notdef_at IsNotdefRow CouldBeOneNotdef old row new
+-- what declarations of a kind keep: `merge` gives the one that two could be
+pub record AreMerged {E X : Type 0} (span : E → Span) (at : E → ℕ → X) (IsRow : E → Type 0) (CouldBeOne : E → E → Type 0) (merge : E → E → E) : Type 0 where
+  pub filled : (e : E) → IsRow e → (span e).start ≤ (span e).end
+  pub meets : (e later : E) → CouldBeOne e later → (span e).end + 1 ≡ (span later).start
+  pub row : (e later : E) → IsRow e → IsRow later → CouldBeOne e later → IsRow (merge e later)
+  pub spans : (e later : E) → span (merge e later) ≡ record { start = (span e).start; end = (span later).end }
+  pub old : (e later : E) (code : ℕ) → at (merge e later) code ≡ at e code
+  pub new : (e later : E) (code : ℕ) → IsRow e → IsRow later → CouldBeOne e later → (span later).start ≤ code → code ≤ (span later).end → at (merge e later) code ≡ at later code
+  pub before : (x e later : E) → CouldBeOne x (merge e later) → CouldBeOne x e
 
 abbrev pub AddsTextRow : List BfEntry → BfEntry → List BfEntry → Type 0
 AddsTextRow old row new = AddsRow bf_span units_at IsTextRow CouldBeOneText old row new
@@ -27,10 +31,6 @@ AddsTextRow old row new = AddsRow bf_span units_at IsTextRow CouldBeOneText old 
 pub record SaysSoFar {E X : Type 0} (span : E → Span) (at : E → ℕ → X) (list : List E) (next : ℕ) (new : List E) : Type 0 where
   pub before : All (λ e. (span e).end < next) new
   pub said : (code : ℕ) → code < next → said span at new code ≡ said span at list code
-
--- the declaration gives the codes of the range the CIDs that count on from this CID
-abbrev pub GivesCids : CidEntry → Range → ℕ → Type 0
-GivesCids e range cid = (cid + (range.end - range.start) < 2 ^ 32) × ((code : ℕ) → range.start ≤ code → code ≤ range.end → cid_at e code ≡ Some (cid + (code - range.start)))
 
 -- the declaration gives the codes of the range texts whose last unit counts on from these units
 abbrev pub GivesTexts : BfEntry → Range → List ℕ → Type 0

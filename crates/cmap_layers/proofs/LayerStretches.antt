@@ -8,18 +8,19 @@ use Rattle.std.specs.Option.{option_or}
 use Rattle.cmap_runs.specs.Stretches.{IsLongest, IsStretch}
 use Rattle.cmap_values.specs.CodeLengths.{length_of}
 use Rattle.cmap_values.specs.DeclarationsSeen.{bf_entry_seen, bf_range_span, cid_entry_seen, cid_range_span, entries_seen}
-use Rattle.cmap_values.specs.Files.{BfEntry, CidEntry, of_length}
+use Rattle.cmap_values.specs.Files.{BfEntry, CidEntry}
 use Rattle.cmap_values.specs.declared.code_length.CodeLength.{CodeLength}
 use Rattle.cmap_values.specs.declared.code_length.CodeLength.TheVariants.{One, Two, Three, Four}
 use Rattle.cmap_values.specs.declared.declarations.BfRange.{BfRange}
 use Rattle.cmap_values.specs.declared.declarations.CidRange.{CidRange}
 use Rattle.cmap_layers.specs.Layers.{Layer}
-use Rattle.cmap_layers.specs.LayersDecide.{decided_in, deciding_bf, layer_cid}
+use Rattle.cmap_layers.specs.LayersDecide.{deciding_bf, layer_cid}
 use Rattle.cmap_layers.specs.Lookups.{bf_span, cid_in, cid_of, cid_span, last_bf, last_cid}
-use Rattle.cmap_layers.specs.CodeStretches.{EndsAfter, EndsRow, HasNoText, HoldsBelow, OthersEnd, TextsEnd}
+use Rattle.cmap_layers.specs.CodeStretches.{AreDeclaredBy, DeclarationsEnd, EndsAfter, HasNoText, HoldsBelow, TextsEnd}
 use Rattle.cmap_layers.specs.LayersSeen.{layer_seen, layers_seen}
 use Rattle.cmap_layers.specs.declared.layer.Layer as declared
 use Rattle.cmap_layers.specs.declared.stretches.Cids.{Cids}
+use Rattle.cmap_layers.specs.declared.stretches.Cids.TheVariants.{Same}
 use Rattle.cmap_layers.proofs.LastFound.{decided_cid-decided_in, last_of-map, spans-map}
 use Rattle.cmap_layers.proofs.LayersSearched.{drop_next, has_length}
 
@@ -28,11 +29,6 @@ pub found_in : (table : List CidRange) (entries : List CidEntry) (first last cod
     → first ≤ code → code ≤ last → last_cid entries code ≡ option_map cid_entry_seen d
 found_in table entries first last code d seen same le within =
     sym (ap (λ list. last_cid list code) seen) ∙ last_of-map cid_span cid_entry_seen table code ∙ ap (option_map cid_entry_seen) (same code le within)
-
--- no list of CIDs or notdefs decides, and so a character does
-pub undecided : (code : ℕ) (character : Option ℕ) → decided_in code None None character ≡ option_map (λ c. Some c) character
-undecided code None = refl
-undecided code (Some c) = refl
 
 -- what a layer decides is the CID, and else what those below it say
 pub layer_decides : (layer : Layer) (below : List Layer) (code len : ℕ) (decision : Option (Option ℕ)) → layer_cid layer code len ≡ decision → cid_in (layer ∷ below) code len ≡ unwrap_or decision (cid_in below code len)
@@ -46,6 +42,16 @@ is_length Four = refl
 
 pub has_code_length : (layers : List Layer) (code : ℕ) (len : CodeLength) → cid_of layers code (length_of len) ≡ cid_in layers code (length_of len)
 has_code_length layers code len = has_length layers code (length_of len) (is_length len)
+
+-- ---- what a layer declares
+-- no declaration of a CID decides, and so a notdef does, if there is one
+pub notdef_declared : (k code : ℕ) (found : Option CidRange) (cid notdef : Option CidEntry) → cid ≡ None → notdef ≡ option_map cid_entry_seen found → AreDeclaredBy (option_map (λ e. Same e.cid) found) k code cid notdef
+notdef_declared k code None cid notdef none is = (none, is)
+notdef_declared k code (Some d) cid notdef none is = (none, ap (option_map (λ e. e.cid)) is)
+
+pub declarations_end : (len first last : ℕ) (layer : Layer) → DeclarationsEnd len first last layer → EndsAfter len first last layer
+declarations_end len first last layer (inl cids) = inl cids
+declarations_end len first last layer (inr (none, notdefs)) = inr (none, inl notdefs)
 
 -- ---- how far stretches go
 -- a stretch of a table is one of the list that it holds
@@ -62,16 +68,6 @@ at_lesser P one other lesser is here there small =
       | inl before ↦ let same : one ≡ lesser = omega arith in subst P same (here (omega arith))
       | inr after ↦ let same : other ≡ lesser = omega arith in subst P same (there (omega arith))
     ]
-
--- the list of CIDs, or where it has none for the first code what else the layer has, whichever ends first
-pub cids_end : (layer : Layer) (len first cids others lesser : ℕ) → lesser ≡ min cids others → last_cid (of_length layer.lists.cids len) first ≡ None → IsLongest (map cid_span (of_length layer.lists.cids len)) first cids
-    → (others + 1 < 2 ^ 32 → OthersEnd len first others layer) → lesser + 1 < 2 ^ 32 → EndsAfter len first lesser layer
-cids_end layer len first cids others lesser is none of_cids of_others = at_lesser (λ last. EndsAfter len first last layer) cids others lesser is (λ _. inl of_cids) (λ small. inr (none, of_others small))
-
--- the list of notdefs, or where it has none the texts
-pub notdefs_end : (layer : Layer) (len first notdefs texts lesser : ℕ) → lesser ≡ min notdefs texts → last_cid (of_length layer.lists.notdefs len) first ≡ None → IsLongest (map cid_span (of_length layer.lists.notdefs len)) first notdefs
-    → IsLongest (map bf_span layer.lists.bfs) first texts ⊎ EndsRow layer.lists.bfs texts → lesser + 1 < 2 ^ 32 → OthersEnd len first lesser layer
-notdefs_end layer len first notdefs texts lesser is none of_notdefs of_texts = at_lesser (λ last. OthersEnd len first last layer) notdefs texts lesser is (λ _. inl of_notdefs) (λ _. inr (none, of_texts))
 
 -- where a layer decides nothing, no CIDs end
 pub no_cids : (Ends : Type 0) (P : Cids → Type 0) → Ends ⊎ IsSomeAnd None P → Ends

@@ -3,12 +3,12 @@ use Rattle.std.specs.Prelude.{◌≡◌, ◌↔◌, ◌⊎◌, ℕ, ◌+◌, ◌
 use Rattle.std.specs.Char.Escape.{encode_utf16}
 use Rattle.std.specs.Str.{all_scalars}
 use Rattle.cmap_values.specs.declared.range.Range.{Range}
-use Rattle.cmap_values.specs.Files.{BfEntry, of_length}
+use Rattle.cmap_values.specs.Files.{BfEntry, CidEntry, of_length}
 use Rattle.cmap_layers.specs.CodeRanges.{AreRangesOf, IsIn}
 use Rattle.cmap_layers.specs.Layers.{Layer}
 use Rattle.cmap_runs.specs.Stretches.{IsLongest}
 use Rattle.cmap_layers.specs.LayersDecide.{layer_cid}
-use Rattle.cmap_layers.specs.Lookups.{bf_at, bf_of, bf_span, cid_of, cid_span, deciding_bf, last_bf, last_cid}
+use Rattle.cmap_layers.specs.Lookups.{bf_at, bf_of, bf_span, cid_at, cid_of, cid_span, deciding_bf, last_bf, last_cid}
 use Rattle.cmap_layers.specs.declared.stretches.Cids.{Cids}
 use Rattle.cmap_layers.specs.declared.stretches.Cids.TheVariants.{Absent, Same, CountOn}
 use Rattle.cmap_layers.specs.declared.stretches.CidStretch.{CidStretch}
@@ -55,6 +55,23 @@ HoldsBelow IsPassed Holds layers = (above : List Layer) × (layer : Layer) × (b
 abbrev pub EndsCids : Cids → ℕ → Type 0
 EndsCids (CountOn cid) more = cid + more ≡ 2 ^ 32 - 1
 EndsCids _ more = ⊥
+
+-- the CIDs that count on are numbers of 32 bits up to this many codes after the first
+abbrev pub Fits : Cids → ℕ → Type 0
+Fits (CountOn cid) more = cid + more < 2 ^ 32
+Fits _ more = Unit {0}
+
+-- what the last declarations of a CID and of a notdef that contain a code say, k codes after the first: by a declaration of a CID the CIDs count on, or pass 32 bits; by a notdef they are the same
+abbrev pub AreDeclaredBy : Option Cids → ℕ → ℕ → Option CidEntry → Option CidEntry → Type 0
+AreDeclaredBy (Some Absent) k code cid notdef = option_map (λ e. cid_at e code) cid ≡ Some None
+AreDeclaredBy (Some (CountOn begin)) k code cid notdef = option_map (λ e. cid_at e code) cid ≡ Some (Some (begin + k))
+AreDeclaredBy (Some (Same same)) k code cid notdef = (cid ≡ None) × (option_map (λ e. e.cid) notdef ≡ Some same)
+AreDeclaredBy None k code cid notdef = (cid ≡ None) × (notdef ≡ None)
+
+-- in the list of CIDs, another declaration decides the code after the last one than decides the first; or, if no CID is declared for the first code, so it is in the list of notdefs
+abbrev pub DeclarationsEnd : ℕ → ℕ → ℕ → Layer → Type 0
+DeclarationsEnd len first last layer = IsLongest (map cid_span (of_length layer.lists.cids len)) first last
+    ⊎ ((last_cid (of_length layer.lists.cids len) first ≡ None) × IsLongest (map cid_span (of_length layer.lists.notdefs len)) first last)
 
 -- the CIDs of the codes of len bytes from the first to the last one
 pub record IsCidStretch (layers : List Layer) (len first : ℕ) (stretch : CidStretch) : Type 0 where

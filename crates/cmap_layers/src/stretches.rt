@@ -1,18 +1,20 @@
 //! The CIDs and the texts of codes in a row over all layers, by stretches of codes for which the same
 //! declarations decide. The codes of a CID are found by these stretches.
 
-ghost use Rattle.std.specs.Prelude.{◌≡◌, ◌⊎◌, ◌+◌, ◌-◌, ◌^◌, ◌<◌, ◌≤◌, ℕ, IfOk, IfSome, IsSomeAnd, Some, map, option_map};
+ghost use Rattle.std.specs.Prelude.{◌≡◌, ◌⊎◌, ◌+◌, ◌-◌, ◌^◌, ◌<◌, ◌≤◌, ℕ, IfOk, IfSome, IsSomeAnd, Option, Some, map, option_map};
 ghost use Rattle.std.specs.Option.{option_copied};
 ghost use Rattle.cmap_runs.specs.Stretches.{IsLongest, IsStretch};
 ghost use Rattle.cmap_tokens.specs.Texts.{only_character, text_at};
 ghost use Rattle.cmap_values.specs.CodeLengths.{length_of};
+ghost use Rattle.cmap_values.specs.Files.{CidEntry, of_length};
 ghost use Rattle.cmap_values.specs.DeclarationsSeen.{bf_entry_seen, cid_entry_seen};
-ghost use Rattle.cmap_layers.specs.CodeStretches.{AreCodesAmong, AreCodesOfCid, Decides, EndsCids, EndsRow, IsCidStretch, IsLayerLongest, IsRowEnd, IsTextStretch};
+ghost use Rattle.cmap_layers.specs.CodeStretches.{AreCodesAmong, AreCodesOfCid, AreDeclaredBy, Decides, DeclarationsEnd, EndsCids, EndsRow, Fits, IsCidStretch, IsLayerLongest, IsRowEnd, IsTextStretch};
 ghost use Rattle.cmap_values.specs.UnitsSeen.{units_seen};
 ghost use Rattle.cmap_layers.specs.LayersDecide.{layer_cid};
 ghost use Rattle.cmap_layers.specs.LayersSeen.{layer_seen};
-ghost use Rattle.cmap_layers.specs.Lookups.{bf_at, bf_span, cid_at};
+ghost use Rattle.cmap_layers.specs.Lookups.{bf_at, bf_span, last_cid};
 ghost use Rattle.cmap_layers.specs.RowsWritten.{character_said};
+ghost use Rattle.cmap_layers.specs.declared.stretches.Cids.TheVariants.{Same};
 
 use crate::code_ranges::add_range;
 use crate::layer::Layer;
@@ -56,10 +58,12 @@ pub struct TextStretch<'l> {
 }
 
 /// Codes in a row, and the decision of a layer by itself for each of them, if there is one.
-#[derive(Clone, Copy)]
-struct LayerStretch {
-    cids: Option<Cids>,
-    last: u32,
+#[derive(Clone, Copy, Debug)]
+pub struct LayerStretch {
+    /// The CIDs of the codes, if the layer decides.
+    pub cids: Option<Cids>,
+    /// The last of the codes.
+    pub last: u32,
 }
 
 impl Layers {
@@ -148,23 +152,44 @@ fn stretch_in(layer: &Layer, first: u32, len: CodeLength) -> LayerStretch
         first result.last result.cids }
     ensures longest { IsLayerLongest (layer_seen layer.now) (length_of len) first result.last result.cids }
 {
+    let declared = declared_stretch_in(layer, first, len);
+    if declared.cids.is_some() {
+        return declared;
+    }
+    let characters = characters_in(layer.texts(), first);
+    LayerStretch {
+        cids: characters.cids,
+        last: declared.last.min(characters.last),
+    }
+}
+
+/// The CIDs that a layer declares for codes from `first` on, without the texts. The stretch ends before a code
+/// for which another declaration decides, or with the last CID.
+pub fn declared_stretch_in(layer: &Layer, first: u32, len: CodeLength) -> LayerStretch
+    ensures within { first ≤ result.last }
+    ensures cids { (code : ℕ) → first ≤ code → code ≤ result.last → AreDeclaredBy result.cids (code - first) code
+        (last_cid (of_length (layer_seen layer.now).lists.cids (length_of len)) code)
+        (last_cid (of_length (layer_seen layer.now).lists.notdefs (length_of len)) code) }
+    ensures fit { IfSome result.cids (λ cids. Fits cids (result.last - first)) }
+    ensures longest { result.last + 1 < 2 ^ 32 → DeclarationsEnd (length_of len) first result.last (layer_seen layer.now)
+        ⊎ IsSomeAnd result.cids (λ these. EndsCids these (result.last - first)) }
+{
     let cids = layer.cids(len).stretch(first);
     if let Some(declaration) = cids.declaration {
         return declared_cids(declaration, first, cids.last);
     }
     let notdefs = layer.notdefs(len).stretch(first);
-    let last = cids.last.min(notdefs.last);
-    if let Some(declaration) = notdefs.declaration {
-        return LayerStretch {
-            cids: Some(Cids::Same(declaration.cid)),
-            last,
-        };
-    }
-    let characters = characters_in(layer.texts(), first);
     LayerStretch {
-        cids: characters.cids,
-        last: last.min(characters.last),
+        cids: same_cid(notdefs.declaration),
+        last: cids.last.min(notdefs.last),
     }
+}
+
+/// The CID that the declaration of a notdef, if there is one, gives to all its codes.
+fn same_cid(declaration: Option<&CidRange>) -> Option<Cids>
+    ensures { result ≡ option_map (λ e. Same e.cid) (option_copied declaration.entry) }
+{
+    Some(Cids::Same(declaration?.cid))
 }
 
 /// The CIDs that a declaration gives to codes from `first` to `last`, which it contains. The stretch ends
@@ -173,8 +198,9 @@ fn declared_cids(declaration: &CidRange, first: u32, last: u32) -> LayerStretch
     requires start { declaration.now.range.start ≤ first }
     requires last { first ≤ last }
     ensures within { (first ≤ result.last) × (result.last ≤ last) }
-    ensures cids { Decides (λ code. Some (cid_at (cid_entry_seen declaration.now) code))
-        first result.last result.cids }
+    ensures cids { (code : ℕ) (notdef : Option CidEntry) → first ≤ code → code ≤ result.last
+        → AreDeclaredBy result.cids (code - first) code (Some (cid_entry_seen declaration.now)) notdef }
+    ensures fit { IfSome result.cids (λ cids. Fits cids (result.last - first)) }
     ensures ends { (result.last ≡ last)
         ⊎ IsSomeAnd result.cids (λ these. EndsCids these (result.last - first)) }
 {

@@ -3,11 +3,9 @@ use Rattle.std.proofs.Common.{◌≡◌, ℕ, ◌+◌, ◌<◌, ◌≤◌, ◌^�
 use Rattle.std.specs.Prelude.{◌⊎◌, option_map, unwrap_or}
 use Rattle.std.specs.Option.{option_or}
 use Rattle.cmap_values.specs.CodeLengths.{length_of}
-use Rattle.cmap_values.specs.DeclarationsSeen.{cid_entry_seen}
 use Rattle.cmap_values.specs.Files.{CidEntry, of_length}
 use Rattle.cmap_values.specs.declared.code_length.CodeLength.{CodeLength}
-use Rattle.cmap_values.specs.declared.declarations.CidRange.{CidRange}
-use Rattle.cmap_layers.specs.CodeStretches.{EndsCids, HoldsBelow, cid_after}
+use Rattle.cmap_layers.specs.CodeStretches.{AreDeclaredBy, EndsCids, HoldsBelow, cid_after}
 use Rattle.cmap_layers.specs.Layers.{Layer}
 use Rattle.cmap_layers.specs.declared.stretches.CidStretch.{CidStretch}
 use Rattle.cmap_layers.specs.Lookups.{cid_at, cid_in, decided_cid, last_cid}
@@ -15,16 +13,22 @@ use Rattle.cmap_layers.specs.declared.stretches.Cids.{Cids}
 use Rattle.cmap_layers.specs.declared.stretches.Cids.TheVariants.{Absent, Same, CountOn}
 use Rattle.cmap_layers.proofs.LayerStretches.{has_code_length}
 use Rattle.cmap_unicode.specs.Cids.{declared_cid, without_texts}
-use Rattle.cmap_unicode.specs.Given.{AreDeclaredCids, DeclarationsEnd, DeclaresNone, Fits, Given, as_cid, cid_given, given, given_after, given_by, given_in, notdef_given}
+use Rattle.cmap_unicode.specs.Given.{AreDeclaredCids, DeclarationsEnd, DeclaresNone, Fits, Given, as_cid, as_notdef, cid_given, given, given_after, given_by, given_in, notdef_given}
 
 -- what a layer declares, and else what those below it declare
 pub layer_gives : (layer : Layer) (below : List Layer) (code len : ℕ) (decision : Option (Option Given)) → given_in layer code len ≡ decision → given (layer ∷ below) code len ≡ unwrap_or decision (given below code len)
 layer_gives layer below code len decision is = ap (λ decision. unwrap_or decision (given below code len)) is
 
--- the CID of a notdef, where no declaration of a CID decides
-pub notdef_gives : (code k : ℕ) (found : Option CidRange) → given_by code None (option_map cid_entry_seen found) ≡ option_map (λ these. given_after these k) (option_map (λ e. Same e.cid) found)
-notdef_gives code k None = refl
-notdef_gives code k (Some d) = refl
+-- a declaration gives what the CIDs of its layer say
+pub declared_gives : (cids : Option Cids) (k code : ℕ) (cid notdef : Option CidEntry) → AreDeclaredBy cids k code cid notdef → given_by code cid notdef ≡ option_map (λ these. given_after these k) cids
+declared_gives (Some Absent) k code (Some e) notdef is = ap (option_map (option_map as_cid)) is
+declared_gives (Some Absent) k code None notdef is = absurd cc
+declared_gives (Some (CountOn begin)) k code (Some e) notdef is = ap (option_map (option_map as_cid)) is
+declared_gives (Some (CountOn begin)) k code None notdef is = absurd cc
+declared_gives (Some (Same same)) k code (Some e) notdef is = absurd cc
+declared_gives (Some (Same same)) k code None (Some e) is = ap (option_map (λ cid. Some (as_notdef cid))) is.1
+declared_gives (Some (Same same)) k code None None is = absurd cc
+declared_gives None k code cid notdef is = rw (is.0, is.1) refl
 
 -- where CIDs fit, those of fewer codes do
 pub fewer_fit : (cids : Cids) (more fewer : ℕ) → fewer ≤ more → Fits cids more → Fits cids fewer

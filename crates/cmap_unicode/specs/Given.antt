@@ -1,10 +1,10 @@
 -- The CIDs or notdefs that layers declare for codes.
-use Rattle.std.specs.Prelude.{◌≡◌, ◌⊎◌, ℕ, ◌+◌, ◌-◌, ◌<◌, ◌≤◌, ◌^◌, List, [], ◌∷◌, IsSomeAnd, Option, None, Some, map, option_map, unwrap_or}
-use Rattle.cmap_runs.specs.Stretches.{IsLongest}
+use Rattle.std.specs.Prelude.{◌≡◌, ◌⊎◌, ℕ, ◌+◌, ◌-◌, ◌<◌, ◌≤◌, ◌^◌, List, [], ◌∷◌, Option, None, Some, option_map, unwrap_or}
 use Rattle.cmap_values.specs.Files.{CidEntry, of_length}
 use Rattle.cmap_layers.specs.CodeStretches.{EndsCids, HoldsBelow, cid_after}
+pub use Rattle.cmap_layers.specs.CodeStretches.{DeclarationsEnd, Fits}
 use Rattle.cmap_layers.specs.Layers.{Layer}
-use Rattle.cmap_layers.specs.Lookups.{cid_at, cid_span, last_cid}
+use Rattle.cmap_layers.specs.Lookups.{cid_at, last_cid}
 use Rattle.cmap_layers.specs.declared.stretches.Cids.{Cids}
 use Rattle.cmap_layers.specs.declared.stretches.Cids.TheVariants.{Absent, CountOn, Same}
 use Rattle.cmap_layers.specs.declared.stretches.CidStretch.{CidStretch}
@@ -49,19 +49,9 @@ given_after Absent k = None
 given_after (Same cid) k = Some (as_notdef cid)
 given_after (CountOn cid) k = Some (as_cid (cid + k))
 
--- the CIDs that count on are numbers of 32 bits up to this many codes after the first
-abbrev pub Fits : Cids → ℕ → Type 0
-Fits (CountOn cid) more = cid + more < 2 ^ 32
-Fits _ more = Unit {0}
-
 -- the layer declares nothing for the code
 abbrev pub DeclaresNone : ℕ → ℕ → Layer → Type 0
 DeclaresNone len code layer = given_in layer code len ≡ None
-
--- in the list of CIDs, another declaration decides the code after the last one than decides the first; or, if no CID is declared for the first code, so it is in the list of notdefs
-abbrev pub DeclarationsEnd : ℕ → ℕ → ℕ → Layer → Type 0
-DeclarationsEnd len first last layer = IsLongest (map cid_span (of_length layer.lists.cids len)) first last
-    ⊎ ((last_cid (of_length layer.lists.cids len) first ≡ None) × IsLongest (map cid_span (of_length layer.lists.notdefs len)) first last)
 
 -- the CIDs that layers declare for codes of len bytes from the first to the last one
 pub record AreDeclaredCids (layers : List Layer) (len first : ℕ) (stretch : CidStretch) : Type 0 where
@@ -71,12 +61,3 @@ pub record AreDeclaredCids (layers : List Layer) (len first : ℕ) (stretch : Ci
   pub fit : Fits stretch.cids (stretch.last - first)
   -- unless the stretch ends with the last code of 32 bits, another declaration decides the next code, in a layer above which no layer declares anything for the first code; or the stretch ends with the last CID
   pub longest : stretch.last + 1 < 2 ^ 32 → HoldsBelow (DeclaresNone len first) (DeclarationsEnd len first stretch.last) layers ⊎ EndsCids stretch.cids (stretch.last - first)
-
--- ---- private aid
--- a layer declares these CIDs for the codes from the first to the last one, or declares nothing for any of them
-abbrev pub Decides : (ℕ → Option (Option Given)) → ℕ → ℕ → Option Cids → Type 0
-Decides decision first last cids = (code : ℕ) → first ≤ code → code ≤ last → decision code ≡ option_map (λ these. given_after these (code - first)) cids
-
--- a stretch of codes in one layer is as long as possible: it ends where its declarations end, or with the last CID
-abbrev pub IsLayerLongest : Layer → ℕ → ℕ → ℕ → Option Cids → Type 0
-IsLayerLongest layer len first last cids = last + 1 < 2 ^ 32 → DeclarationsEnd len first last layer ⊎ IsSomeAnd cids (λ these. EndsCids these (last - first))

@@ -1,20 +1,18 @@
 //! The CIDs that a map declares, without the texts.
 
-ghost use Rattle.std.specs.Prelude.{◌≡◌, ◌⊎◌, ◌-◌, ◌≤◌, Some, option_map, IfSome, IsSomeAnd};
+ghost use Rattle.std.specs.Prelude.{◌≡◌, ◌≤◌, option_map, IfSome};
 ghost use Rattle.std.specs.Option.{option_copied};
 ghost use Rattle.cmap_values.specs.CodeLengths.{length_of};
 ghost use Rattle.cmap_values.specs.DeclarationsSeen.{cid_entry_seen, entries_seen};
-ghost use Rattle.cmap_layers.specs.CodeStretches.{EndsCids};
-ghost use Rattle.cmap_layers.specs.declared.stretches.Cids.TheVariants.{Same};
 ghost use Rattle.cmap_layers.specs.LayersSeen.{layer_seen, layers_seen};
 ghost use Rattle.cmap_layers.specs.Lookups.{last_cid};
 ghost use Rattle.cmap_unicode.specs.Cids.{declared_cid};
 ghost use Rattle.cmap_unicode.specs.LayersTried.{declared_in};
-ghost use Rattle.cmap_unicode.specs.Given.{AreDeclaredCids, Decides, Fits, IsLayerLongest, given_at, given_in};
+ghost use Rattle.cmap_unicode.specs.Given.{AreDeclaredCids};
 
 use cmap_layers::layer::Layer;
 use cmap_layers::layers::Layers;
-use cmap_layers::stretches::{CidStretch, Cids};
+use cmap_layers::stretches::{CidStretch, Cids, declared_stretch_in};
 use cmap_runs::runs::{Looks, Table};
 use cmap_values::code_length::CodeLength;
 use cmap_values::declarations::CidRange;
@@ -59,13 +57,6 @@ fn find_cid(cids: &Table<CidRange>, code: u32) -> Option<&CidRange>
     cids.find(code, &mut Looks::new())
 }
 
-/// Codes in a row, and the CIDs that a layer declares for all of them, if it does.
-#[derive(Clone, Copy)]
-struct LayerStretch {
-    cids: Option<Cids>,
-    last: u32,
-}
-
 /// The CIDs that a map declares for codes of this length from `first` on, as `declared_cid` gives them. The
 /// stretch ends before a code for which another declaration decides, or with the last CID. A caller who
 /// goes on with the code after the last one gets the CIDs of all codes.
@@ -82,7 +73,7 @@ pub fn stretch_of_layers(layers: &[Layer], first: u32, len: CodeLength) -> CidSt
 {
     let mut last = u32::MAX;
     for layer in layers {
-        let stretch = stretch_in(layer, first, len);
+        let stretch = declared_stretch_in(layer, first, len);
         last = last.min(stretch.last);
         if let Some(cids) = stretch.cids {
             return CidStretch { cids, last };
@@ -91,55 +82,5 @@ pub fn stretch_of_layers(layers: &[Layer], first: u32, len: CodeLength) -> CidSt
     CidStretch {
         cids: Cids::Absent,
         last,
-    }
-}
-
-/// The CIDs that a layer declares for codes from `first` on.
-fn stretch_in(layer: &Layer, first: u32, len: CodeLength) -> LayerStretch
-    ensures within { first ≤ result.last }
-    ensures cids { Decides (λ code. given_in (layer_seen layer.now) code (length_of len))
-        first result.last result.cids }
-    ensures fit { IfSome result.cids (λ cids. Fits cids (result.last - first)) }
-    ensures longest { IsLayerLongest (layer_seen layer.now) (length_of len) first result.last result.cids }
-{
-    let cids = layer.cids(len).stretch(first);
-    if let Some(declaration) = cids.declaration {
-        return counted_on(declaration, first, cids.last);
-    }
-    let notdefs = layer.notdefs(len).stretch(first);
-    LayerStretch {
-        cids: same_cid(notdefs.declaration),
-        last: cids.last.min(notdefs.last),
-    }
-}
-
-/// The CID that the declaration of a notdef, if there is one, gives to all its codes.
-fn same_cid(declaration: Option<&CidRange>) -> Option<Cids>
-    ensures { result ≡ option_map (λ e. Same e.cid) (option_copied declaration.entry) }
-{
-    Some(Cids::Same(declaration?.cid))
-}
-
-/// The CIDs that a declaration gives to codes from `first` to `last`, which it contains. The stretch ends
-/// with the last CID of 32 bits; codes past that CID have none.
-fn counted_on(declaration: &CidRange, first: u32, last: u32) -> LayerStretch
-    requires start { declaration.now.range.start ≤ first }
-    requires last { first ≤ last }
-    ensures within { (first ≤ result.last) × (result.last ≤ last) }
-    ensures cids { Decides (λ code. Some (given_at (cid_entry_seen declaration.now) code))
-        first result.last result.cids }
-    ensures fit { IfSome result.cids (λ cids. Fits cids (result.last - first)) }
-    ensures ends { (result.last ≡ last)
-        ⊎ IsSomeAnd result.cids (λ these. EndsCids these (result.last - first)) }
-{
-    match declaration.cid.checked_add(first - declaration.range.start) {
-        Some(cid) => LayerStretch {
-            cids: Some(Cids::CountOn(cid)),
-            last: first + (last - first).min(u32::MAX - cid),
-        },
-        None => LayerStretch {
-            cids: Some(Cids::Absent),
-            last,
-        },
     }
 }

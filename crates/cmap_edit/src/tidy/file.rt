@@ -4,10 +4,11 @@ ghost use Rattle.std.specs.Prelude.{◌≡◌, ℕ, IfOk, map};
 ghost use Rattle.cmap_values.specs.DeclarationsSeen.{bf_entry_seen, by_length_seen, lists_seen};
 ghost use Rattle.cmap_values.specs.Files.{of_length};
 ghost use Rattle.cmap_values.specs.FilesSeen.{file_seen};
-ghost use Rattle.cmap_edit.specs.Tidied.{AreTidiedCids, AreTidiedLists, AreTidiedNotdefs, IsTidied};
+ghost use Rattle.cmap_edit.specs.Kinds.{AreTidiedOf};
+ghost use Rattle.cmap_edit.specs.Tidied.{AreTidiedLists, IsTidied};
 
 use crate::tidy::cid_lists::tidied_cids;
-use crate::tidy::notdef_lists::tidied_notdefs;
+use crate::tidy::counting::{CountOn, Counting, Same};
 use crate::tidy::text_lists::tidied_texts;
 use cmap_values::declarations::{ByLength, CidRange, Lists};
 use cmap_values::file::File;
@@ -44,8 +45,8 @@ pub fn tidy<'d>(alloc: Global, file: &File<'d>) -> Result<File<'d>, AllocError>
 fn tidied_lists(alloc: Global, lists: &Lists) -> Result<Lists, AllocError>
     ensures { IfOk result (λ tidied. AreTidiedLists (lists_seen lists.now) (lists_seen tidied)) }
 {
-    let cids = cids_anew(alloc, &lists.cids);
-    let notdefs = notdefs_anew(alloc, &lists.notdefs);
+    let cids = cids_anew::<CountOn>(alloc, &lists.cids);
+    let notdefs = cids_anew::<Same>(alloc, &lists.notdefs);
     let bfs = tidied_texts(alloc, lists.bfs.as_slice());
     let spaces = Vec::from_slice(alloc, lists.spaces.as_slice());
     let ((cids, notdefs), (bfs, spaces)) = both(both(cids, notdefs), both(bfs, spaces))?;
@@ -57,34 +58,18 @@ fn tidied_lists(alloc: Global, lists: &Lists) -> Result<Lists, AllocError>
     })
 }
 
-/// The lists of CIDs for codes of each length, written anew.
-fn cids_anew(
+/// The lists of CIDs or of notdef declarations for codes of each length, written anew.
+fn cids_anew<K: Counting>(
     alloc: Global,
     lists: &ByLength<Vec<CidRange>>,
 ) -> Result<ByLength<Vec<CidRange>>, AllocError>
-    ensures { IfOk result (λ tidied. (len : ℕ) → AreTidiedCids
+    ensures { IfOk result (λ tidied. (len : ℕ) → AreTidiedOf K.kind
         (of_length (by_length_seen lists.now) len) (of_length (by_length_seen tidied) len)) }
 {
     Ok(ByLength {
-        one: tidied_cids(alloc, lists.one.as_slice())?,
-        two: tidied_cids(alloc, lists.two.as_slice())?,
-        three: tidied_cids(alloc, lists.three.as_slice())?,
-        four: tidied_cids(alloc, lists.four.as_slice())?,
-    })
-}
-
-/// The lists of notdef declarations for codes of each length, written anew.
-fn notdefs_anew(
-    alloc: Global,
-    lists: &ByLength<Vec<CidRange>>,
-) -> Result<ByLength<Vec<CidRange>>, AllocError>
-    ensures { IfOk result (λ tidied. (len : ℕ) → AreTidiedNotdefs
-        (of_length (by_length_seen lists.now) len) (of_length (by_length_seen tidied) len)) }
-{
-    Ok(ByLength {
-        one: tidied_notdefs(alloc, lists.one.as_slice())?,
-        two: tidied_notdefs(alloc, lists.two.as_slice())?,
-        three: tidied_notdefs(alloc, lists.three.as_slice())?,
-        four: tidied_notdefs(alloc, lists.four.as_slice())?,
+        one: tidied_cids::<K>(alloc, lists.one.as_slice())?,
+        two: tidied_cids::<K>(alloc, lists.two.as_slice())?,
+        three: tidied_cids::<K>(alloc, lists.three.as_slice())?,
+        four: tidied_cids::<K>(alloc, lists.four.as_slice())?,
     })
 }

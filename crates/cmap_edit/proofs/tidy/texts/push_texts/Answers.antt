@@ -21,7 +21,7 @@ loop-next-preserved c =
       said = subst (λ end. IsSaidTo first (end + 1) here before (units_said (map bf_entry_seen c.add_row.new.list.items))) (sym c.from-next-in-loop-next.ensures)
           (row_said here before first next c.text_row_end.result (units_said (map bf_entry_seen c.loop-next.list.items)) (units_said (map bf_entry_seen c.add_row.new.list.items))
           (units_at (record { start = next; end = c.text_row_end.result; units = units_seen c.in_ok-units.units })) old.from c.text_row_end.ensures.within.0 old.said added.said
-          (λ code from.
+          (λ code from to.
           let sum : code - first ≡ next - first + (code - next) = omega arith in
           sym (ap (shifted units) sum ∙ shifted_twice units (units_seen c.in_ok-units.units) (next - first) (code - next) c.in_ok-units.ensures)));
     }
