@@ -1,13 +1,14 @@
 //! A file is read over the files that it uses: over each file once, up to a fault. A file with faults is then read past
 //! them, over the files that were read; if a file is missing, it is read, and the file with faults is read again.
 
+ghost use Rattle.std.specs.Prelude.{◌≡◌, IfOk, None};
+ghost use Rattle.hayro_cmap.specs.Loaders.{AreNumbered, IsLoading, texts_of, wanted_of};
+
 use crate::bases::{Bases, Files};
 use crate::fault_line::LineCounter;
 use crate::refused::{more_json, more_line, push_refusal_json, push_refusal_line};
 use cmap_io::failure::Failure;
-use hayro_cmap::{
-    CMap, Cause, Fault, Layers, Loader, NameCopies, Refusal, RefusedFile, SalvagedMap,
-};
+use hayro_cmap::{CMap, Cause, Fault, Loader, NameCopies, Refusal, SalvagedMap};
 use std::alloc::{AllocError, Global};
 
 /// A file to be parsed.
@@ -69,57 +70,46 @@ pub const MOST_FAULTS: u64 = 100;
 /// bound, which no run reaches.
 const MOST_PASSES: u32 = u32::MAX;
 
-/// Reads a file over the files that it uses.
+/// Reads a file over the files that it uses. A file that is refused gives the refusal alone, or is read past all faults.
 pub fn read_over(
     rt: &HostRuntime,
     input: Input<'_>,
     manner: Manner,
     bases: &mut Bases<'_>,
 ) -> Result<Reading, Failure> {
-    match load(rt, input.bytes, manner.budget, bases)? {
-        Ok(layers) => Ok(Reading {
+    let load = load(rt, input.bytes, manner.budget, bases)?;
+    match (load.finish(), manner.faults) {
+        (Ok(layers), _) => Ok(Reading {
             map: Some(CMap::of(layers)),
             faults: Vec::new(rt.alloc()),
         }),
-        Err(refused) => read_faulty(rt, input, manner, bases, &refused),
+        (Err(Fault::Refused(refused)), Faults::First) => {
+            let refusal = refused.refusal(rt.alloc())?;
+            let faults = lines_of(rt.alloc(), input, manner, bases, &[refusal])?;
+            Ok(Reading { map: None, faults })
+        }
+        (Err(Fault::Refused(_)), Faults::All) => read_past(rt, input, manner, bases),
+        (Err(Fault::Memory), _) => Err(Failure::Memory),
     }
 }
 
-/// The layers of a file, or a refusal. Each file that is used is read once, when it is wanted.
+/// Supplies a loader with each file that it wants, so that each is read and parsed once.
 fn load(
     rt: &HostRuntime,
     bytes: &[u8],
     budget: Option<u64>,
     bases: &mut Bases<'_>,
-) -> Result<Result<Layers, RefusedFile<NameCopies>>, Failure> {
+) -> Result<Loader<NameCopies>, Failure>
+    ensures loading { IfOk result (IsLoading texts_of AreNumbered) }
+    ensures all { IfOk result (λ load. wanted_of texts_of load ≡ None) }
+{
     let mut load = Loader::<NameCopies>::new(rt.alloc(), budget, bytes, bases.bundle)?;
     while let Some(name) = load.wanted() {
         bases.read(rt, name)?;
-        load.supply(bases.bytes_of(name), bases.bundle)?;
+        let file = bases.bytes_of(name);
+        load.supply(file, bases.bundle)?;
     }
-    match load.finish() {
-        Ok(layers) => Ok(Ok(layers)),
-        Err(Fault::Refused(refused)) => Ok(Err(refused)),
-        Err(Fault::Memory) => Err(Failure::Memory),
-    }
-}
-
-/// Reads a file that is refused: up to the refusal, or past all faults.
-fn read_faulty(
-    rt: &HostRuntime,
-    input: Input<'_>,
-    manner: Manner,
-    bases: &mut Bases<'_>,
-    refused: &RefusedFile<NameCopies>,
-) -> Result<Reading, Failure> {
-    match manner.faults {
-        Faults::First => {
-            let refusal = refused.refusal(rt.alloc())?;
-            let faults = lines_of(rt.alloc(), input, manner, bases, &[refusal])?;
-            Ok(Reading { map: None, faults })
-        }
-        Faults::All => read_past(rt, input, manner, bases),
-    }
+    Ok(load)
 }
 
 /// Reads a file past its faults, until no base that can be read is missing.
@@ -129,19 +119,19 @@ fn read_past(
     manner: Manner,
     bases: &mut Bases<'_>,
 ) -> Result<Reading, Failure> {
-    let mut last = pass(rt.alloc(), input, manner, bases)?;
+    let mut last = read_once(rt.alloc(), input, manner, bases)?;
     for _ in 0..MOST_PASSES {
         if last.missing.is_empty() {
             break;
         }
         bases.read_all(rt, &last.missing)?;
-        last = pass(rt.alloc(), input, manner, bases)?;
+        last = read_once(rt.alloc(), input, manner, bases)?;
     }
     Ok(last.reading)
 }
 
 /// Reads a file past its faults, over the bases that were read.
-fn pass(
+fn read_once(
     alloc: Global,
     input: Input<'_>,
     manner: Manner,

@@ -9,3 +9,4 @@ pub mod NamedFiles
 pub mod Opened
 pub mod Salvage
 pub mod SalvageSeen
+pub mod Loaders

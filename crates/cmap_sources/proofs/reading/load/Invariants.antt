@@ -1,5 +1,4 @@
-use Rattle.cmap_load.specs.Loads.{IsLoading, files_in, files_left, wanted_of}
-use Rattle.cmap_load.specs.NameCopies.{AreNumbered, texts_of}
+use Rattle.hayro_cmap.specs.Loaders.{AreNumbered, IsLoading, files_in, files_left, texts_of, wanted_of}
 use Rattle.cmap_sources.proofs.reading.load.Given as goal
 
 abbrev pub invariant-loop-name : goal.invariant-loop-name
