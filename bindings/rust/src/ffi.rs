@@ -1292,7 +1292,14 @@ pub(crate) fn fold(text: &str) -> String {
     let folded = written(BYTES_EACH * text.len(), |room, needed| {
         // SAFETY: see the head of the module.
         unsafe {
-            hayro_cmap_fold(text.as_ptr(), text.len(), room.as_mut_ptr(), room.len(), needed, &mut offset)
+            hayro_cmap_fold(
+                text.as_ptr(),
+                text.len(),
+                room.as_mut_ptr(),
+                room.len(),
+                needed,
+                &mut offset,
+            )
         }
     });
     let folded = folded.and_then(|bytes| String::from_utf8(bytes).ok());

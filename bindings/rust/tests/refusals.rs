@@ -25,7 +25,12 @@ fn a_malformed_file_has_an_offset_and_a_reason() {
             "byte 19: the file ends within a section",
         ),
         (b"begincidchar 1 1", 14, Reason::CodeExpected, "byte 14: a code was expected"),
-        (b"begincidchar <> 1", 15, Reason::CodeLength, "byte 15: a code must have one to four bytes"),
+        (
+            b"begincidchar <> 1",
+            15,
+            Reason::CodeLength,
+            "byte 15: a code must have one to four bytes",
+        ),
         (b"begincidchar <01> x", 19, Reason::CidExpected, "byte 19: a CID was expected"),
         (
             b"beginbfchar <01> 1 ",

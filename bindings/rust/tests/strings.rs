@@ -92,7 +92,9 @@ fn the_codes_of_a_simple_font_are_bytes() {
     let font = Extractor::simple(CMap::parse(to_unicode, |_| None));
     assert_eq!(font.text(b"A\xFF\x00"), "aff\u{FFFD}");
     let codes = font.characters(b"A\xFF").into_iter().map(|it| it.code);
-    assert!(codes.clone().all(|code| code.byte_len == 1 && code.in_codespace && code.cid.is_none()));
+    assert!(
+        codes.clone().all(|code| code.byte_len == 1 && code.in_codespace && code.cid.is_none())
+    );
     assert_eq!(codes.count(), 2);
     assert_eq!(Extractor::simple(None).text(b"A"), "\u{FFFD}");
 }
