@@ -89,8 +89,8 @@ impl<'d, N: Names<'d>> RefusedFile<N> {
 }
 
 /// Reads a CMap file over the files that it uses. The loader states the name of the file that it
-/// wants, and the caller supplies the file of this name. The loader keeps no bytes of the files but
-/// their names, as `N` does.
+/// wants, and the caller supplies the file of this name. Of the bytes of a file, the loader keeps
+/// only the names of the files that it uses: slices in `NameSlices`, or copies in `NameCopies`.
 ///
 /// Each file is read once, however often it is used. Files are wanted in the order in which a
 /// reader opens them, each before the files that it uses; after a fault, no file is wanted. A file
