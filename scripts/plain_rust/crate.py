@@ -18,7 +18,7 @@ SHARED_SOURCES = [
 # the licences; LICENSE-UNICODE is for tables
 LICENSES = ["LICENSE-APACHE", "LICENSE-MIT", "LICENSE-UNICODE"]
 # the crates of the kit whose interface is written by hand
-OF_KIT = {name: f"crate::fallible::{name}" for name in ("itoa", "ucd_normal")}
+OF_KIT = {name: f"crate::fallible::{name}" for name in ("arrayvec", "itoa", "ucd_normal")}
 README = "README.md"
 # the crates that together use all crates of the reader
 READER = ["hayro_cmap", "cmap_encode", "cmap_unicode", "cmap_edit", "cmap_lint", "cmap_text_writer"]

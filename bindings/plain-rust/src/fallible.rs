@@ -4,6 +4,7 @@
 //! it adds something. So none of them ends the program.
 
 pub mod alloc;
+pub(crate) mod arrayvec;
 mod boxed;
 pub mod collections;
 pub(crate) mod itoa;

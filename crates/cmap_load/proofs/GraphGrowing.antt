@@ -1,5 +1,5 @@
--- A graph with one name or one file more.
-use Rattle.std.proofs.Common.{◌≡◌, ◌≢◌, refl, sym, ap, subst, ◌∙◌, arith, ℕ, zero, suc, ◌+◌, ◌<◌, ◌≤◌, List, [], ◌∷◌, ◌++◌, All, length, get_or, length-append, Option, Some, None, inl, inr}
+-- A graph with more names or one file more.
+use Rattle.std.proofs.Common.{◌≡◌, ◌≢◌, refl, sym, ap, subst, ◌∙◌, arith, ℕ, zero, suc, ◌+◌, ◌-◌, ◌<◌, ◌≤◌, List, [], ◌∷◌, ◌++◌, All, length, get_or, length-append, Option, Some, None, inl, inr}
 use Rattle.std.specs.Prelude.{◌⊎◌, slice_get, slice_index}
 use Rattle.std.specs.Global.{Vec}
 use Rattle.std.proofs.Math.ListN.{set}
@@ -8,12 +8,13 @@ use Rattle.std.proofs.lemmas.Bool.{cases_eq, cases_lt}
 use Rattle.std.proofs.lemmas.List.{get_or_append_left}
 use Rattle.std.proofs.lemmas.List.Elements.{All-weaker}
 use Rattle.std.proofs.lemmas.Option.{slice_get_within}
-use Rattle.cmap_load.specs.Loading.{IsCost}
-use Rattle.cmap_load.specs.Graphs.{AreNamed, Costs, HasFirst, IsFileOf, IsGraph}
+use Rattle.cmap_load.specs.Loading.{IsCost, IsLeft}
+use Rattle.cmap_load.specs.Graphs.{AreNamed, Costs, HasFirst, IsAwaiting, IsBegun, IsFileOf, IsGraph, IsKept, Leads}
 use Rattle.cmap_load.specs.declared.graph.Graph.{Graph}
 use Rattle.cmap_load.specs.declared.graph.Node.{Node}
 use Rattle.cmap_load.specs.declared.graph.step.FirstUses.{FirstUses}
-use Rattle.cmap_load.proofs.GraphFiles.{Costs-grown, HasFirst-grown}
+use Rattle.cmap_load.specs.declared.graph.step.Wanted.{Wanted}
+use Rattle.cmap_load.proofs.GraphFiles.{Costs-grown, HasFirst-grown, Leads-grown, LeadsToUse-grown}
 
 pub slice_get_pushed : {A : Type 0} (xs : List A) (y : A) (i : ℕ) (x : A) → slice_get (xs ++ y ∷ []) i ≡ Some x → (slice_get xs i ≡ Some x) ⊎ ((i ≡ length xs) × (x ≡ y))
 slice_get_pushed [] y zero x h = inr (refl, (cc))
@@ -45,25 +46,95 @@ slice_get-set_same (z ∷ xs) (suc i) x y h = slice_get-set_same xs i x y h
 pub named_on : (few many : ℕ) (names : List ℕ) → few ≤ many → All (λ name. name < few) names → All (λ name. name < many) names
 named_on few many names le are = All-weaker (λ name. name < few) (λ name. name < many) (λ name lt. omega (arith, lt, le)) names are
 
--- ---- a name
-pub IsGraph-named : (graph : Graph) (found : Vec (Option ℕ)) → found.items ≡ graph.found.items ++ None ∷ [] → IsGraph graph → IsGraph (record graph { found = found })
-IsGraph-named graph found pushed is =
-    let after : Graph = record graph { found = found } in
-    let long : length found.items ≡ length graph.found.items + 1 = ap length pushed ∙ simp length-append in
-    let longer : length graph.found.items ≤ length found.items = omega (arith, long) in
-    let files : (name i : ℕ) → IsFileOf graph name i → IsFileOf after name i = λ name i there. ap (λ l. slice_get l name) pushed ∙ slice_get_left graph.found.items (None ∷ []) name (Some i) there in
-    record {
-      heights = is.heights;
-      costs = is.costs;
-      firsts = is.firsts;
-      named = λ i node there. named_on (length graph.found.items) (length found.items) node.uses.items longer (is.named i node there);
-      known = λ name i there. elim (slice_get_pushed graph.found.items None name (Some i) (ap (λ l. slice_get l name) (sym pushed) ∙ there)) [
-        | inl before ↦ is.known name i before
-        | inr last ↦ (let e : Some i ≡ None = last.1 in absurd (cc))
-      ];
-      high = λ i lt le. Costs-grown graph after refl files (λ k node there. there) (slice_index graph.heights.items i) (slice_index graph.costs.items i) i (is.high i lt le);
-      begun = λ i node first there has. HasFirst-grown graph after refl files (λ k other is_there. is_there) node.uses.items first (is.begun i node first there has);
-    }
+-- ---- more names
+pub IsKept-none : (graph : Graph) → IsKept graph graph
+IsKept-none graph = record { budget = refl; names = omega arith; found = λ name file is. is; back = λ name i is. is; nodes = refl; heights = refl; costs = refl; firsts = refl }
+
+pub IsKept-more : (a b c : Graph) → IsKept a b → IsKept b c → IsKept a c
+IsKept-more a b c first second = record {
+  budget = second.budget ∙ first.budget;
+  names = (let one = first.names in let other = second.names in omega (arith, one, other));
+  found = λ name file is. second.found name file (first.found name file is);
+  back = λ name i is. first.back name i (second.back name i is);
+  nodes = second.nodes ∙ first.nodes;
+  heights = second.heights ∙ first.heights;
+  costs = second.costs ∙ first.costs;
+  firsts = second.firsts ∙ first.firsts;
+}
+
+-- more memory
+pub IsKept-same : (old new : Graph) → new.budget ≡ old.budget → new.found.items ≡ old.found.items → new.nodes.items ≡ old.nodes.items → new.heights.items ≡ old.heights.items → new.costs.items ≡ old.costs.items
+    → new.firsts.items ≡ old.firsts.items → IsKept old new
+IsKept-same old new budget found nodes heights costs firsts = record {
+  budget = budget;
+  names = (let long = ap length found in omega (arith, long));
+  found = λ name file is. ap (λ l. slice_get l name) found ∙ is;
+  back = λ name i is. ap (λ l. slice_get l name) (sym found) ∙ is;
+  nodes = nodes;
+  heights = heights;
+  costs = costs;
+  firsts = firsts;
+}
+
+pub IsKept-named : (graph : Graph) (found : Vec (Option ℕ)) → found.items ≡ graph.found.items ++ None ∷ [] → IsKept graph (record graph { found = found })
+IsKept-named graph found pushed = record {
+  budget = refl;
+  names = (let long : length found.items ≡ length graph.found.items + 1 = ap length pushed ∙ simp length-append in omega (arith, long));
+  found = λ name file is. ap (λ l. slice_get l name) pushed ∙ slice_get_left graph.found.items (None ∷ []) name file is;
+  back = λ name i is. elim (slice_get_pushed graph.found.items None name (Some i) (ap (λ l. slice_get l name) (sym pushed) ∙ is)) [
+    | inl before ↦ before
+    | inr last ↦ (let e : Some i ≡ None = last.1 in absurd (cc))
+  ];
+  nodes = refl;
+  heights = refl;
+  costs = refl;
+  firsts = refl;
+}
+
+module _ (old new : Graph) (kept : IsKept old new) where
+  file_kept : (name i : ℕ) → IsFileOf old name i → IsFileOf new name i
+  file_kept name i is = kept.found name (Some i) is
+
+  node_kept : (i : ℕ) (node : Node) → slice_get old.nodes.items i ≡ Some node → slice_get new.nodes.items i ≡ Some node
+  node_kept i node there = ap (λ l. slice_get l i) kept.nodes ∙ there
+
+  high_kept : IsGraph old → (i : ℕ) → i < length new.nodes.items → slice_index new.heights.items i ≤ 16 → Costs new (slice_index new.heights.items i) (slice_index new.costs.items i) i
+  high_kept is i lt le =
+      let long = ap length kept.nodes in
+      let height : slice_index new.heights.items i ≡ slice_index old.heights.items i = ap (λ l. get_or l i 0) kept.heights in
+      let cost : slice_index new.costs.items i ≡ slice_index old.costs.items i = ap (λ l. get_or l i 0) kept.costs in
+      let within : i < length old.nodes.items = omega (arith, lt, long) in
+      let was : slice_index old.heights.items i ≤ 16 = omega (arith, height, le) in
+      subst (λ h. Costs new h (slice_index new.costs.items i) i) (sym height)
+      (subst (λ n. Costs new (slice_index old.heights.items i) n i) (sym cost)
+      (Costs-grown old new kept.budget file_kept node_kept (slice_index old.heights.items i) (slice_index old.costs.items i) i (is.high i within was)))
+
+  pub IsGraph-kept : IsGraph old → IsGraph new
+  IsGraph-kept is = record {
+    heights = ap length kept.heights ∙ is.heights ∙ sym (ap length kept.nodes);
+    costs = ap length kept.costs ∙ is.costs ∙ sym (ap length kept.nodes);
+    firsts = ap length kept.firsts ∙ is.firsts ∙ sym (ap length kept.nodes);
+    named = λ i node there. named_on (length old.found.items) (length new.found.items) node.uses.items kept.names (is.named i node (ap (λ l. slice_get l i) (sym kept.nodes) ∙ there));
+    known = λ name i there. (let lt = is.known name i (kept.back name i there) in let long = ap length kept.nodes in omega (arith, lt, long));
+    high = high_kept is;
+    begun = λ i node first there has.
+        HasFirst-grown old new kept.budget file_kept node_kept node.uses.items first (is.begun i node first (ap (λ l. slice_get l i) (sym kept.nodes) ∙ there) (ap (λ l. slice_get l i) (sym kept.firsts) ∙ has));
+  }
+
+  pub IsBegun-kept : IsBegun old → IsBegun new
+  IsBegun-kept begun = record {
+    some = (let some = begun.some in let long = ap length kept.nodes in omega (arith, some, long));
+    high = (let high = begun.high in let same : slice_index new.heights.items 0 ≡ slice_index old.heights.items 0 = ap (λ l. get_or l 0 0) kept.heights in omega (arith, high, same));
+  }
+
+  pub IsAwaiting-kept : (wanted : Wanted) → IsAwaiting old wanted → IsAwaiting new wanted
+  IsAwaiting-kept wanted is = record {
+    n = is.n;
+    less = is.less;
+    leads = LeadsToUse-grown old new kept.budget file_kept node_kept (Leads old is.n) (Leads new is.n) (Leads-grown old new kept.budget file_kept node_kept is.n) (15 - is.n) wanted.names.items wanted.left wanted.name is.leads;
+    left = subst (λ budget. IsLeft budget wanted.left) (sym kept.budget) is.left;
+    new = kept.found wanted.name None is.new;
+  }
 
 -- ---- a file
 abbrev pub no_uses : FirstUses

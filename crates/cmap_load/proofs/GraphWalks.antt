@@ -1,5 +1,5 @@
 -- The way from the top file of a graph.
-use Rattle.std.proofs.Common.{◌≡◌, sym, ap, subst, ◌∙◌, arith, ℕ, suc, ◌+◌, ◌-◌, ◌<◌, ◌≤◌, List, [], ◌∷◌, ◌++◌, sum, Option, Some, None}
+use Rattle.std.proofs.Common.{◌≡◌, sym, ap, subst, ◌∙◌, arith, ℕ, zero, suc, ◌+◌, ◌-◌, ◌<◌, ◌≤◌, List, [], ◌∷◌, ◌++◌, length, length-append, sum, Option, Some, None}
 use Rattle.std.specs.Prelude.{slice_get}
 use Rattle.cmap_load.specs.BytesSpent.{Leaves}
 use Rattle.cmap_load.specs.Loading.{IsCost, IsLeft}
@@ -45,6 +45,13 @@ module _ (graph : Graph) where
         new = ap (slice_get graph.found.items) name ∙ none;
       }
 
+  -- so many names lead to a file
+  pub leads_long : (n : ℕ) (names : List ℕ) (left : Option ℕ) (i : ℕ) → Leads graph n names left i → length names ≡ n
+  leads_long zero names left i leads = ap length leads.0
+  leads_long (suc n) names left i (name, leads, _) =
+      let before = leads_long n leads.others leads.old leads.at leads.leading in
+      ap length leads.names_are ∙ length-append leads.others (name ∷ []) ∙ omega (arith, before)
+
   -- the first uses of the file that has a use which isn't passed over
   pub first_of : (room at : ℕ) (left : Option ℕ) (stuck : Stuck) → HasStuck graph room at left stuck → (node : Node) → slice_get graph.nodes.items at ≡ Some node → HasFirst graph node.uses.items stuck.before
   first_of room at left stuck has node there =
@@ -62,11 +69,11 @@ module _ (graph : Graph) where
     }
 
     pub within : at ≡ 0 → IsWithin graph
-    within zero =
+    within is_top =
         let all = Leaves-more graph.budget left after rest.0 (sum spent.lengths) rest.1 spent.leaves in
         let low : height ≤ 16 = omega (arith, few, le) in
         record {
           lengths = spent.lengths;
-          whole = subst (λ i. IsWhole graph 16 i spent.lengths) zero (record { opened = whole_more graph height 16 low at spent.lengths spent.whole.opened });
+          whole = subst (λ i. IsWhole graph 16 i spent.lengths) is_top (record { opened = whole_more graph height 16 low at spent.lengths spent.whole.opened });
           within = λ over. not_over graph.budget after (rest.0 + sum spent.lengths) all (IsOver-more graph.budget (sum spent.lengths) (rest.0 + sum spent.lengths) (omega arith) over);
         }

@@ -27,6 +27,7 @@ pub mod GraphHeights
 pub mod GraphGrowing
 pub mod GraphWalks
 pub mod CopiedNames
+pub mod Grown
 pub mod Numbered
 pub mod TableGrowing
 pub mod Shown

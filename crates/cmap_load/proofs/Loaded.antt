@@ -1,5 +1,5 @@
 -- What a loader gives, by answers that agree with what it was given.
-use Rattle.std.proofs.Common.{◌≡◌, ◌≢◌, refl, sym, ap, subst, ◌∙◌, arith, ℕ, ◌+◌, ◌≤◌, true, false, List, [], ◌∷◌, ◌++◌, length, length-append, sum, Option, Some, None, inl, inr}
+use Rattle.std.proofs.Common.{◌≡◌, ◌≢◌, refl, sym, subst, ◌∙◌, arith, ℕ, true, false, List, [], ◌∷◌, ◌++◌, length, sum, Option, Some, None, inl, inr}
 use Rattle.std.specs.Prelude.{IfErr, IfOk, IfSome, OnOk, Ok, Err, Result}
 use Rattle.std.proofs.Math.ListN.{length-map}
 use Rattle.std.proofs.lemmas.Slice.Eq.{bytes_eq-Decides}

@@ -38,19 +38,19 @@ module _ (tables : Option PrefixTables) (answers : List Answer) where
 
     pub Shows-grows : Shows tables answers after new
     Shows-grows = record {
-      long = shows.long ∙ ap (λ v. length v.items) (sym grows.nodes);
+      long = shows.long ∙ ap length (sym grows.graph.nodes);
       files = λ i node contents there got.
-          let was : slice_get old.graph.nodes.items i ≡ Some node = ap (λ v. slice_get v.items i) (sym grows.nodes) ∙ there in
-          let had : slice_get old.contents.items i ≡ Some contents = ap (λ v. slice_get v.items i) (sym grows.contents) ∙ got in
+          let was : slice_get old.graph.nodes.items i ≡ Some node = ap (λ l. slice_get l i) (sym grows.graph.nodes) ∙ there in
+          let had : slice_get old.contents.items i ≡ Some contents = ap (λ l. slice_get l i) (sym grows.contents) ∙ got in
           subst (λ uses. OfBytes (bytes_at answers i) (λ bytes. (length bytes ≡ node.length) × MeansOnly tables bytes (file_of contents uses))) (sym (map_still before after old.graph new.graph has more node.uses.items (is.graph.named i node was))) (shows.files i node contents was had);
       found = λ name i file.
-          let was = grows.back name i file in
+          let was = grows.graph.back name i file in
           let lt = slice_get_within old.graph.found.items name (Some i) was in
           ap (first_answer answers) (text_still name lt) ∙ shows.found name i was;
       none = λ name none. elim (cases_lt name (length old.graph.found.items)) [
         | inl lt ↦ (
             let file = slice_get-get_or old.graph.found.items name None lt in
-            let same = grows.found name _ file in
+            let same = grows.graph.found name _ file in
             let e : Some None ≡ Some _ = sym none ∙ same in
             let was : slice_get old.graph.found.items name ≡ Some None = file ∙ sym e in
             ap (first_answer answers) (text_still name lt) ∙ shows.none name was)

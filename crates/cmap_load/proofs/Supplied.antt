@@ -1,5 +1,5 @@
 -- An answer that a loader awaits, and what follows it.
-use Rattle.std.proofs.Common.{◌≡◌, refl, sym, ap, subst, ◌∙◌, arith, ℕ, ◌-◌, ◌<◌, List, [], ◌∷◌, ◌++◌, length, map, Option, Some, None, inl, inr}
+use Rattle.std.proofs.Common.{◌≡◌, refl, sym, ap, subst, ◌∙◌, arith, ℕ, ◌-◌, ◌<◌, List, [], ◌∷◌, ◌++◌, length, map, Option, Some, None}
 use Rattle.std.specs.Prelude.{option_map, slice_get}
 use Rattle.std.proofs.lemmas.Option.{slice_get_within}
 use Rattle.cmap_values.specs.FilesSeen.{file_seen}
@@ -8,9 +8,9 @@ use Rattle.cmap_binary.specs.Bundles.{PrefixTables}
 use Rattle.cmap_load.specs.Graphs.{AreNamed, IsAwaiting, IsBegun, IsGraph, IsNext}
 use Rattle.cmap_load.specs.Loading as loading
 use Rattle.cmap_load.specs.Loading.{Answer, FailsToOpen, IsOpened, IsWanted, MeansOnly, OfBytes, bytes_at, first_answer}
-use Rattle.cmap_load.specs.Loads.{Follows, IsReady, IsRefused, LeadsToNext, NextIs, answer_to}
+use Rattle.cmap_load.specs.Loads.{Follows, IsReady, IsRefused, LeadsToNext, NextIs, answer_to, wanted_by}
 use Rattle.cmap_load.specs.Numbers.{IsMore, text_at}
-use Rattle.cmap_load.specs.Tables.{HasTexts, IsAdded, IsEmpty, IsNew, IsTable, Shows, file_of}
+use Rattle.cmap_load.specs.Tables.{Grows, HasTexts, IsAdded, IsEmpty, IsNew, IsTable, Shows, file_of}
 use Rattle.cmap_load.specs.declared.graph.Graph.{Graph}
 use Rattle.cmap_load.specs.declared.graph.Node.{Node}
 use Rattle.cmap_load.specs.declared.graph.step.Next.{Next}
@@ -19,9 +19,9 @@ use Rattle.cmap_load.specs.declared.graph.step.Wanted.{Wanted}
 use Rattle.cmap_load.specs.declared.loader.State.{State}
 use Rattle.cmap_load.specs.declared.loader.State.TheVariants as state
 use Rattle.cmap_load.specs.declared.refusal.Cause.{Cause}
-use Rattle.cmap_load.specs.declared.refusal.Cause.TheVariants.{ChainLength, OverBudget}
 use Rattle.cmap_load.specs.declared.table.Contents.{Contents}
 use Rattle.cmap_load.specs.declared.table.Table.{Table}
+use Rattle.cmap_load.proofs.GraphGrowing.{IsAwaiting-kept, IsBegun-kept}
 use Rattle.cmap_load.proofs.Growing.{answer_last, bytes_at_front}
 use Rattle.cmap_load.proofs.Leading.{leads_first, refusal}
 use Rattle.cmap_load.proofs.Meant.{awaiting_means, leads_named, meant, meant_more, over_means, to_use_named, too_long_means, wanted_means}
@@ -127,7 +127,7 @@ module _ (tables : Option PrefixTables) (answers : List Answer) (before : List (
         let (b, there, (long, means)) = opened in
         let contents : Contents = record { metadata = file.metadata; lists = file.lists } in
         let meaning : MeansOnly tables b (file_of contents (map (text_at after) added.node.uses.items)) = subst (λ uses. MeansOnly tables b (file_of contents uses)) (sym added.uses) means in
-        let shown = Shows-pushed tables answers after added.mid new added.table added.texts shows_mid name added.node contents b (new_still old.graph added.mid.graph name added.grows.found is_new) added.pushed (sym long ∙ sym added.long) meaning in
+        let shown = Shows-pushed tables answers after added.mid new added.table added.texts shows_mid name added.node contents b (new_still old.graph added.mid.graph name added.grows.graph.found is_new) added.pushed (sym long ∙ sym added.long) meaning in
         let same_name = name_still before after old.graph name has added.more is_new in
         subst (λ given. Shows tables (answers ++ record { name = option_map (text_at before) name; bytes = given } ∷ []) after new) (sym there)
         (subst (λ n. Shows tables (answers ++ record { name = n; bytes = Some b } ∷ []) after new) same_name shown)
@@ -146,3 +146,14 @@ module _ (table : Table) (is : IsTable table) where
       (record { from = λ first begin. too_long_means tables answers (text_at texts) table.graph (meant tables answers texts table is shows) table.graph.budget refl first begin names.items long })
   ready tables answers texts shows (next.OverBudget names) found over same = subst (IsReady tables answers texts table) (sym same)
       (record { from = λ first begin. over_means tables answers (text_at texts) table.graph (meant tables answers texts table is shows) table.graph.budget refl first begin names.items over })
+
+-- ---- more names
+module _ (before after : List (List ℕ)) (old new : Table) (is : IsTable old) (has : HasTexts before old.graph) (now : HasTexts after new.graph) (grows : Grows old new) (more : IsMore before after) (wanted : Wanted) (begun : IsBegun old.graph) (awaits : IsAwaiting old.graph wanted) where
+  pub still_follows : Follows new.graph (state.Wanted wanted)
+  still_follows = (IsBegun-kept old.graph new.graph grows.graph begun, IsAwaiting-kept old.graph new.graph grows.graph wanted awaits)
+
+  pub still_wanted : wanted_by after (state.Wanted wanted) ≡ wanted_by before (state.Wanted wanted)
+  still_wanted = name_still before after old.graph (Some wanted.name) has more awaits.new
+
+  pub still_shows : (tables : Option PrefixTables) (answers : List Answer) → Shows tables answers before old → Shows tables answers after new
+  still_shows tables answers shows = Shows-grows tables answers before after old new is has now grows more shows

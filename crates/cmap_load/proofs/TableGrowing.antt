@@ -9,39 +9,26 @@ use Rattle.std.proofs.lemmas.Option.{slice_get_within}
 use Rattle.cmap_values.specs.NamesSeen.{names_seen}
 use Rattle.cmap_load.specs.Graphs.{AreNamed}
 use Rattle.cmap_load.specs.Numbers.{AreDistinct, IsMore, IsNumbered, text_at}
-use Rattle.cmap_load.specs.Tables.{Grows, HasTexts}
+use Rattle.cmap_load.specs.Tables.{Grows, HasTexts, IsTable}
 use Rattle.cmap_load.specs.declared.graph.Graph.{Graph}
 use Rattle.cmap_load.specs.declared.table.Table.{Table}
-use Rattle.cmap_load.proofs.GraphGrowing.{named_on, slice_get_left, slice_get_pushed}
+use Rattle.cmap_load.proofs.GraphGrowing.{IsGraph-kept, IsKept-more, IsKept-none, named_on}
 use Rattle.cmap_load.proofs.Numbered.{text_at-got, texts_still}
 
 pub Grows-none : (table : Table) → Grows table table
-Grows-none table = record { nodes = refl; heights = refl; budget = refl; contents = refl; found = λ name file is. is; back = λ name i is. is }
+Grows-none table = record { graph = IsKept-none table.graph; contents = refl }
 
 pub Grows-more : (a b c : Table) → Grows a b → Grows b c → Grows a c
-Grows-more a b c first second = record {
-  nodes = second.nodes ∙ first.nodes;
-  heights = second.heights ∙ first.heights;
-  budget = second.budget ∙ first.budget;
-  contents = second.contents ∙ first.contents;
-  found = λ name file is. second.found name file (first.found name file is);
-  back = λ name i is. first.back name i (second.back name i is);
+Grows-more a b c first second = record { graph = IsKept-more a.graph b.graph c.graph first.graph second.graph; contents = second.contents ∙ first.contents }
+
+pub IsTable-kept : (old new : Table) → Grows old new → IsTable old → IsTable new
+IsTable-kept old new grows is = record {
+  graph = IsGraph-kept old.graph new.graph grows.graph is.graph;
+  contents = ap length grows.contents ∙ is.contents ∙ sym (ap length grows.graph.nodes);
 }
 
--- one name more
-pub Grows-named : (old new : Table) → new.graph.nodes ≡ old.graph.nodes → new.graph.heights ≡ old.graph.heights → new.graph.budget ≡ old.graph.budget → new.contents ≡ old.contents
-    → new.graph.found.items ≡ old.graph.found.items ++ None ∷ [] → Grows old new
-Grows-named old new nodes heights budget contents found = record {
-  nodes = nodes;
-  heights = heights;
-  budget = budget;
-  contents = contents;
-  found = λ number file is. ap (λ l. slice_get l number) found ∙ slice_get_left old.graph.found.items (None ∷ []) number file is;
-  back = λ number i is. elim (slice_get_pushed old.graph.found.items None number (Some i) (ap (λ l. slice_get l number) (sym found) ∙ is)) [
-    | inl before ↦ before
-    | inr last ↦ (let e : Some i ≡ None = last.1 in absurd (cc))
-  ];
-}
+pub HasTexts-same : (texts : List (List ℕ)) (old new : Graph) → new.found.items ≡ old.found.items → HasTexts texts old → HasTexts texts new
+HasTexts-same texts old new same has = record { long = ap length same ∙ has.long; distinct = has.distinct }
 
 pub IsMore-none : (texts : List (List ℕ)) → IsMore texts texts
 IsMore-none texts = ([], sym (append-nil texts))

@@ -206,3 +206,15 @@ module _ (graph : Graph) where
   IsNext (next.Wanted wanted) = IsAwaiting wanted
   IsNext (next.TooLong names) = IsTooLong names.items
   IsNext (next.OverBudget names) = IsOverBudget names.items
+
+-- ---- a graph that grows
+-- there may be more names without files, and nothing else is new
+pub record IsKept (old new : Graph) : Type 0 where
+  pub budget : new.budget ≡ old.budget
+  pub names : length old.found.items ≤ length new.found.items
+  pub found : (name : ℕ) (file : Option ℕ) → slice_get old.found.items name ≡ Some file → slice_get new.found.items name ≡ Some file
+  pub back : (name i : ℕ) → IsFileOf new name i → IsFileOf old name i
+  pub nodes : new.nodes.items ≡ old.nodes.items
+  pub heights : new.heights.items ≡ old.heights.items
+  pub costs : new.costs.items ≡ old.costs.items
+  pub firsts : new.firsts.items ≡ old.firsts.items

@@ -1,6 +1,5 @@
 -- The known facts about files, by the answers to the names of the files that other files use.
-use Rattle.std.specs.Prelude.{◌≡◌, ℕ, zero, suc, ◌<◌, ◌≤◌, ◌⊎◌, Bool, true, false, List, [], ◌∷◌, ◌++◌, Contains, length, map, sum, bytes_eq, MatchOption, Option, Some, None, option_and_then, slice_get, if◌then◌else◌}
-use Rattle.std.specs.Option.{option_copied}
+use Rattle.std.specs.Prelude.{◌≡◌, ℕ, zero, suc, ◌<◌, ◌≤◌, ◌⊎◌, Bool, true, false, List, [], ◌∷◌, ◌++◌, Contains, length, sum, bytes_eq, MatchOption, Option, Some, None, option_and_then, slice_get, if◌then◌else◌}
 use Rattle.cmap_values.specs.Files.{File}
 use Rattle.cmap_values.specs.Only.{IsOnly, HoldsOfNone}
 use Rattle.cmap_binary.specs.Bundles.{PrefixTables}

@@ -7,7 +7,7 @@ use Rattle.cmap_values.specs.NamesSeen.{names_seen}
 use Rattle.cmap_values.specs.declared.file.File as parsed
 use Rattle.cmap_binary.specs.Bundles.{PrefixTables}
 use Rattle.cmap_layers.specs.Layers.{Layer}
-use Rattle.cmap_load.specs.Graphs.{AreNamed, IsFileOf, IsGraph}
+use Rattle.cmap_load.specs.Graphs.{AreNamed, IsFileOf, IsGraph, IsKept}
 use Rattle.cmap_load.specs.Loading.{Answer, MeansOnly, OfBytes, bytes_at, first_answer}
 use Rattle.cmap_load.specs.Numbers.{AreDistinct, IsMore, text_at}
 use Rattle.cmap_load.specs.declared.graph.Graph.{Graph}
@@ -41,14 +41,10 @@ pub record IsEmpty (budget : Option ℕ) (table : Table) : Type 0 where
   pub nodes : table.graph.nodes.items ≡ []
   pub within : table.graph.budget ≡ budget
 
--- a table has more names, and no further files
+-- a table may have more names, and has no further files
 pub record Grows (old new : Table) : Type 0 where
-  pub nodes : new.graph.nodes ≡ old.graph.nodes
-  pub heights : new.graph.heights ≡ old.graph.heights
-  pub budget : new.graph.budget ≡ old.graph.budget
-  pub contents : new.contents ≡ old.contents
-  pub found : (name : ℕ) (file : Option ℕ) → slice_get old.graph.found.items name ≡ Some file → slice_get new.graph.found.items name ≡ Some file
-  pub back : (name i : ℕ) → IsFileOf new.graph name i → IsFileOf old.graph name i
+  pub graph : IsKept old.graph new.graph
+  pub contents : new.contents.items ≡ old.contents.items
 
 -- a name has no file yet
 abbrev pub IsNew : Graph → Option ℕ → Type 0

@@ -108,7 +108,7 @@ fn refusal_of<'a>(
     ensures cause { IfOk result (λ refusal. refusal.cause ≡ refused.now.cause) }
 {
     let mut names = Vec::new(alloc);
-    for name in &refused.names {
+    for name in refused.names.as_slice() {
         names.push(refused.list.texts[*name])?;
     }
     Ok(Refusal {

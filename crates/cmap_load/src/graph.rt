@@ -1,17 +1,20 @@
 //! Files that use each other, by numbers: which files are known to be whole, and which file is
 //! wanted next.
 
-ghost use Rattle.std.specs.Prelude.{◌≡◌, ◌++◌, ◌<◌, ◌≤◌, ◌∷◌, [], ⊤, IfOk, MatchOption, None, OnOk, Some, length, slice_get, slice_set};
-ghost use Rattle.cmap_load.specs.Graphs.{AreFirst, AreNamed, IsBegun, IsGraph, IsLook, IsNext, IsPassed, IsPassedOver, IsStep, IsStuck};
+ghost use Rattle.std.specs.Prelude.{◌≡◌, ◌++◌, ◌<◌, ◌≤◌, ◌∷◌, [], ⊤, MatchOption, None, OnErr, OnOk, Some, length, slice_get, slice_set};
+ghost use Rattle.std.specs.Vec.{vec_capacity, vec_len};
+ghost use Rattle.cmap_load.specs.Graphs.{AreFirst, AreNamed, IsBegun, IsGraph, IsKept, IsLook, IsNext, IsPassed, IsPassedOver, IsStep, IsStuck};
 ghost use Rattle.cmap_load.specs.Loading.{IsLeft};
+ghost use Rattle.cmap_load.specs.Tables.{IsNew};
 ghost use Rattle.cmap_load.specs.declared.graph.Node.{Node};
 
 mod step;
 
 use crate::budget::{spend, spent};
 use crate::chain::MOST_FILES;
-pub(crate) use crate::graph::step::{Next, Wanted};
+pub(crate) use crate::graph::step::{Next, Trail, Wanted};
 use crate::graph::step::{FirstUses, Look, NO_USES, Passed, Step, Stuck};
+use arrayvec::ArrayVec;
 use std::alloc::{AllocError, Global};
 
 /// The height of a file that isn't known to be whole: more files than may stand in a chain.
@@ -59,54 +62,52 @@ impl Graph {
         }
     }
 
-    /// Adds a name without a file, and returns its number.
-    pub(crate) fn add_name(&mut self) -> Result<usize, AllocError>
-        requires graph { IsGraph self.old }
-        ensures graph { OnOk result (IsGraph self.new) }
-        ensures found { OnOk result (self.new.found.items ≡ self.old.found.items ++ None ∷ []) }
-        ensures number { IfOk result (λ name. name ≡ length self.old.found.items) }
-        ensures nodes { self.new.nodes ≡ self.old.nodes }
-        ensures heights { self.new.heights ≡ self.old.heights }
-        ensures budget { self.new.budget ≡ self.old.budget }
+    /// Makes memory for a name.
+    pub(crate) fn reserve_name(&mut self) -> Result<(), AllocError>
+        ensures kept { IsKept self.old self.new }
+        ensures found { self.new.found.items ≡ self.old.found.items }
+        ensures reserved { OnOk result (vec_len self.new.found < vec_capacity self.new.found) }
     {
-        let name = self.found.len();
-        self.found.push(None)?;
-        Ok(name)
-    }
-
-    /// Adds the top file, which has no name.
-    pub(crate) fn add_top(&mut self, node: Node) -> Result<(), AllocError>
-        requires graph { IsGraph self.old }
-        requires named { AreNamed self.old node.uses.items }
-        ensures graph { OnOk result (IsGraph self.new) }
-        ensures found { self.new.found ≡ self.old.found }
-        ensures nodes { OnOk result (self.new.nodes.items ≡ self.old.nodes.items ++ node ∷ []) }
-        ensures heights { OnOk result (self.new.heights.items ≡ self.old.heights.items ++ 17 ∷ []) }
-        ensures budget { self.new.budget ≡ self.old.budget }
-    {
-        self.push(node)?;
+        self.found.reserve(1)?;
         Ok(())
     }
 
-    /// Adds the file of a name that has no file.
-    pub(crate) fn add_file(&mut self, name: usize, node: Node) -> Result<(), AllocError>
+    /// Adds a name without a file. Memory was made for it.
+    pub(crate) fn add_name(&mut self)
+        requires reserved { vec_len self.old.found < vec_capacity self.old.found }
+        ensures kept { IsKept self.old self.new }
+        ensures found { self.new.found.items ≡ self.old.found.items ++ None ∷ [] }
+    {
+        self.found.push_reserved(None);
+    }
+
+    /// Adds the file of a name that has no file, or the top file, which has no name.
+    pub(crate) fn add(&mut self, name: Option<usize>, node: Node) -> Result<(), AllocError>
         requires graph { IsGraph self.old }
-        requires new { slice_get self.old.found.items name ≡ Some None }
+        requires new { IsNew self.old name }
         requires named { AreNamed self.old node.uses.items }
-        ensures graph { OnOk result (IsGraph self.new) }
-        ensures found { self.new.found.items
-            ≡ slice_set self.old.found.items name (Some (length self.old.nodes.items)) }
+        ensures graph { IsGraph self.new }
+        ensures kept { OnErr result (IsKept self.old self.new) }
+        ensures same { OnErr result (self.new.found ≡ self.old.found) }
+        ensures found { OnOk result (MatchOption name (self.new.found ≡ self.old.found)
+            (λ name. self.new.found.items
+            ≡ slice_set self.old.found.items name (Some (length self.old.nodes.items)))) }
         ensures nodes { OnOk result (self.new.nodes.items ≡ self.old.nodes.items ++ node ∷ []) }
         ensures heights { OnOk result (self.new.heights.items ≡ self.old.heights.items ++ 17 ∷ []) }
         ensures budget { self.new.budget ≡ self.old.budget }
     {
-        self.found[name] = Some(self.nodes.len());
+        let index = self.nodes.len();
         self.push(node)?;
+        let Some(name) = name else {
+            return Ok(());
+        };
+        self.found[name] = Some(index);
         Ok(())
     }
 
     /// Adds a file of which nothing is known.
     fn push(&mut self, node: Node) -> Result<(), AllocError>
+        ensures kept { OnErr result (IsKept self.old self.new) }
         ensures nodes { OnOk result (self.new.nodes.items ≡ self.old.nodes.items ++ node ∷ []) }
         ensures heights { OnOk result (self.new.heights.items ≡ self.old.heights.items ++ 17 ∷ []) }
         ensures costs { OnOk result (self.new.costs.items ≡ self.old.costs.items ++ 0 ∷ []) }
@@ -115,10 +116,14 @@ impl Graph {
         ensures found { self.new.found ≡ self.old.found }
         ensures budget { self.new.budget ≡ self.old.budget }
     {
-        self.nodes.push(node)?;
-        self.heights.push(UNKNOWN)?;
-        self.costs.push(0)?;
-        self.firsts.push(NO_USES)?;
+        self.nodes.reserve(1)?;
+        self.heights.reserve(1)?;
+        self.costs.reserve(1)?;
+        self.firsts.reserve(1)?;
+        self.nodes.push_reserved(node);
+        self.heights.push_reserved(UNKNOWN);
+        self.costs.push_reserved(0);
+        self.firsts.push_reserved(NO_USES);
         Ok(())
     }
 
@@ -247,31 +252,31 @@ impl Graph {
     }
 
     /// The first file that is wanted or at fault, or a file that is found to be whole.
-    fn walk(&self, alloc: Global) -> Result<Step, AllocError>
+    fn walk(&self) -> Step
         requires graph { IsGraph self.now }
         requires begun { IsBegun self.now }
-        ensures { IfOk result (IsStep self.now) }
+        ensures { IsStep self.now result }
     {
-        let mut names = Vec::new(alloc);
+        let mut names = ArrayVec::new();
         let mut at = 0;
         let mut most = MOST_FILES;
         let mut left = self.budget;
         'down: loop {
             match self.look(at, most, left) {
                 Look::Whole(height, after) => {
-                    return Ok(Step::Whole(at, height, spent(left, after)));
+                    return Step::Whole(at, height, spent(left, after));
                 }
-                Look::OverBudget => return Ok(Step::OverBudget(names)),
+                Look::OverBudget => return Step::OverBudget(names),
                 Look::Stuck(stuck) => {
-                    names.push(stuck.name)?;
+                    names.push(stuck.name);
                     if most == 1 {
-                        return Ok(Step::TooLong(names));
+                        return Step::TooLong(names);
                     }
                     left = stuck.left;
                     let Some(i) = stuck.found else {
                         let name = stuck.name;
                         let wanted = Wanted { names, name, left };
-                        return Ok(Step::Wanted(at, stuck.before, wanted));
+                        return Step::Wanted(at, stuck.before, wanted);
                     };
                     at = i;
                     most -= 1;
@@ -281,31 +286,31 @@ impl Graph {
     }
 
     /// Goes on until a file is wanted or at fault, or all files are whole.
-    pub(crate) fn advance(&mut self, alloc: Global) -> Result<Next, AllocError>
+    pub(crate) fn advance(&mut self) -> Next
         requires graph { IsGraph self.old }
         requires begun { IsBegun self.old }
-        ensures graph { OnOk result (IsGraph self.new) }
-        ensures begun { OnOk result (IsBegun self.new) }
+        ensures graph { IsGraph self.new }
+        ensures begun { IsBegun self.new }
         ensures found { self.new.found ≡ self.old.found }
         ensures nodes { self.new.nodes ≡ self.old.nodes }
         ensures budget { self.new.budget ≡ self.old.budget }
-        ensures next { IfOk result (IsNext self.new) }
+        ensures next { IsNext self.new result }
     {
         'on: loop {
-            match self.walk(alloc)? {
+            match self.walk() {
                 Step::Whole(at, height, cost) => {
                     if at == 0 {
-                        return Ok(Next::Whole);
+                        return Next::Whole;
                     }
                     self.heights[at] = height;
                     self.costs[at] = cost;
                 }
                 Step::Wanted(at, firsts, wanted) => {
                     self.firsts[at] = firsts;
-                    return Ok(Next::Wanted(wanted));
+                    return Next::Wanted(wanted);
                 }
-                Step::TooLong(names) => return Ok(Next::TooLong(names)),
-                Step::OverBudget(names) => return Ok(Next::OverBudget(names)),
+                Step::TooLong(names) => return Next::TooLong(names),
+                Step::OverBudget(names) => return Next::OverBudget(names),
             }
         }
     }

@@ -1,12 +1,12 @@
 //! A loader that its caller asks for the wanted files, and that never asks the caller.
 
-ghost use Rattle.std.specs.Prelude.{◌≡◌, ◌⊎◌, ◌+◌, ◌++◌, ◌∷◌, [], IfErr, IfOk, IfSome, IsSome, List, None, OnOk, Option, Some, map, slice_get};
+ghost use Rattle.std.specs.Prelude.{◌≡◌, ◌⊎◌, ◌+◌, ◌++◌, ◌∷◌, [], IfErr, IfOk, IfSome, IsSome, List, None, OnErr, OnOk, Option, Some, map, option_map, slice_get};
 ghost use Rattle.std.specs.Option.{option_copied};
 ghost use Rattle.cmap_load.specs.Graphs.{AreNamed, IsBegun, IsNext};
-ghost use Rattle.cmap_load.specs.Loads.{AreLoadedBy, FitsBy, IsAwaited, IsLoading, IsRefusedFile, IsSet, LeadsToGiven, NextIs, Reads, budget_of, files_in, given_to, wanted_of};
+ghost use Rattle.cmap_load.specs.Loads.{AreLoadedBy, FitsBy, HasGrown, IsAwaited, IsLoading, IsRead, IsRefusedBy, IsRefusedFile, IsSet, IsUnchanged, NextIs, Reads, Refused, budget_of, files_in, refusal_of, refused_of, wanted_of};
 ghost use Rattle.cmap_load.specs.Loading.{Answer, FailsToOpen, IsOpened, IsWanted};
-ghost use Rattle.cmap_load.specs.Numbers.{AreWithin, IsMore, text_at};
-ghost use Rattle.cmap_load.specs.Tables.{Grows, IsAdded, IsNew};
+ghost use Rattle.cmap_load.specs.Numbers.{AreWithin, text_at};
+ghost use Rattle.cmap_load.specs.Tables.{IsAdded, IsNew};
 ghost use Rattle.cmap_binary.specs.Bundles.{PrefixTables};
 ghost use Rattle.cmap_binary.specs.BundleSeen.{tables_given};
 ghost use Rattle.cmap_values.specs.FilesSeen.{file_seen};
@@ -15,10 +15,11 @@ ghost use Rattle.cmap_values.specs.Outcomes.{Outcome, RefusesWith};
 
 use crate::budget::spend;
 use crate::chain::read_file;
-use crate::graph::{Next, Node, Wanted};
+use crate::graph::{Next, Node, Trail, Wanted};
 use crate::names::Names;
 use crate::refusal::{Cause, Refusal};
 use crate::table::{Contents, Table};
+use arrayvec::ArrayVec;
 use cmap_binary::Bundle;
 use cmap_layers::layers::Layers;
 use cmap_values::fault::Fault;
@@ -29,7 +30,7 @@ use std::mem;
 /// A file at fault: the numbers of the names that lead to it, and the cause.
 #[derive(Drop)]
 pub(crate) struct FaultyFile {
-    pub(crate) names: Vec<usize>,
+    pub(crate) names: Trail,
     pub(crate) cause: Cause,
 }
 
@@ -65,7 +66,7 @@ impl State {
 #[derive(Drop)]
 pub struct RefusedFile<N> {
     pub(crate) list: N,
-    pub(crate) names: Vec<usize>,
+    pub(crate) names: Trail,
     pub cause: Cause,
 }
 
@@ -77,14 +78,7 @@ impl<'d, N: Names<'d>> RefusedFile<N> {
             ≡ map (text_at (N.texts self.now.list)) self.now.names.items) }
         ensures cause { IfOk result (λ refusal. refusal.cause ≡ self.now.cause) }
     {
-        let mut names = Vec::new(alloc);
-        for name in &self.names {
-            names.push(self.list.text(*name))?;
-        }
-        Ok(Refusal {
-            names,
-            cause: self.cause,
-        })
+        refusal(alloc, &self.list, &self.names, self.cause)
     }
 }
 
@@ -125,9 +119,18 @@ impl<'d, N: Names<'d>> Loader<N> {
             table: Table::new(alloc, budget),
             state: State::Whole,
         };
-        let names = Vec::new(alloc);
-        load.take(None, names, budget, Some(data), bundle)?;
-        Ok(load)
+        match load.take(None, budget, Some(data), bundle) {
+            Ok(next) => {
+                load.state = State::after(next);
+                Ok(load)
+            }
+            Err(Fault::Refused(cause)) => {
+                let names = ArrayVec::new();
+                load.state = State::Refused(FaultyFile { names, cause });
+                Ok(load)
+            }
+            Err(Fault::Memory) => Err(AllocError),
+        }
     }
 
     /// The name of the wanted file; `None` if no further file is wanted.
@@ -146,7 +149,7 @@ impl<'d, N: Names<'d>> Loader<N> {
     }
 
     /// Supplies the wanted file; `None` if no file has the name. The bundle is the same at each
-    /// call.
+    /// call. If memory runs out, the loader still wants the file.
     pub fn supply(
         &mut self,
         bytes: Option<&'d [u8]>,
@@ -154,8 +157,9 @@ impl<'d, N: Names<'d>> Loader<N> {
     ) -> Result<(), AllocError>
         requires loading { IsLoading N.texts N.are_numbered self.old }
         requires wanted { IsSome (wanted_of N.texts self.old) }
-        ensures loading { OnOk result (IsLoading N.texts N.are_numbered self.new) }
-        ensures budget { OnOk result (budget_of self.new ≡ budget_of self.old) }
+        ensures loading { IsLoading N.texts N.are_numbered self.new }
+        ensures budget { budget_of self.new ≡ budget_of self.old }
+        ensures unchanged { OnErr result (IsUnchanged N.texts self.old self.new) }
         ensures reads { OnOk result (IfSome (wanted_of N.texts self.old) (λ name. (answers : List Answer)
             → Reads N.texts (tables_given bundle.entry) answers self.old
             → Reads N.texts (tables_given bundle.entry)
@@ -169,8 +173,37 @@ impl<'d, N: Names<'d>> Loader<N> {
             unreachable!();
         };
         let Wanted { names, name, left } = wanted;
-        self.take(Some(name), names, left, bytes, bundle)?;
-        Ok(())
+        match self.take(Some(name), left, bytes, bundle) {
+            Ok(next) => {
+                self.state = State::after(next);
+                Ok(())
+            }
+            Err(Fault::Refused(cause)) => {
+                self.state = State::Refused(FaultyFile { names, cause });
+                Ok(())
+            }
+            Err(Fault::Memory) => {
+                self.state = State::Wanted(Wanted { names, name, left });
+                Err(AllocError)
+            }
+        }
+    }
+
+    /// The refusal of the first file, if it is refused: the names that lead to the file at fault,
+    /// and the cause.
+    pub fn refusal(&self, alloc: Global) -> Result<Option<Refusal<'_>>, AllocError>
+        requires { IsLoading N.texts N.are_numbered self.now }
+        ensures refused { IfOk result
+            (λ refusal. option_map refused_of refusal ≡ refusal_of N.texts self.now) }
+        ensures blames { IfOk result (λ refusal. IfSome refusal
+            (λ refusal. IsRefusedBy N.texts self.now (refused_of refusal))) }
+    {
+        match &self.state {
+            State::Refused(FaultyFile { names, cause }) => {
+                Ok(Some(refusal(alloc, &self.list, names, *cause)?))
+            }
+            _ => Ok(None),
+        }
     }
 
     /// The layers of the first file. A refusal contains the names that lead to the file at fault,
@@ -200,38 +233,29 @@ impl<'d, N: Names<'d>> Loader<N> {
         }
     }
 
-    /// Takes the answer to a name, or the top file, to which these names lead. The file is read
-    /// within the rest of the budget.
+    /// Takes the answer to a name, or the top file, and goes on. The file is read within the rest
+    /// of the budget.
     fn take(
         &mut self,
         name: Option<usize>,
-        names: Vec<usize>,
         left: Option<u64>,
         bytes: Option<&'d [u8]>,
         bundle: Option<&Bundle<'_>>,
-    ) -> Result<(), AllocError>
-        requires { IsAwaited N.texts N.are_numbered self.old name names.items }
-        ensures loading { OnOk result (IsLoading N.texts N.are_numbered self.new) }
-        ensures budget { OnOk result (budget_of self.new ≡ budget_of self.old) }
-        ensures reads { OnOk result ((answers : List Answer)
-            → LeadsToGiven N.texts (tables_given bundle.entry) answers self.old name names.items left
-            (option_copied bytes.entry)
-            → Reads N.texts (tables_given bundle.entry)
-            (answers ++ given_to N.texts self.old name (option_copied bytes.entry) ∷ []) self.new) }
-        ensures further { OnOk result (IsSome (wanted_of N.texts self.new)
-            → files_in self.new ≡ files_in self.old + 1) }
+    ) -> Result<Next, Fault<Cause>>
+        requires { IsAwaited N.texts N.are_numbered self.old name }
+        ensures set { IsSet N.texts N.are_numbered self.new }
+        ensures grown { OnErr result (HasGrown N.texts self.old self.new) }
+        ensures budget { budget_of self.new ≡ budget_of self.old }
+        ensures read { IfOk result (IsRead N.texts (tables_given bundle.entry) self.old self.new name
+            (option_copied bytes.entry)) }
+        ensures fails { IfErr result (RefusesWith (λ cause. (self.new ≡ self.old)
+            × FailsToOpen (tables_given bundle.entry) (option_copied bytes.entry) left cause)) }
+        ensures further { OnOk result (files_in self.new ≡ files_in self.old + 1) }
     {
-        match open_file(self.alloc, bytes, bundle, left) {
-            Ok((length, file)) => {
-                let next = self.add(name, length, file)?;
-                self.state = State::after(next);
-                Ok(())
-            }
-            Err(Fault::Refused(cause)) => {
-                self.state = State::Refused(FaultyFile { names, cause });
-                Ok(())
-            }
-            Err(Fault::Memory) => Err(AllocError),
+        let (length, file) = open_file(self.alloc, bytes, bundle, left)?;
+        match self.add(name, length, file) {
+            Ok(next) => Ok(next),
+            Err(AllocError) => Err(Fault::Memory),
         }
     }
 
@@ -240,7 +264,8 @@ impl<'d, N: Names<'d>> Loader<N> {
         requires set { IsSet N.texts N.are_numbered self.old }
         requires new { IsNew self.old.table.graph name }
         requires begun { (self.old.table.graph.nodes.items ≡ []) ⊎ IsBegun self.old.table.graph }
-        ensures set { OnOk result (IsSet N.texts N.are_numbered self.new) }
+        ensures set { IsSet N.texts N.are_numbered self.new }
+        ensures grown { OnErr result (HasGrown N.texts self.old self.new) }
         ensures begun { OnOk result (IsBegun self.new.table.graph) }
         ensures added { OnOk result (IsAdded (N.texts self.old.list) (N.texts self.new.list)
             self.old.table self.new.table name length file.entry) }
@@ -254,16 +279,15 @@ impl<'d, N: Names<'d>> Loader<N> {
         let uses = self.numbers(&uses)?;
         let node = Node { length, uses };
         let contents = Contents { metadata, lists };
-        let next = self.table.take(self.alloc, name, node, contents)?;
+        let next = self.table.take(name, node, contents)?;
         Ok(next)
     }
 
     /// The numbers of the names of uses. New names get numbers.
     fn numbers(&mut self, uses: &[&'d [u8]]) -> Result<Vec<usize>, AllocError>
         requires { IsSet N.texts N.are_numbered self.old }
-        ensures set { OnOk result (IsSet N.texts N.are_numbered self.new) }
-        ensures grows { OnOk result (Grows self.old.table self.new.table) }
-        ensures more { OnOk result (IsMore (N.texts self.old.list) (N.texts self.new.list)) }
+        ensures set { IsSet N.texts N.are_numbered self.new }
+        ensures grown { HasGrown N.texts self.old self.new }
         ensures named { IfOk result (λ numbers. AreNamed self.new.table.graph numbers.items) }
         ensures numbers { IfOk result (λ numbers.
             map (text_at (N.texts self.new.list)) numbers.items ≡ names_seen uses.now) }
@@ -279,18 +303,37 @@ impl<'d, N: Names<'d>> Loader<N> {
     /// The number of a name. A new name gets a number.
     fn number(&mut self, name: &'d [u8]) -> Result<usize, AllocError>
         requires { IsSet N.texts N.are_numbered self.old }
-        ensures set { OnOk result (IsSet N.texts N.are_numbered self.new) }
-        ensures grows { OnOk result (Grows self.old.table self.new.table) }
-        ensures more { OnOk result (IsMore (N.texts self.old.list) (N.texts self.new.list)) }
+        ensures set { IsSet N.texts N.are_numbered self.new }
+        ensures grown { HasGrown N.texts self.old self.new }
         ensures number { IfOk result
             (λ number. slice_get (N.texts self.new.list) number ≡ Some name.now) }
     {
+        self.table.graph.reserve_name()?;
         let number = self.list.number(name)?;
         if number == self.table.graph.found.len() {
-            let _number = self.table.graph.add_name()?;
+            self.table.graph.add_name();
         }
         Ok(number)
     }
+}
+
+/// The refusal of a file: the names of these numbers, which lead to the file at fault, and the
+/// cause.
+fn refusal<'n, 'd, N: Names<'d>>(
+    alloc: Global,
+    list: &'n N,
+    numbers: &Trail,
+    cause: Cause,
+) -> Result<Refusal<'n>, AllocError>
+    requires { AreWithin (N.texts list.now) numbers.now.items }
+    ensures { IfOk result (λ refusal. refused_of refusal
+        ≡ record { names = map (text_at (N.texts list.now)) numbers.now.items; cause = cause }) }
+{
+    let mut names = Vec::new(alloc);
+    for number in numbers.as_slice() {
+        names.push(list.text(*number))?;
+    }
+    Ok(Refusal { names, cause })
 }
 
 /// The length and the contents of a file, if there is one within the rest of the budget.

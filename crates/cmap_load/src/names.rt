@@ -1,6 +1,6 @@
 //! Lists of names, in which each name has a number.
 
-ghost use Rattle.std.specs.Prelude.{◌≡◌, ◌++◌, ◌<◌, ◌∷◌, [], ℕ, IfOk, List, None, OnOk, Some, bytes_eq, if◌then◌else◌, length};
+ghost use Rattle.std.specs.Prelude.{◌≡◌, ◌++◌, ◌<◌, ◌∷◌, [], ℕ, IfOk, List, None, OnErr, OnOk, Some, bytes_eq, if◌then◌else◌, length};
 ghost use Rattle.cmap_load.specs.Numbers.{AreDistinct, IsNumbered, text_at};
 
 use cmap_values::memory::both;
@@ -24,10 +24,10 @@ pub trait Names<'d>: Sized + Drop {
     /// The number of a name. A new name is added to the list.
     fn number(&mut self, name: &'d [u8]) -> Result<usize, AllocError>
         requires { are_numbered self.old }
-        ensures numbered { OnOk result (are_numbered self.new) }
-        ensures distinct { OnOk result
-            (AreDistinct (texts self.old) → AreDistinct (texts self.new)) }
-        ensures number { IfOk result (IsNumbered (texts self.old) (texts self.new) name.now) };
+        ensures numbered { are_numbered self.new }
+        ensures distinct { AreDistinct (texts self.old) → AreDistinct (texts self.new) }
+        ensures number { IfOk result (IsNumbered (texts self.old) (texts self.new) name.now) }
+        ensures same { OnErr result (texts self.new ≡ texts self.old) };
 
     /// The name of a number.
     fn text(&self, number: usize) -> &[u8]
@@ -56,12 +56,14 @@ impl<'a> NameSlices<'a> {
     fn add(&mut self, name: &'a [u8]) -> Result<(), AllocError>
         requires numbered { AreNumbered self.old }
         requires new { number_of self.old name.now ≡ None }
-        ensures numbered { OnOk result (AreNumbered self.new) }
+        ensures numbered { AreNumbered self.new }
         ensures texts { OnOk result (self.new.texts.items ≡ self.old.texts.items ++ name.entry ∷ []) }
+        ensures same { OnErr result (self.new.texts.items ≡ self.old.texts.items) }
     {
         let number = self.texts.len();
+        self.texts.reserve(1)?;
         self.insert(name, number)?;
-        self.texts.push(name)?;
+        self.texts.push_reserved(name);
         Ok(())
     }
 
@@ -69,6 +71,8 @@ impl<'a> NameSlices<'a> {
     fn insert(&mut self, name: &'a [u8], number: usize) -> Result<(), AllocError>
         ensures numbers { OnOk result ((other : List ℕ) → number_of self.new other
             ≡ (if bytes_eq name.now other then Some number else number_of self.old other)) }
+        ensures same { OnErr result
+            ((other : List ℕ) → number_of self.new other ≡ number_of self.old other) }
         ensures texts { self.new.texts ≡ self.old.texts }
     {
         match self.numbers.insert(name, number) {
@@ -128,16 +132,18 @@ impl NameCopies {
     fn add(&mut self, name: &[u8]) -> Result<(), AllocError>
         requires numbered { AreNumbered self.old }
         requires new { number_of self.old name.now ≡ None }
-        ensures numbered { OnOk result (AreNumbered self.new) }
+        ensures numbered { AreNumbered self.new }
         ensures texts { OnOk result (texts_of self.new ≡ texts_of self.old ++ name.now ∷ []) }
+        ensures same { OnErr result (texts_of self.new ≡ texts_of self.old) }
     {
         let number = self.texts.len();
         let (key, text) = both(
             Vec::from_slice(self.alloc, name),
             Vec::from_slice(self.alloc, name),
         )?;
+        self.texts.reserve(1)?;
         self.insert(key, number)?;
-        self.texts.push(text)?;
+        self.texts.push_reserved(text);
         Ok(())
     }
 
@@ -145,6 +151,8 @@ impl NameCopies {
     fn insert(&mut self, name: Vec<u8>, number: usize) -> Result<(), AllocError>
         ensures numbers { OnOk result ((other : List ℕ) → number_of self.new other
             ≡ (if bytes_eq name.items other then Some number else number_of self.old other)) }
+        ensures same { OnErr result
+            ((other : List ℕ) → number_of self.new other ≡ number_of self.old other) }
         ensures texts { self.new.texts ≡ self.old.texts }
     {
         let _earlier = self.numbers.insert(name, number)?;

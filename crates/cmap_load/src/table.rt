@@ -1,8 +1,8 @@
 //! The files that were read, each once.
 
-ghost use Rattle.std.specs.Prelude.{◌≡◌, ◌⊎◌, ◌++◌, ◌<◌, ◌∷◌, [], ℕ, IfOk, List, MatchOption, OnOk, Some, length, slice_get, slice_set};
+ghost use Rattle.std.specs.Prelude.{◌≡◌, ◌⊎◌, ◌++◌, ◌<◌, ◌∷◌, [], ℕ, IfOk, List, MatchOption, OnErr, OnOk, Some, length, slice_get, slice_set};
 ghost use Rattle.cmap_load.specs.Graphs.{AreNamed, IsBegun, IsNext, IsWhole};
-ghost use Rattle.cmap_load.specs.Tables.{IsEmpty, IsNew, IsPushed, IsTable, LayersFrom};
+ghost use Rattle.cmap_load.specs.Tables.{Grows, IsEmpty, IsNew, IsPushed, IsTable, LayersFrom};
 ghost use Rattle.cmap_load.specs.declared.table.Contents.{Contents};
 
 use crate::graph::{Graph, Next, Node};
@@ -49,7 +49,9 @@ impl Table {
         requires table { IsTable self.old }
         requires new { IsNew self.old.graph name }
         requires named { AreNamed self.old.graph node.uses.items }
-        ensures table { OnOk result (IsTable self.new) }
+        ensures table { IsTable self.new }
+        ensures grows { OnErr result (Grows self.old self.new) }
+        ensures same { OnErr result (self.new.graph.found ≡ self.old.graph.found) }
         ensures heights { OnOk result (self.new.graph.heights.items
             ≡ self.old.graph.heights.items ++ 17 ∷ []) }
         ensures nodes { OnOk result (self.new.graph.nodes.items
@@ -62,18 +64,15 @@ impl Table {
             ≡ slice_set self.old.graph.found.items name (Some (length self.old.graph.nodes.items)))) }
         ensures budget { self.new.graph.budget ≡ self.old.graph.budget }
     {
-        match name {
-            Some(name) => self.graph.add_file(name, node)?,
-            None => self.graph.add_top(node)?,
-        }
-        self.contents.push(contents)?;
+        self.contents.reserve(1)?;
+        self.graph.add(name, node)?;
+        self.contents.push_reserved(contents);
         Ok(())
     }
 
     /// Adds the file of a name, or the top file, which has no name, and goes on.
     pub(crate) fn take(
         &mut self,
-        alloc: Global,
         name: Option<usize>,
         node: Node,
         contents: Contents,
@@ -82,14 +81,15 @@ impl Table {
         requires new { IsNew self.old.graph name }
         requires named { AreNamed self.old.graph node.uses.items }
         requires begun { (self.old.graph.nodes.items ≡ []) ⊎ IsBegun self.old.graph }
-        ensures table { OnOk result (IsTable self.new) }
+        ensures table { IsTable self.new }
+        ensures grows { OnErr result (Grows self.old self.new) }
+        ensures same { OnErr result (self.new.graph.found ≡ self.old.graph.found) }
         ensures begun { OnOk result (IsBegun self.new.graph) }
         ensures pushed { OnOk result (IsPushed self.old self.new name node contents) }
         ensures next { IfOk result (IsNext self.new.graph) }
     {
         self.push(name, node, contents)?;
-        let next = self.graph.advance(alloc)?;
-        Ok(next)
+        Ok(self.graph.advance())
     }
 
     /// The layers of the top file. The lists of each file are moved into its layer.

@@ -1,3 +1,3 @@
 -- What a loader was given, what it wants, and what its result is.
-pub use Rattle.cmap_load.specs.Loads.{AreLoadedBy, FitsBy, IsLoading, IsRefusedFile, Reads, budget_of, files_in, files_left, wanted_of}
+pub use Rattle.cmap_load.specs.Loads.{AreLoadedBy, FitsBy, IsLoading, IsRefusedBy, IsRefusedFile, IsUnchanged, Reads, budget_of, files_in, files_left, refusal_of, refused_of, wanted_of}
 pub use Rattle.cmap_load.specs.NameCopies.{AreNumbered, texts_of}

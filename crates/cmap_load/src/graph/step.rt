@@ -1,5 +1,10 @@
 //! Results on the way to the next file, by numbers.
 
+use arrayvec::ArrayVec;
+
+/// The names that lead to a file; at most as many as the files of a chain.
+pub(crate) type Trail = ArrayVec<usize, 16>;
+
 /// The first uses of a file, whose files are whole.
 #[derive(Clone, Copy)]
 pub(crate) struct FirstUses {
@@ -54,7 +59,7 @@ pub(crate) enum Look {
 #[derive(Drop)]
 pub(crate) struct Wanted {
     /// The names that lead to the file, its own name last.
-    pub(crate) names: Vec<usize>,
+    pub(crate) names: Trail,
     /// The name of the file.
     pub(crate) name: usize,
     /// What is left of the budget before the file.
@@ -70,9 +75,9 @@ pub(crate) enum Step {
     /// The file at this index uses the wanted file, after these first uses.
     Wanted(usize, FirstUses, Wanted),
     /// The chain of these names is too long.
-    TooLong(Vec<usize>),
+    TooLong(Trail),
     /// The file that these names lead to has more bytes than are left of the budget.
-    OverBudget(Vec<usize>),
+    OverBudget(Trail),
 }
 
 /// The state of all files: whole, or one file is wanted or at fault.
@@ -81,7 +86,7 @@ pub(crate) enum Next {
     Whole,
     Wanted(Wanted),
     /// The chain of these names is too long.
-    TooLong(Vec<usize>),
+    TooLong(Trail),
     /// The file that these names lead to has more bytes than are left of the budget.
-    OverBudget(Vec<usize>),
+    OverBudget(Trail),
 }

@@ -20,7 +20,7 @@ returns-in_ok-refusal-in-Err-Refused g c =
     let loads = c.in_ok-supply_all.ensures.loads budget c.args.«data».now (Loads-new c.in_ok-load.load c.in_ok-load.ensures.budget c.in_ok-load.ensures.reads) in
     let refusal = c.in_ok-refusal-in-Err-Refused.refusal in
     let refused = rw c.in-Err-Refused.field-0-is at c.in-Err-Refused.ensures.refuses in
-    let by = refused.by tables loads.answers loads.reads in
+    let by = refused.by.by tables loads.answers loads.reads in
     let told = c.in_ok-refusal-in-Err-Refused.ensures in
     let is = IsRefused-same tables loads.answers by loads.within told.names told.cause in
     found tables budget c.requires.by_name loads.answers loads.first loads.agrees (Err (fault.Refused refusal)) tt tt is

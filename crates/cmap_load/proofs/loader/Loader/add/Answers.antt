@@ -1,5 +1,7 @@
 use Rattle.std.proofs.Common.{◌∙◌, ap, refl}
 use Rattle.cmap_values.specs.NamesSeen.{names_seen}
+use Rattle.cmap_load.proofs.Grown.{HasGrown-more, on_err}
+use Rattle.cmap_load.proofs.TableGrowing.{HasTexts-same, IsMore-none}
 use Rattle.cmap_load.proofs.loader.Loader.add.Goals as goal
 
 pub returns-clause-added : goal.returns-clause-added
@@ -7,8 +9,8 @@ returns-clause-added g c =
     let numbered = c.in_ok-uses.ensures in
     record {
       mid = c.numbers.new.self.table;
-      grows = numbered.grows;
-      more = numbered.more;
+      grows = numbered.grown.grows;
+      more = numbered.grown.more;
       table = numbered.set.table;
       texts = numbered.set.texts_are;
       node = record { length = c.args.length; uses = c.in_ok-uses.uses };
@@ -17,3 +19,17 @@ returns-clause-added g c =
       uses = numbered.numbers ∙ ap names_seen c.deref.ensures.value;
       pushed = c.in_ok-next.ensures.pushed;
     }
+
+pub returns-in_err-next-clause-set : goal.returns-in_err-next-clause-set
+returns-in_err-next-clause-set g c =
+    let numbered = c.in_ok-uses.ensures in let mid = c.numbers.new.self in
+    record {
+      numbered = numbered.set.numbered;
+      table = c.take.ensures.table;
+      texts_are = HasTexts-same (g.N.Names.texts mid.list) mid.table.graph c.take.new.self.graph (ap (λ v. v.items) c.in_err-next.ensures.same) numbered.set.texts_are;
+    }
+
+pub returns-in_err-next-clause-grown : goal.returns-in_err-next-clause-grown
+returns-in_err-next-clause-grown g c =
+    let texts = g.N.Names.texts in let mid = c.numbers.new.self in
+    on_err c.from_residual-in_err-next.result (HasGrown-more texts c.args.self.now mid (record mid { table = c.take.new.self }) c.in_ok-uses.ensures.grown (record { grows = c.in_err-next.ensures.grows; more = IsMore-none (texts mid.list) }))
