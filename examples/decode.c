@@ -14,14 +14,8 @@
 #include <stdlib.h>
 #include <string.h>
 
-/* The most files that are read, the most names that one of them uses, and the bytes of a buffer. */
-enum { MOST_FILES = 64, MOST_NAMES = 64, ROOM = 4096 };
-
-/* Files with their names. The program owns the bytes of both. */
-struct files {
-    hayro_cmap_file items[MOST_FILES];
-    size_t len;
-};
+/* The bytes of a buffer. */
+enum { ROOM = 4096 };
 
 static _Noreturn void fail(const char *what, const char *why) {
     fprintf(stderr, "%s: %s\n", what, why);
@@ -53,48 +47,6 @@ static uint8_t *read_file(const char *folder, const char *name, size_t *len) {
     return bytes;
 }
 
-static bool is_known(const struct files *files, const uint8_t *name, size_t len) {
-    for (size_t i = 0; i < files->len; i++) {
-        const hayro_cmap_file *file = &files->items[i];
-        if (file->name_len == len && memcmp(file->name, name, len) == 0) return true;
-    }
-    return false;
-}
-
-/* Adds the file of this name, if the folder has it. */
-static void add_file(struct files *files, const char *folder, const uint8_t *name, size_t len) {
-    if (is_known(files, name, len) || memchr(name, 0, len)) return;
-    if (files->len == MOST_FILES) fail("decode", "too many files are used");
-    char *copy = allocated(len);
-    memcpy(copy, name, len);
-    copy[len] = 0;
-    hayro_cmap_file file = {(uint8_t *)copy, len, NULL, 0};
-    file.bytes = read_file(folder, copy, &file.bytes_len);
-    if (file.bytes) files->items[files->len++] = file;
-    else free(copy);
-}
-
-/* Adds the files that a file uses. A malformed file adds none; hayro_cmap_explain then gives the reason. */
-static void add_used(struct files *files, const char *folder, const uint8_t *data, size_t len) {
-    hayro_cmap_bundle none = HAYRO_CMAP_EMPTY;
-    uint8_t room[ROOM];
-    size_t lens[MOST_NAMES], names, needed;
-    hayro_cmap_status status =
-        hayro_cmap_uses(data, len, &none, lens, MOST_NAMES, &names, room, ROOM, &needed);
-    if (status == HAYRO_CMAP_NO_MEMORY) fail("decode", "out of memory");
-    if (status == HAYRO_CMAP_NO_ROOM) fail("decode", "too many files are used");
-    if (status != HAYRO_CMAP_OK) return;
-    const uint8_t *name = room;
-    for (size_t i = 0; i < names; name += lens[i++]) add_file(files, folder, name, lens[i]);
-}
-
-static void free_files(struct files *files) {
-    for (size_t i = 0; i < files->len; i++) {
-        free((void *)files->items[i].name);
-        free((void *)files->items[i].bytes);
-    }
-}
-
 /* Prints why a file is refused: the one at fault, and what is wrong with it. */
 static _Noreturn void fail_refused(const char *name, const hayro_cmap_fault *fault,
                                    const uint8_t *names) {
@@ -108,26 +60,39 @@ static _Noreturn void fail_refused(const char *name, const hayro_cmap_fault *fau
     exit(1);
 }
 
+/* Supplies each file that the loader wants, if the folder has it. */
+static hayro_cmap_status supply_files(hayro_cmap_loader *loader, const char *folder) {
+    hayro_cmap_bundle none = HAYRO_CMAP_EMPTY;
+    hayro_cmap_status status = HAYRO_CMAP_OK;
+    uint8_t name[ROOM + 1];
+    size_t name_len, len = 0;
+    while (status == HAYRO_CMAP_OK && hayro_cmap_wanted(loader, name, ROOM, &name_len) == HAYRO_CMAP_OK) {
+        name[name_len] = 0;
+        uint8_t *file = memchr(name, 0, name_len) ? NULL : read_file(folder, (const char *)name, &len);
+        status = hayro_cmap_supply(loader, &none, file != NULL, hayro_cmap_bytes(file), file ? len : 0);
+        free(file);
+    }
+    return status;
+}
+
 /* Reads the map of a file of the folder. It returns whether the file is there. */
 static bool open_map(hayro_cmap *map, const char *folder, const char *name) {
-    struct files files = {.len = 0};
-    size_t len = 0, needed;
+    size_t len = 0, needed = 0;
     uint8_t *data = read_file(folder, name, &len);
     if (!data) return false;
-    add_used(&files, folder, data, len);
-    for (size_t i = 0; i < files.len; i++)
-        add_used(&files, folder, files.items[i].bytes, files.items[i].bytes_len);
     hayro_cmap_bundle none = HAYRO_CMAP_EMPTY;
-    hayro_cmap_fault fault;
-    /* No name is longer than ROOM, or add_used has failed. */
-    uint8_t names[HAYRO_CMAP_MOST_NAMES * ROOM];
-    hayro_cmap_status status =
-        hayro_cmap_explain(map, data, len, &none, files.items, files.len, HAYRO_CMAP_NO_BUDGET,
-                           &fault, names, sizeof names, &needed);
-    if (status == HAYRO_CMAP_NO_MEMORY) fail(name, "out of memory");
-    if (status != HAYRO_CMAP_OK) fail_refused(name, &fault, names);
-    free_files(&files);
+    hayro_cmap_loader loader = HAYRO_CMAP_EMPTY;
+    hayro_cmap_status status = hayro_cmap_load(&loader, data, len, &none, HAYRO_CMAP_NO_BUDGET);
     free(data);
+    if (status == HAYRO_CMAP_OK) status = supply_files(&loader, folder);
+    hayro_cmap_fault fault;
+    uint8_t names[HAYRO_CMAP_MOST_NAMES * ROOM];
+    if (status == HAYRO_CMAP_OK)
+        status = hayro_cmap_finish(map, &loader, &fault, names, sizeof names, &needed);
+    hayro_cmap_loader_free(&loader);
+    if (status == HAYRO_CMAP_NO_MEMORY) fail(name, "out of memory");
+    if (status == HAYRO_CMAP_ABSENT || needed > sizeof names) fail(name, "a name is too long");
+    if (status != HAYRO_CMAP_OK) fail_refused(name, &fault, names);
     return true;
 }
 

@@ -49,7 +49,7 @@ static std::optional<hayro::Map> map_of(const std::string &folder, const std::st
     auto get = [&](const std::string &used) { return read(folder, used); };
     auto file = get(name);
     if (!file) return std::nullopt;
-    auto map = hayro::Map::parse(*file, hayro::used_files(*file, get));
+    auto map = hayro::Map::load(*file, get);
     if (!map) throw std::runtime_error(message_of(name, map.refusal()));
     return *std::move(map);
 }

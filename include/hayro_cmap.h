@@ -14,15 +14,15 @@
  *
  * The caller must keep these rules. Nothing checks them, except null pointers in the plain library:
  *
- * - A handle of a map, a bundle or an encoder begins as HAYRO_CMAP_EMPTY, and only the calls below change
- *   it. Other values, such as a `full` that is neither 0 nor 1, are undefined behaviour. A handle isn't
+ * - A handle of a map, a bundle, an encoder or a loader begins as HAYRO_CMAP_EMPTY, and only the calls below
+ *   change it. Other values, such as a `full` that is neither 0 nor 1, are undefined behaviour. A handle isn't
  *   copied: two copies would free one map twice. It may be moved to another place in memory, between
  *   calls, if the old place is never used again, or is set to HAYRO_CMAP_EMPTY.
  * - One call at a time uses a handle: even a lookup in a map, reading a file over a bundle, or encoding a
  *   text counts as a write to the handle, though not to the map, the bundle or the encoder. Any number of
  *   threads may use one map, bundle or encoder at once, each through a handle of its own, which
- *   hayro_cmap_share, hayro_cmap_bundle_share and hayro_cmap_encoder_share make. A handle may move to
- *   another thread if a lock, or the start or the join of a thread, orders the calls.
+ *   hayro_cmap_share, hayro_cmap_bundle_share and hayro_cmap_encoder_share make. A loader has one handle. A
+ *   handle may move to another thread if a lock, or the start or the join of a thread, orders the calls.
  * - No pointer is null, not even with the length 0; this includes pointers in a hayro_cmap_file, a
  *   hayro_cmap_declaration and a hayro_cmap_facts. If a pointer may be null, hayro_cmap_bytes,
  *   hayro_cmap_files, hayro_cmap_room, hayro_cmap_declarations, hayro_cmap_chosen and hayro_cmap_shown
@@ -34,8 +34,9 @@
  *   Each pointer points to as many items as its length, aligned as their type requires; together they
  *   have at most PTRDIFF_MAX bytes.
  * - A buffer, and the target of a pointer to which a call only writes (`cid`, `supplement`, `needed`,
- *   `offset`, `made`, `taken`, `found`, `names`, `extracted`, and `fault` of hayro_cmap_explain), may hold
- *   anything, such as an uninitialised variable or a fresh block of malloc: no answer depends on it.
+ *   `offset`, `made`, `taken`, `found` of hayro_cmap_salvage, `names`, `extracted`, and `fault` of
+ *   hayro_cmap_explain and hayro_cmap_finish), may hold anything, such as an uninitialised variable or a fresh
+ *   block of malloc: no answer depends on it.
  *   Places that a call doesn't write stay as they are.
  * - If a call writes to the target of one parameter, this target doesn't overlap the target of another
  *   one. The bytes of a file, of a bundle and of names are read only during the call, and nobody writes to
@@ -82,7 +83,13 @@ typedef struct hayro_cmap_encoder {
     void *encoder;
 } hayro_cmap_encoder;
 
-/* A handle without a map, a bundle or an encoder. */
+/* A loader, or none: it reads a file over files that the caller looks up. */
+typedef struct hayro_cmap_loader {
+    bool full;
+    void *loader;
+} hayro_cmap_loader;
+
+/* A handle without a map, a bundle, an encoder or a loader. */
 #define HAYRO_CMAP_EMPTY {false, NULL}
 
 /* A file and the name by which other files use it. */
@@ -215,6 +222,14 @@ typedef enum hayro_cmap_status {
     HAYRO_CMAP_ABSENT = 5,       /* there is no answer */
     HAYRO_CMAP_NO_ROOM = 6       /* the answer is longer than its buffer */
 } hayro_cmap_status;
+
+/* What a caller of hayro_cmap_supply has of the wanted file. */
+typedef enum hayro_cmap_supplied {
+    HAYRO_CMAP_ELSEWHERE = 0, /* nothing: the file of the bundle counts, otherwise Identity-H and Identity-V
+                                 need no file */
+    HAYRO_CMAP_GIVEN = 1,     /* its bytes */
+    HAYRO_CMAP_NOWHERE = 2    /* nothing, and no file has the name; any other number stands for this one */
+} hayro_cmap_supplied;
 
 /* The writing mode that a file gives. */
 typedef enum hayro_cmap_mode {
@@ -420,6 +435,53 @@ hayro_cmap_status hayro_cmap_explain(hayro_cmap *map, const uint8_t *data, size_
                                      const hayro_cmap_file *files, size_t files_len,
                                      uint64_t budget, hayro_cmap_fault *fault,
                                      uint8_t *room, size_t room_len, size_t *needed);
+
+/* Begins to read the CMap file `data` over files that the caller looks up, such as over a network. A loop
+ * supplies each file that is wanted; hayro_cmap_finish then gives the map:
+ *
+ *     while (hayro_cmap_wanted(&loader, name, sizeof name, &name_len) == HAYRO_CMAP_OK) {
+ *         bool found = look_up(name, name_len, &file, &file_len);
+ *         if (hayro_cmap_supply(&loader, &bundle, found, file, file_len) != HAYRO_CMAP_OK) break;
+ *     }
+ *
+ * Each name is wanted once, however often it is used, and each file is parsed once. Names are wanted in the
+ * order in which the files are opened: a file before the files that it uses, and no name after a fault. A name
+ * that the bundle has is wanted too, and so are Identity-H and Identity-V. The budget is the same as for
+ * hayro_cmap_parse.
+ *
+ * The loader keeps no bytes of the caller, and no bundle: binary files are read by the tables of `bundle`, which
+ * must be the same bundle, or none, at each call for a loader. The loader that the handle held is freed. With
+ * HAYRO_CMAP_OK the handle has the new one, even if the file is malformed, which hayro_cmap_finish reports. The
+ * other status is HAYRO_CMAP_NO_MEMORY, and the handle is empty. */
+hayro_cmap_status hayro_cmap_load(hayro_cmap_loader *loader, const uint8_t *data, size_t data_len,
+                                  hayro_cmap_bundle *bundle, uint64_t budget);
+
+/* The name of the file that is wanted next, written like the text of hayro_cmap_text. HAYRO_CMAP_ABSENT if no
+ * file is wanted, or the handle is empty. */
+hayro_cmap_status hayro_cmap_wanted(hayro_cmap_loader *loader, uint8_t *room, size_t room_len,
+                                    size_t *needed);
+
+/* Supplies the wanted file. `found` is a hayro_cmap_supplied, or true if `file` is the file and false if the
+ * caller has none. Except with HAYRO_CMAP_GIVEN, `file` is ignored. hayro_cmap_finish reports that a name has no
+ * file.
+ *
+ * With HAYRO_CMAP_OK another name may be wanted. With HAYRO_CMAP_NO_MEMORY the same name is still wanted, and the
+ * call may be repeated. HAYRO_CMAP_ABSENT if no file is wanted, or the handle is empty; the loader is unchanged. */
+hayro_cmap_status hayro_cmap_supply(hayro_cmap_loader *loader, hayro_cmap_bundle *bundle, uint32_t found,
+                                    const uint8_t *file, size_t file_len);
+
+/* Gives the map of a file whose used files are all supplied, or reports why there is none.
+ *
+ * The map that the handle `map` held is freed. With HAYRO_CMAP_OK `map` has the new map, and the loader's handle is
+ * empty. With HAYRO_CMAP_REFUSED and HAYRO_CMAP_OVER_BUDGET `fault` and the names are written as by
+ * hayro_cmap_explain, and the loader is unchanged: a call with a longer buffer gives all names. With
+ * HAYRO_CMAP_NO_MEMORY the loader's handle is empty. HAYRO_CMAP_ABSENT if a file is still wanted, or the loader's
+ * handle is empty; the loader is unchanged. Except with HAYRO_CMAP_OK, `map` is empty. */
+hayro_cmap_status hayro_cmap_finish(hayro_cmap *map, hayro_cmap_loader *loader, hayro_cmap_fault *fault,
+                                    uint8_t *room, size_t room_len, size_t *needed);
+
+/* Empties the handle, and frees the loader. A file may then still be wanted. */
+void hayro_cmap_loader_free(hayro_cmap_loader *loader);
 
 /* Reads the CMap file `data`, and the files that it uses, past their faults. It gives the map of everything
  * else, and each fault; the faults of each file are listed once. For a file that hayro_cmap_explain accepts,

@@ -9,10 +9,10 @@
 // also throw other exceptions. Without exceptions, such as with -fno-exceptions, the program is aborted in
 // these cases. Calls that are noexcept allocate nothing.
 //
-// - A Map, a Bundle or an Encoder can be moved but not copied. A moved-from one is empty, and has no
+// - A Map, a Bundle, an Encoder or a Loader can be moved but not copied. A moved-from one is empty, and has no
 //   answers.
 // - One thread at a time uses one of these: even a lookup isn't const. Other threads use another object of
-//   the same map, from share(), which copies nothing.
+//   the same map, bundle or encoder, from share(), which copies nothing.
 // - Bytes, Files and Span are views of their source, like std::string_view.
 // - Texts of codes are std::string in UTF-8; names are std::string of any bytes.
 #ifndef HAYRO_CMAP_HPP
@@ -33,7 +33,6 @@
 #include <map>
 #include <new>
 #include <optional>
-#include <set>
 #include <sstream>
 #include <stdexcept>
 #include <string>
@@ -497,6 +496,14 @@ public:
     // The same over an open bundle.
     static Result parse(Bytes data, Bundle &bundle, const Files &files = {},
                         std::uint64_t budget = no_budget);
+
+    // Reads a CMap file as parse does, over files that are looked up when they are wanted. `get` takes a name, a
+    // std::string, and returns a std::optional of the bytes of the file. It is called once for each name, in the
+    // order in which files are opened, and not after a fault.
+    template <class Get> static Result load(Bytes data, Get get, std::uint64_t budget = no_budget);
+    // The same over an open bundle, whose file counts if `get` has none.
+    template <class Get>
+    static Result load(Bytes data, Bundle &bundle, Get get, std::uint64_t budget = no_budget);
 
     // Reads the file of a name, so that the map has its metadata. There is no answer if no file has the
     // name.
@@ -1077,6 +1084,80 @@ private:
     std::variant<Map, Refusal> either_;
 };
 
+namespace detail {
+
+// The map that a call makes, or the refusal that it writes; the call is repeated if the buffer for names is too
+// short.
+template <class Ask> Result result_of(Ask ask) {
+    Map map;
+    hayro_cmap_fault fault{};
+    for (std::string names(64, '\0');;) {
+        std::size_t needed = 0;
+        Status status = with_memory(ask(map.handle(), &fault, room_of(names), names.size(), &needed));
+        if (status != HAYRO_CMAP_REFUSED && status != HAYRO_CMAP_OVER_BUDGET) return map;
+        if (needed <= names.size()) return Refusal(fault, names);
+        names.resize(needed);
+    }
+}
+
+} // namespace detail
+
+// Reads a CMap file as Map::parse does, over files that the caller looks up, such as over a network:
+//
+//     hayro::Loader loader(data);
+//     while (auto name = loader.wanted()) loader.supply(look_up(*name));
+//     auto map = loader.finish();
+//
+// Each name is wanted once, in the order in which files are opened, and no name after a fault. Each file is parsed
+// once. The loader keeps no bytes of the caller.
+class Loader {
+public:
+    explicit Loader(Bytes data, std::uint64_t budget = no_budget) { load(data, budget); }
+    // The same over an open bundle, whose file counts if the caller has none.
+    Loader(Bytes data, Bundle &bundle, std::uint64_t budget = no_budget) : bundle_(bundle.share()) {
+        load(data, budget);
+    }
+
+    // The name of the file that is wanted next.
+    std::optional<std::string> wanted() {
+        return detail::written([&](auto room, auto len, auto needed) {
+            return hayro_cmap_wanted(handle(), room, len, needed);
+        });
+    }
+
+    // Supplies the wanted file. Without one, the file of the bundle counts, and Identity-H and Identity-V need no
+    // file. Nothing changes if no file is wanted.
+    void supply(std::optional<Bytes> file) {
+        const Bytes bytes = file.value_or(Bytes());
+        detail::with_memory(
+            hayro_cmap_supply(handle(), bundle_.handle(), file.has_value(), bytes.data(), bytes.size()));
+    }
+
+    // The map, or why there is none. The caller has none of the files that are still wanted. A map leaves the
+    // loader empty, and an empty loader gives an empty map.
+    Result finish() {
+        while (wanted()) supply(std::nullopt);
+        return detail::result_of([&](auto map, auto fault, auto room, auto len, auto needed) {
+            return hayro_cmap_finish(map, handle(), fault, room, len, needed);
+        });
+    }
+
+    // Whether there is no loader.
+    bool empty() const noexcept { return !handle_.get()->full; }
+
+    // The handle, for the calls of hayro_cmap.h. The loader still owns it.
+    hayro_cmap_loader *handle() noexcept { return handle_.get(); }
+
+private:
+    void load(Bytes data, std::uint64_t budget) {
+        detail::with_memory(
+            hayro_cmap_load(handle(), data.data(), data.size(), bundle_.handle(), budget));
+    }
+
+    Bundle bundle_;
+    detail::Owned<hayro_cmap_loader, hayro_cmap_loader_free> handle_;
+};
+
 // A map, and the faults past which its files were read. The faults of a file are listed once, in the order of their
 // offsets, before the faults of the files that it uses.
 struct Salvaged {
@@ -1128,22 +1209,27 @@ inline FoundCollection Extractor::find_predefined_collection(const std::string &
 }
 
 inline Result Map::parse(Bytes data, Bundle &bundle, const Files &files, std::uint64_t budget) {
-    Map map;
-    hayro_cmap_fault fault{};
-    for (std::string names(64, '\0');;) {
-        std::size_t needed = 0;
-        Status status = hayro_cmap_explain(map.handle(), data.data(), data.size(), bundle.handle(),
-                                           files.data(), files.size(), budget, &fault,
-                                           detail::room_of(names), names.size(), &needed);
-        if (detail::with_memory(status) == HAYRO_CMAP_OK) return map;
-        if (needed <= names.size()) return Refusal(fault, names);
-        names.resize(needed);
-    }
+    return detail::result_of([&](auto map, auto fault, auto room, auto len, auto needed) {
+        return hayro_cmap_explain(map, data.data(), data.size(), bundle.handle(), files.data(),
+                                  files.size(), budget, fault, room, len, needed);
+    });
 }
 
 inline Result Map::parse(Bytes data, const Files &files, std::uint64_t budget) {
     Bundle none;
     return parse(data, none, files, budget);
+}
+
+template <class Get>
+Result Map::load(Bytes data, Bundle &bundle, Get get, std::uint64_t budget) {
+    Loader loader(data, bundle, budget);
+    while (auto name = loader.wanted()) loader.supply(get(*name));
+    return loader.finish();
+}
+
+template <class Get> Result Map::load(Bytes data, Get get, std::uint64_t budget) {
+    Bundle none;
+    return load(data, none, std::move(get), budget);
 }
 
 inline Salvaged Map::salvage(Bytes data, Bundle &bundle, const Files &files, std::uint64_t budget) {
@@ -1175,14 +1261,14 @@ inline Salvaged Map::salvage(Bytes data, const Files &files, std::uint64_t budge
 
 inline std::optional<Result> Map::open(Bytes name, Bundle &bundle, const Files &files,
                                        std::uint64_t budget) {
+    if (auto data = files.find(name)) return parse(*data, bundle, files, budget);
+    if (auto data = bundle.file(name)) return parse(*data, bundle, files, budget);
+    // Identity-H and Identity-V need no file. Only the budget refuses them.
     Map map;
     Status status = hayro_cmap_open(map.handle(), name.data(), name.size(), bundle.handle(),
                                     files.data(), files.size(), budget);
     if (detail::with_memory(status) == HAYRO_CMAP_OK) return map;
     if (status == HAYRO_CMAP_ABSENT) return std::nullopt;
-    if (auto data = files.find(name)) return parse(*data, bundle, files, budget);
-    if (auto data = bundle.file(name)) return parse(*data, bundle, files, budget);
-    // Identity-H and Identity-V have no file here. Only the budget refuses them.
     hayro_cmap_fault fault{};
     fault.cause = HAYRO_CMAP_PAST_BUDGET;
     return Refusal(fault, "");
@@ -1219,22 +1305,21 @@ inline std::optional<std::vector<std::string>> uses(Bytes data) {
 inline std::optional<Result> Map::parse_with_base(Bytes data, Map &base, std::uint64_t budget) {
     const auto file = write(base);
     if (!file) return std::nullopt;
-    // A text outside the grammar is refused before any file is looked up.
-    const auto used = uses(data).value_or(std::vector<std::string>());
-    const std::set<std::string> names(used.begin(), used.end());
-    Files files;
-    for (const auto &name : names) files.add(name, *file);
-    Result map = parse(data, files, budget);
-    if (!map || !names.empty()) return map;
+    bool is_used = false;
+    const auto get = [&](const std::string &) {
+        is_used = true;
+        return std::optional<Bytes>(*file);
+    };
+    Result map = load(data, get, budget);
+    if (!map || is_used) return map;
     const std::string use = "/UseCMap usecmap\n";
-    files.add("UseCMap", *file);
     const std::uint64_t left = no_budget - budget;
-    return parse(use + std::string(data.text()), files, budget + std::min<std::uint64_t>(use.size(), left));
+    return load(use + std::string(data.text()), get, budget + std::min<std::uint64_t>(use.size(), left));
 }
 
 // The files that a file uses, and the files that these use, each requested once: `get` takes a name, a
 // std::string, and returns the bytes of its file as a std::optional<std::string>. Files that a file of the
-// bundle uses are requested too.
+// bundle uses are requested too. Map::salvage takes these files; Map::load requests fewer, and parses each once.
 template <class Get>
 std::map<std::string, std::string> used_files(Bytes data, Bundle &bundle, Get get) {
     std::map<std::string, std::string> found, of_bundle;
@@ -1329,9 +1414,7 @@ inline std::optional<std::string> predefined_file(const std::string &name) {
 inline std::optional<Result> Map::open_predefined(const std::string &name) {
     auto file = predefined_file(name);
     if (!file) return open(name);
-    auto files = used_files(*file, predefined_file);
-    files.emplace(name, *file);
-    return open(name, files);
+    return load(*file, predefined_file);
 }
 
 // The version of the library.

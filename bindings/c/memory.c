@@ -1,7 +1,8 @@
-/* Reads a file past its faults, and finds what looks wrong in another file: calls that take memory and that no example
- * makes. If memory runs out, it reports this, with status 1. */
+/* Reads a file past its faults, finds what looks wrong in another file, and repeats a call for which memory ran out:
+ * calls that take memory and that no example makes. If memory runs out again, it reports this, with status 1. */
 #include <hayro_cmap.h>
 #include <stdio.h>
+#include <string.h>
 
 #define TEXT(literal) hayro_cmap_bytes(literal), sizeof(literal) - 1
 
@@ -34,10 +35,41 @@ static hayro_cmap_status find_warnings(hayro_cmap *map) {
     return status;
 }
 
+/* Supplies the file AB. If memory runs out, the file is still wanted, and is supplied once more. */
+static hayro_cmap_status supply_file(hayro_cmap_loader *loader) {
+    hayro_cmap_bundle none = HAYRO_CMAP_EMPTY;
+    hayro_cmap_status status = HAYRO_CMAP_NO_MEMORY;
+    for (int count = 0; count < 2 && status == HAYRO_CMAP_NO_MEMORY; count++) {
+        uint8_t name[2];
+        size_t len = 0;
+        if (hayro_cmap_wanted(loader, name, sizeof name, &len) != HAYRO_CMAP_OK || memcmp(name, "AB", 2) != 0)
+            return HAYRO_CMAP_ABSENT;
+        status = hayro_cmap_supply(loader, &none, 1, TEXT("begincidchar <41> 7 endcidchar"));
+    }
+    return status;
+}
+
+/* Loads a file over the file AB. */
+static hayro_cmap_status load_file(hayro_cmap *map, hayro_cmap_loader *loader) {
+    hayro_cmap_bundle none = HAYRO_CMAP_EMPTY;
+    hayro_cmap_fault fault;
+    uint8_t room[2];
+    size_t needed;
+    hayro_cmap_status status = hayro_cmap_load(loader, TEXT("/AB usecmap"), &none, HAYRO_CMAP_NO_BUDGET);
+    if (status == HAYRO_CMAP_OK) status = supply_file(loader);
+    if (status == HAYRO_CMAP_OK) status = hayro_cmap_finish(map, loader, &fault, room, sizeof room, &needed);
+    uint32_t cid;
+    if (status == HAYRO_CMAP_OK && hayro_cmap_cid(map, 0x41, 1, &cid)) printf("CID %u\n", cid);
+    return status;
+}
+
 int main(void) {
     hayro_cmap map = HAYRO_CMAP_EMPTY;
+    hayro_cmap_loader loader = HAYRO_CMAP_EMPTY;
     hayro_cmap_status status = read_past_faults(&map);
     if (status == HAYRO_CMAP_OK) status = find_warnings(&map);
+    if (status == HAYRO_CMAP_OK) status = load_file(&map, &loader);
+    hayro_cmap_loader_free(&loader);
     hayro_cmap_free(&map);
     if (status == HAYRO_CMAP_OK) return 0;
     fputs(status == HAYRO_CMAP_NO_MEMORY ? "no memory\n" : "another status\n", stderr);

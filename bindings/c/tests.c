@@ -552,6 +552,182 @@ static void names_lead_to_the_file_at_fault(void) {
 // A file at fault at byte 39, over a file at fault at byte 15, which uses a missing file.
 #define SPOILED "/AB usecmap begincidchar <41> 5 <42> /X <43> 7 endcidchar"
 
+// The names that a loader wants, one after another. A name is one byte.
+struct asked {
+    char names[32];
+    size_t len;
+};
+
+// A loader of a file over a bundle.
+static hayro_cmap_loader loader_of(const char *text, hayro_cmap_bundle *bundle, uint64_t budget) {
+    hayro_cmap_loader loader = HAYRO_CMAP_EMPTY;
+    // The loader keeps none of these bytes.
+    char bytes[128];
+    size_t len = strlen(text);
+    memcpy(bytes, text, len);
+    CHECK(hayro_cmap_load(&loader, hayro_cmap_bytes(bytes), len, bundle, budget) == HAYRO_CMAP_OK);
+    memset(bytes, '(', sizeof bytes);
+    return loader;
+}
+
+// Supplies each wanted file: a file of A to J uses the next one seven times, J has a CID, and M uses S, which is
+// malformed. There are no others.
+static void supply_files(hayro_cmap_loader *loader, hayro_cmap_bundle *bundle, struct asked *asked) {
+    uint8_t name[1];
+    size_t len;
+    asked->len = 0;
+    while (hayro_cmap_wanted(loader, BYTES(name), &len) == HAYRO_CMAP_OK && asked->len < sizeof asked->names) {
+        char file[128] = "";
+        if (name[0] == 'J') strcpy(file, "begincidchar <41> 7 endcidchar");
+        if (name[0] == 'M') strcpy(file, "/S usecmap");
+        if (name[0] == 'S') strcpy(file, "begincidchar <41> x endcidchar");
+        for (int use = 0; use < 7 && name[0] >= 'A' && name[0] < 'J'; use++)
+            sprintf(file + strlen(file), "/%c usecmap ", name[0] + 1);
+        asked->names[asked->len++] = (char)name[0];
+        CHECK(hayro_cmap_supply(loader, bundle, *file != 0, hayro_cmap_bytes(file), strlen(file)) == HAYRO_CMAP_OK);
+        memset(file, '(', sizeof file);
+    }
+}
+
+static bool were_asked(const struct asked *asked, const char *names) {
+    return asked->len == strlen(names) && memcmp(asked->names, names, asked->len) == 0;
+}
+
+static void a_loader_wants_each_file_once(void) {
+    hayro_cmap map = map_of_file();
+    hayro_cmap_bundle none = HAYRO_CMAP_EMPTY;
+    struct asked asked;
+    hayro_cmap_fault fault;
+    uint8_t room[1];
+    size_t needed = 7;
+    uint32_t cid;
+    hayro_cmap_loader loader = loader_of("/A usecmap /C usecmap /A usecmap", &none, HAYRO_CMAP_NO_BUDGET);
+    CHECK(hayro_cmap_finish(&map, &loader, &fault, BYTES(room), &needed) == HAYRO_CMAP_ABSENT);
+    CHECK(!map.full && loader.full && needed == 7);
+    supply_files(&loader, &none, &asked);
+    CHECK(were_asked(&asked, "ABCDEFGHIJ"));
+    CHECK(hayro_cmap_supply(&loader, &none, 1, TEXT("(")) == HAYRO_CMAP_ABSENT);
+    CHECK(hayro_cmap_finish(&map, &loader, &fault, BYTES(room), &needed) == HAYRO_CMAP_OK);
+    CHECK(needed == 7 && !loader.full && hayro_cmap_cid(&map, 0x41, 1, &cid) && cid == 7);
+    CHECK(hayro_cmap_layers(&map) == 11);
+
+    // An empty handle has nothing to do.
+    CHECK(hayro_cmap_wanted(&loader, BYTES(room), &needed) == HAYRO_CMAP_ABSENT);
+    CHECK(hayro_cmap_supply(&loader, &none, 1, TEXT("")) == HAYRO_CMAP_ABSENT);
+    CHECK(hayro_cmap_finish(&map, &loader, &fault, BYTES(room), &needed) == HAYRO_CMAP_ABSENT && !map.full);
+    hayro_cmap_loader_free(&loader);
+}
+
+static void a_loader_tells_the_first_fault(void) {
+    hayro_cmap map = HAYRO_CMAP_EMPTY;
+    hayro_cmap_bundle none = HAYRO_CMAP_EMPTY;
+    struct asked asked;
+    hayro_cmap_fault fault;
+    uint8_t room[2] = "??";
+    size_t needed = 7;
+    // A malformed file: nothing after it is wanted.
+    hayro_cmap_loader loader = loader_of("/M usecmap /A usecmap", &none, HAYRO_CMAP_NO_BUDGET);
+    supply_files(&loader, &none, &asked);
+    CHECK(were_asked(&asked, "MS"));
+    CHECK(hayro_cmap_finish(&map, &loader, &fault, room, 1, &needed) == HAYRO_CMAP_REFUSED);
+    CHECK(needed == 2 && same(room, "??", 2) && fault.names == 2 && fault.name_lens[1] == 1);
+    CHECK(hayro_cmap_finish(&map, &loader, &fault, BYTES(room), &needed) == HAYRO_CMAP_REFUSED);
+    CHECK(needed == 2 && same(room, "MS", 2) && !map.full && loader.full);
+    CHECK(fault.cause == HAYRO_CMAP_MALFORMED && fault.reason == HAYRO_CMAP_CID_EXPECTED && fault.offset == 19);
+    // The handle holds a loader, which is freed.
+    CHECK(hayro_cmap_load(&loader, TEXT("/A usecmap begincidchar"), &none, HAYRO_CMAP_NO_BUDGET) == HAYRO_CMAP_OK);
+    CHECK(hayro_cmap_wanted(&loader, BYTES(room), &needed) == HAYRO_CMAP_ABSENT);
+    CHECK(hayro_cmap_finish(&map, &loader, &fault, BYTES(room), &needed) == HAYRO_CMAP_REFUSED);
+    CHECK(fault.offset == 23 && fault.names == 0 && needed == 0);
+    hayro_cmap_loader_free(&loader);
+    CHECK(!loader.full);
+
+    // A missing file.
+    loader = loader_of("/Z usecmap /A usecmap", &none, HAYRO_CMAP_NO_BUDGET);
+    supply_files(&loader, &none, &asked);
+    CHECK(were_asked(&asked, "Z"));
+    CHECK(hayro_cmap_finish(&map, &loader, &fault, BYTES(room), &needed) == HAYRO_CMAP_REFUSED);
+    CHECK(fault.cause == HAYRO_CMAP_NO_FILE && needed == 1 && room[0] == 'Z');
+    hayro_cmap_loader_free(&loader);
+}
+
+static void a_loader_keeps_to_its_budget(void) {
+    hayro_cmap map = HAYRO_CMAP_EMPTY;
+    hayro_cmap_bundle none = HAYRO_CMAP_EMPTY;
+    struct asked asked;
+    hayro_cmap_fault fault;
+    uint8_t room[2];
+    size_t needed;
+    uint32_t cid;
+    // 21 bytes, and 30 for each use
+    for (uint64_t budget = 80; budget <= 81; budget++) {
+        hayro_cmap_loader loader = loader_of("/J usecmap /J usecmap", &none, budget);
+        supply_files(&loader, &none, &asked);
+        CHECK(were_asked(&asked, "J"));
+        hayro_cmap_status status = hayro_cmap_finish(&map, &loader, &fault, BYTES(room), &needed);
+        CHECK(status == (budget < 81 ? HAYRO_CMAP_OVER_BUDGET : HAYRO_CMAP_OK));
+        if (budget < 81) CHECK(fault.cause == HAYRO_CMAP_PAST_BUDGET && needed == 1 && room[0] == 'J');
+        else CHECK(hayro_cmap_cid(&map, 0x41, 1, &cid) && cid == 7);
+        hayro_cmap_loader_free(&loader);
+    }
+    hayro_cmap_free(&map);
+}
+
+static void a_loader_has_the_files_of_a_bundle(void) {
+    hayro_cmap map = HAYRO_CMAP_EMPTY;
+    hayro_cmap_bundle bundle = opened_bundle();
+    hayro_cmap_fault fault;
+    uint8_t room[16];
+    size_t needed;
+    uint32_t cid;
+    for (int found = 0; found < 2; found++) {
+        hayro_cmap_loader loader = loader_of(OVER_IT, &bundle, HAYRO_CMAP_NO_BUDGET);
+        room[0] = '?';
+        CHECK(hayro_cmap_wanted(&loader, room, 3, &needed) == HAYRO_CMAP_NO_ROOM && needed == 11 && room[0] == '?');
+        CHECK(hayro_cmap_wanted(&loader, BYTES(room), &needed) == HAYRO_CMAP_OK && same(room, "83pv-RKSJ-H", 11));
+        // The file of the caller comes before the file of the bundle.
+        const char *file = found ? "begincidchar <0020> 8 endcidchar" : "(";
+        CHECK(hayro_cmap_supply(&loader, &bundle, (uint32_t)found, hayro_cmap_bytes(file), strlen(file))
+              == HAYRO_CMAP_OK);
+        CHECK(hayro_cmap_finish(&map, &loader, &fault, BYTES(room), &needed) == HAYRO_CMAP_OK);
+        CHECK(hayro_cmap_cid(&map, 0x20, 2, &cid) && cid == (found ? 8 : 5));
+    }
+    // A file in binary form is read by the tables of the bundle.
+    hayro_cmap_loader binary = HAYRO_CMAP_EMPTY;
+    CHECK(hayro_cmap_load(&binary, BUNDLE + 23, sizeof BUNDLE - 23, &bundle, HAYRO_CMAP_NO_BUDGET) == HAYRO_CMAP_OK);
+    CHECK(hayro_cmap_finish(&map, &binary, &fault, BYTES(room), &needed) == HAYRO_CMAP_OK);
+    CHECK(hayro_cmap_cid(&map, 0x21, 2, &cid) && cid == 6);
+    hayro_cmap_free(&map);
+    // A loader that wants a file may be freed.
+    hayro_cmap_loader loader = loader_of(OVER_IT, &bundle, HAYRO_CMAP_NO_BUDGET);
+    hayro_cmap_loader_free(&loader);
+    hayro_cmap_bundle_free(&bundle);
+}
+
+static void an_identity_needs_no_file(void) {
+    hayro_cmap map = HAYRO_CMAP_EMPTY;
+    hayro_cmap_bundle none = HAYRO_CMAP_EMPTY;
+    hayro_cmap_fault fault;
+    uint8_t room[16];
+    size_t needed;
+    uint32_t cid;
+    for (uint32_t found = HAYRO_CMAP_ELSEWHERE; found <= HAYRO_CMAP_NOWHERE + 1; found++) {
+        hayro_cmap_loader loader = loader_of("/Identity-H usecmap", &none, HAYRO_CMAP_NO_BUDGET);
+        CHECK(hayro_cmap_wanted(&loader, BYTES(room), &needed) == HAYRO_CMAP_OK && same(room, "Identity-H", 10));
+        CHECK(hayro_cmap_supply(&loader, &none, found, TEXT("1 begincidchar <12> 7 endcidchar")) == HAYRO_CMAP_OK);
+        hayro_cmap_status status = hayro_cmap_finish(&map, &loader, &fault, BYTES(room), &needed);
+        if (found >= HAYRO_CMAP_NOWHERE) {
+            CHECK(status == HAYRO_CMAP_REFUSED && fault.cause == HAYRO_CMAP_NO_FILE && needed == 10);
+        } else {
+            bool given = found == HAYRO_CMAP_GIVEN;
+            CHECK(status == HAYRO_CMAP_OK && hayro_cmap_cid(&map, 0x12, given ? 1 : 2, &cid));
+            CHECK(cid == (given ? 7 : 0x12));
+        }
+        hayro_cmap_loader_free(&loader);
+    }
+    hayro_cmap_free(&map);
+}
+
 static void files_are_read_past_their_faults(void) {
     hayro_cmap map = HAYRO_CMAP_EMPTY;
     hayro_cmap_bundle none = HAYRO_CMAP_EMPTY;
@@ -1124,6 +1300,11 @@ int main(void) {
     a_shared_encoder_outlives_its_first_handle();
     files_are_opened_by_their_names();
     names_lead_to_the_file_at_fault();
+    a_loader_wants_each_file_once();
+    a_loader_tells_the_first_fault();
+    a_loader_keeps_to_its_budget();
+    a_loader_has_the_files_of_a_bundle();
+    an_identity_needs_no_file();
     files_are_read_past_their_faults();
     faults_without_room_are_counted();
     faults_have_messages();

@@ -28,6 +28,8 @@ static_assert(!std::is_copy_constructible_v<hayro::Bundle>);
 static_assert(std::is_nothrow_move_constructible_v<hayro::Map>);
 static_assert(std::is_nothrow_move_assignable_v<hayro::Map>);
 static_assert(std::is_nothrow_move_constructible_v<hayro::Bundle>);
+static_assert(!std::is_copy_constructible_v<hayro::Loader> && std::is_nothrow_move_constructible_v<hayro::Loader>);
+static_assert(std::is_nothrow_move_assignable_v<hayro::Loader>);
 static_assert(sizeof(hayro::Map) == sizeof(hayro_cmap));
 
 using namespace std::string_literals;
@@ -542,6 +544,103 @@ static void uses_are_named() {
     CHECK(asked.size() == 15 && asked.back() == std::string(15, 'N'));
 }
 
+// Files by their names, and the names that were asked for. A file of A to J uses the next one seven times, J has a CID,
+// and M uses S, which is malformed. There are no others.
+struct Recorded {
+    Names asked;
+
+    std::optional<std::string> operator()(const std::string &name) {
+        asked.push_back(name);
+        if (name == "J") return "begincidchar <41> 7 endcidchar";
+        if (name == "M") return "/S usecmap";
+        if (name == "S") return "begincidchar <41> x endcidchar";
+        if (name < "A" || name > "J") return std::nullopt;
+        std::string file;
+        for (int use = 0; use < 7; use++) file += '/' + std::string(1, static_cast<char>(name[0] + 1)) + " usecmap ";
+        return file;
+    }
+};
+
+static void files_are_loaded() {
+    Recorded files;
+    auto get = [&](const std::string &name) { return files(name); };
+    auto map = hayro::Map::load("/A usecmap /C usecmap /A usecmap", get);
+    CHECK(map && map->cid(0x41, 1) == 7u && map->layers() == 11);
+    CHECK(files.asked == (Names{"A", "B", "C", "D", "E", "F", "G", "H", "I", "J"}));
+    // No name is asked for after a fault.
+    files.asked.clear();
+    auto malformed = hayro::Map::load("/M usecmap /A usecmap", get);
+    CHECK(!malformed && malformed.refusal().cause() == hayro::Cause::malformed && malformed.refusal().offset() == 19u);
+    CHECK(files.asked == (Names{"M", "S"}) && malformed.refusal().names() == files.asked);
+    files.asked.clear();
+    auto missing = hayro::Map::load("/Z usecmap /A usecmap", get);
+    CHECK(!missing && missing.refusal().cause() == hayro::Cause::no_file);
+    CHECK(files.asked == Names{"Z"} && missing.refusal().names() == files.asked);
+    files.asked.clear();
+    auto whole = hayro::Map::load("/A usecmap )", get);
+    CHECK(!whole && whole.refusal().reason() == hayro::Reason::stray_delimiter && files.asked.empty());
+    // 21 bytes, and 30 for each use.
+    CHECK(hayro::Map::load("/J usecmap /J usecmap", get, 81));
+    auto large = hayro::Map::load("/J usecmap /J usecmap", get, 80);
+    CHECK(!large && large.refusal().cause() == hayro::Cause::past_budget && files.asked == (Names{"J", "J"}));
+    // An endless chain ends at its sixteenth file, and names of any length are whole.
+    auto endless = hayro::Map::load("/" + std::string(100, 'N') + " usecmap",
+                                    [](const std::string &name) { return std::optional('/' + name + "N usecmap"); });
+    CHECK(!endless && endless.refusal().cause() == hayro::Cause::chain_length);
+    CHECK(endless.refusal().names().size() == 16 && endless.refusal().names().back() == std::string(115, 'N'));
+}
+
+static void a_use_of_an_identity_needs_no_file() {
+    for (const std::string name : {"Identity-H", "Identity-V"}) {
+        const std::string text = '/' + name + " usecmap";
+        auto none = [](const std::string &) { return std::optional<hayro::Bytes>(); };
+        auto map = hayro::Map::load(text, none, text.size() + 177);
+        CHECK(map && map->cid(0x1234, 2) == 0x1234u && map->metadata(1).name == name);
+        auto mode = name.back() == 'V' ? hayro::WritingMode::vertical : hayro::WritingMode::horizontal;
+        CHECK(map->effective_writing_mode() == mode && map->metadata(1).supplement == 0);
+        CHECK(map->metadata(1).registry == "Adobe" && map->metadata(1).ordering == "Identity");
+        CHECK(!hayro::Map::load(text, none, text.size() + 176));
+        // A file of the name goes before.
+        auto file = [](const std::string &) { return std::optional("begincidchar <01> 1 endcidchar"s); };
+        auto own = hayro::Map::load(text, file);
+        CHECK(own && own->cid(1, 1) == 1u && !own->cid(0x1234, 2));
+    }
+}
+
+static void a_loader_wants_files() {
+    std::vector<std::uint8_t> bytes(std::begin(tables), std::end(tables));
+    bytes.insert(bytes.end(), std::begin(binary), std::end(binary));
+    auto bundle = *hayro::Bundle::open(bytes);
+    const auto text = "/83pv-RKSJ-H usecmap /A usecmap"s;
+    hayro::Loader loader(text, bundle);
+    // The loader keeps the bundle, and none of the bytes.
+    bundle = hayro::Bundle();
+    CHECK(!loader.empty() && loader.wanted() == "83pv-RKSJ-H" && loader.wanted() == "83pv-RKSJ-H");
+    loader.supply(std::nullopt);
+    CHECK(loader.wanted() == "A");
+    hayro::Loader moved(std::move(loader));
+    CHECK(loader.empty() && !loader.wanted() && loader.finish()->empty());
+    loader = std::move(moved);
+    loader.supply(std::string("begincidchar <0021> 8 endcidchar"));
+    CHECK(!loader.wanted());
+    // No file is wanted.
+    loader.supply(hayro::Bytes("("));
+    auto map = loader.finish();
+    CHECK(map && map->cid(0x21, 2) == 8u && map->layers() == 2 && loader.empty());
+
+    // The caller has no file that is still wanted.
+    bundle = *hayro::Bundle::open(bytes);
+    hayro::Loader over("/83pv-RKSJ-H usecmap", bundle);
+    CHECK(over.finish()->cid(0x20, 2) == 5u);
+    hayro::Loader alone("/83pv-RKSJ-H usecmap");
+    for (int count = 0; count < 2; count++) {
+        auto refused = alone.finish();
+        CHECK(!refused && refused.refusal().cause() == hayro::Cause::no_file && !alone.empty());
+        CHECK(refused.refusal().names() == Names{"83pv-RKSJ-H"});
+    }
+    CHECK(hayro::Loader("/Identity-H usecmap").finish()->cid(0x41, 2) == 0x41u);
+}
+
 // Whether a predefined file of this name is there and can't be read.
 static bool is_unreadable(const std::string &name) {
     try {
@@ -784,6 +883,9 @@ int main() {
     files_speak_of_themselves();
     bundles_have_files();
     uses_are_named();
+    files_are_loaded();
+    a_use_of_an_identity_needs_no_file();
+    a_loader_wants_files();
     predefined_files_are_found();
     folders_are_listed_as_far_as_they_can_be_read();
     files_are_made();

@@ -1,7 +1,10 @@
 // CMap files by the C library of hayro_cmap, built for wasm32. The calls and their statuses are those of hayro_cmap.h.
 
 const OK = 0;
+const REFUSED = 1;
 const NO_ROOM = 6;
+const ELSEWHERE = 0;
+const GIVEN = 1;
 const NO_BUDGET = 2n ** 64n - 1n;
 // sizes in bytes where an address has four
 const SIZES = { handle: 8, number: 4, fault: 80, range: 12 };
@@ -82,6 +85,31 @@ export class Library {
 
 /** The map of a file that is read past its faults, until `free`. One file is read at a time. */
 export class CMap {
+  /**
+   * The map of a file over the files that it uses. `get` is awaited with each name, and gives the bytes of the file, or
+   * null if there is none. Each file is asked for once, and none after a fault, whose message is that of the error.
+   */
+  static async load(library, bytes, get) {
+    const { calls } = library;
+    const map = new CMap(library, new Uint8Array());
+    const [bundle, loader] = [1, 2].map((index) => map.at + index * SIZES.handle);
+    const wanted = () => library.text((...to) => calls.hayro_cmap_wanted(loader, ...to));
+    expectMemory(calls.hayro_cmap_load(loader, library.copied("file", bytes), bytes.length, bundle, NO_BUDGET));
+    for (let name = wanted(); name !== null; name = wanted()) {
+      const file = await get(name);
+      const found = file ? GIVEN : ELSEWHERE;
+      const data = library.copied("file", file ?? new Uint8Array());
+      expectMemory(calls.hayro_cmap_supply(loader, bundle, found, data, file?.length ?? 0));
+    }
+    const fault = library.buffer("faults", SIZES.fault);
+    const to = [library.buffer("names", PAGE), PAGE, library.buffer("needed", SIZES.number)];
+    const status = calls.hayro_cmap_finish(map.at, loader, fault, ...to);
+    calls.hayro_cmap_loader_free(loader);
+    if (status === REFUSED) throw new Error(map.message(fault));
+    expectMemory(status);
+    return map;
+  }
+
   constructor(library, bytes) {
     const at = library.buffer("handle", 4 * SIZES.handle);
     library.bytes(at, 4 * SIZES.handle).fill(0);
@@ -100,7 +128,7 @@ export class CMap {
       const status = this.calls.hayro_cmap_salvage(
         this.at, data, bytes.length, bundle, 0, 0, NO_BUDGET, faults, count, found, names, size, found + SIZES.number,
       );
-      if (status !== OK) throw new Error("out of memory");
+      expectMemory(status);
       const [faultCount, nameBytes] = library.numbers(found, 2);
       if (faultCount <= count && nameBytes <= size) return this.told(faults, faultCount, names);
       count = Math.max(count, faultCount);
@@ -177,6 +205,11 @@ export class CMap {
   free() {
     this.calls.hayro_cmap_free(this.at);
   }
+}
+
+/** Throws if memory ran out. */
+function expectMemory(status) {
+  if (status !== OK) throw new Error("out of memory");
 }
 
 /** The codes that a file declares, in order, each with its `length` in bytes, `most` at most; how many there are. */

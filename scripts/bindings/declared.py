@@ -24,6 +24,7 @@ OF_RUST = {
     "RawMap": "hayro_cmap",
     "RawBundle": "hayro_cmap_bundle",
     "RawEncoder": "hayro_cmap_encoder",
+    "RawLoader": "hayro_cmap_loader",
     "File<'_>": "hayro_cmap_file",
     "RawCode": "hayro_cmap_code",
     "RawCharacter": "hayro_cmap_character",
@@ -44,6 +45,7 @@ RUST_STRUCTS = {
     "RawMap": "hayro_cmap",
     "RawBundle": "hayro_cmap_bundle",
     "RawEncoder": "hayro_cmap_encoder",
+    "RawLoader": "hayro_cmap_loader",
     "File<'a>": "hayro_cmap_file",
     "RawCode": "hayro_cmap_code",
     "RawCharacter": "hayro_cmap_character",
@@ -127,7 +129,7 @@ def python_in_c(module):
 def as_ctypes(declared):
     """The type of a parameter or a field of the header, as far as ctypes distinguishes types."""
     kind = re.sub(r"\w+(\[\w+\])?$", "", declared.removeprefix("const ")).strip()
-    kind = re.sub(r"^hayro_cmap(_bundle|_encoder)? \*$", "handle *", kind)
+    kind = re.sub(r"^hayro_cmap(_bundle|_encoder|_loader)? \*$", "handle *", kind)
     return "int32_t" if kind in ENUMS else kind.replace("size_t", "uint64_t")
 
 

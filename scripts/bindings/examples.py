@@ -1,6 +1,6 @@
 """The examples that decode a string, in C, C++, Rust and Python; those of a bundle, of threads, of declarations and of
-files that are written, in C; those that make a ToUnicode CMap, which pdftotext reads in a PDF file; and the one that
-fills a form, in Python."""
+files that are written, in C; those that make a ToUnicode CMap, which pdftotext reads in a PDF file; and those that await
+files and fill a form, in Python."""
 
 from common.composite_font import pdf
 
@@ -117,6 +117,19 @@ def test_python_decodes(checks, setting):
     check_strings(checks, setting, "Python", command, **environment)
     check_refusals(checks, setting, "Python", command, **environment)
     check_texts(checks, "Python", command, **environment)
+
+
+def test_python_awaits_files(checks, setting):
+    """The example reads two files at the same time, of which one uses the other, and prints why it reads none."""
+    command, environment = [setting.package.python, EXAMPLES / "awaited.py"], setting.package.in_project()
+    for files in setting.files:
+        ran = run(*command, files.folder, "3042FF08", "UniJIS-UTF16-V", "UniJIS-UTF16-H", **environment)
+        checks.ended(f"files of {files.folder}", ran, "UniJIS-UTF16-V 843 7899\nUniJIS-UTF16-H 843 674\n")
+    folder = setting.once(refused_files)
+    for name, message in [("Absent", "Absent: no such file\n"), ("Based", "/Broken: byte 27: a CID was expected\n")]:
+        ran = run(*command, folder, "41", name, **environment)
+        checks.ended(f"the file {name}", ran, "", status=1)
+        checks.same(f"why there is no map of {name}", ran.err, message)
 
 
 def check_to_unicode(checks, setting, what, command, **environment):

@@ -43,6 +43,7 @@ NAMED = {
     "MapHandle": "hayro_cmap",
     "BundleHandle": "hayro_cmap_bundle",
     "EncoderHandle": "hayro_cmap_encoder",
+    "LoaderHandle": "hayro_cmap_loader",
     "BaseFile<'a>": "hayro_cmap_file",
     "BaseFile<'_>": "hayro_cmap_file",
     "Code": "hayro_cmap_code",
@@ -87,6 +88,7 @@ HANDLES = [
     ("hayro_cmap", "cmap_handles/src/handle.rt", "cmap_handles/src/slot.rt", "Map"),
     ("hayro_cmap_bundle", "cmap_handles/src/bundle.rt", "cmap_handles/src/slot.rt", "Bundle"),
     ("hayro_cmap_encoder", "cmap_c_writer/src/handle.rt", "cmap_c_writer/src/slot.rt", "Encoder"),
+    ("hayro_cmap_loader", "cmap_c/src/loader_handle.rt", "cmap_c/src/loader_slot.rt", "Loader"),
 ]
 PLACES = {name: f"AT_{name}" for name in ["CODE", "RANGE", "NAME", "OFFSET"]}
 NUMBERED = r"(?P<number>\d+)(?:, [\w()]+\))? => Some\({}::(?P<name>\w+)"

@@ -12,8 +12,8 @@ BY_HAND = TOP / "bindings" / "plain-rust"
 # the bindings over the C library, which have the same interface, and from which sources, tests and examples are copied
 SHARED = TOP / "bindings" / "rust"
 SHARED_SOURCES = [
-    *("based", "builder", "collection", "encode_error", "extractor", "finding", "metadata"),
-    *("opening", "options", "piece", "predefined", "reason"),
+    *("based", "builder", "collection", "encode_error", "extractor", "finding", "loader"),
+    *("metadata", "opening", "options", "piece", "predefined", "reason"),
 ]
 # the licences; LICENSE-UNICODE is for tables
 LICENSES = ["LICENSE-APACHE", "LICENSE-MIT", "LICENSE-UNICODE"]
@@ -36,7 +36,7 @@ INLINED = {
     "hayro_cmap/src/map.rt": ["lookup_bf_string", "next_code"],
 }
 # files about the pointers of C
-POINTERS = ["cmap_c_writer/src/slot.rt", "cmap_handles/src/slot.rt"]
+POINTERS = ["cmap_c/src/loader_slot.rt", "cmap_c_writer/src/slot.rt", "cmap_handles/src/slot.rt"]
 
 
 def crates_of_reader():

@@ -16,6 +16,7 @@ int main(void) {
     hayro_cmap map = HAYRO_CMAP_EMPTY, other = HAYRO_CMAP_EMPTY;
     hayro_cmap_bundle bundle = HAYRO_CMAP_EMPTY, copy = HAYRO_CMAP_EMPTY;
     hayro_cmap_encoder encoder = HAYRO_CMAP_EMPTY, twin = HAYRO_CMAP_EMPTY;
+    hayro_cmap_loader loader = HAYRO_CMAP_EMPTY;
     hayro_cmap_fault fault, before;
     hayro_cmap_extracted extracted = {7, 7, 7};
     hayro_cmap_character character;
@@ -42,6 +43,14 @@ int main(void) {
     CHECK(hayro_cmap_encode_pieces(&encoder, NULL, 0, NULL, 0, &needed, &made) == HAYRO_CMAP_OK && needed == 0);
     hayro_cmap_file file = {NULL, 0, NULL, 0};
     CHECK(hayro_cmap_parse(&other, data, len, NULL, 0, &file, 1, HAYRO_CMAP_NO_BUDGET) == HAYRO_CMAP_OK);
+    CHECK(hayro_cmap_load(&loader, NULL, 0, &bundle, HAYRO_CMAP_NO_BUDGET) == HAYRO_CMAP_OK);
+    CHECK(hayro_cmap_load(&loader, (const uint8_t *)"/A usecmap", 10, &bundle, HAYRO_CMAP_NO_BUDGET) == HAYRO_CMAP_OK);
+    CHECK(hayro_cmap_wanted(&loader, NULL, 0, &needed) == HAYRO_CMAP_NO_ROOM && needed == 1);
+    CHECK(hayro_cmap_supply(&loader, &bundle, 0, NULL, 0) == HAYRO_CMAP_OK);
+    CHECK(hayro_cmap_finish(&other, &loader, &fault, NULL, 0, &needed) == HAYRO_CMAP_REFUSED && needed == 1);
+    CHECK(hayro_cmap_load(&loader, (const uint8_t *)"/A usecmap", 10, &bundle, HAYRO_CMAP_NO_BUDGET) == HAYRO_CMAP_OK);
+    CHECK(hayro_cmap_parse(&other, data, len, NULL, 0, NULL, 0, HAYRO_CMAP_NO_BUDGET) == HAYRO_CMAP_OK);
+    fault = before;
     hayro_cmap_facts facts = {NULL, 0, NULL, 0, NULL, 0, 0, 0, 0, HAYRO_CMAP_NO_MODE};
     CHECK(hayro_cmap_make(&facts, NULL, 0, NULL, 0, &needed) == HAYRO_CMAP_NO_ROOM && needed > 0);
 
@@ -55,6 +64,22 @@ int main(void) {
     IS_ABSENT(hayro_cmap_explain(&other, data, len, &bundle, NULL, 0, HAYRO_CMAP_NO_BUDGET, NULL, room, 64, &needed));
     IS_ABSENT(hayro_cmap_explain(&other, data, len, &bundle, NULL, 0, HAYRO_CMAP_NO_BUDGET, &fault, room, 64, NULL));
     IS_ABSENT(hayro_cmap_salvage(&other, data, len, &bundle, NULL, 0, HAYRO_CMAP_NO_BUDGET, &fault, 1, NULL, room, 64, &needed));
+    IS_ABSENT(hayro_cmap_load(NULL, data, len, &bundle, HAYRO_CMAP_NO_BUDGET));
+    IS_ABSENT(hayro_cmap_load(&loader, NULL, 1, &bundle, HAYRO_CMAP_NO_BUDGET));
+    IS_ABSENT(hayro_cmap_load(&loader, data, len, NULL, HAYRO_CMAP_NO_BUDGET));
+    IS_ABSENT(hayro_cmap_wanted(NULL, room, 64, &needed));
+    IS_ABSENT(hayro_cmap_wanted(&loader, NULL, 64, &needed));
+    IS_ABSENT(hayro_cmap_wanted(&loader, room, 64, NULL));
+    IS_ABSENT(hayro_cmap_supply(NULL, &bundle, 1, data, len));
+    IS_ABSENT(hayro_cmap_supply(&loader, NULL, 1, data, len));
+    IS_ABSENT(hayro_cmap_supply(&loader, &bundle, 1, NULL, 1));
+    IS_ABSENT(hayro_cmap_finish(NULL, &loader, &fault, room, 64, &needed));
+    IS_ABSENT(hayro_cmap_finish(&other, NULL, &fault, room, 64, &needed));
+    IS_ABSENT(hayro_cmap_finish(&other, &loader, NULL, room, 64, &needed));
+    IS_ABSENT(hayro_cmap_finish(&other, &loader, &fault, NULL, 64, &needed));
+    IS_ABSENT(hayro_cmap_finish(&other, &loader, &fault, room, 64, NULL));
+    CHECK(hayro_cmap_wanted(&loader, room, 64, &made) == HAYRO_CMAP_OK && made == 1 && room[0] == 'A');
+    made = 7;
     IS_ABSENT(hayro_cmap_message(NULL, room, 64, &needed));
     CHECK(hayro_cmap_read_as(NULL, data, len) == HAYRO_CMAP_READ_AS_NOTHING);
     CHECK(hayro_cmap_read_as(&fault, NULL, len) == HAYRO_CMAP_READ_AS_NOTHING);
@@ -116,10 +141,12 @@ int main(void) {
     hayro_cmap_free(NULL);
     hayro_cmap_bundle_free(NULL);
     hayro_cmap_encoder_free(NULL);
+    hayro_cmap_loader_free(NULL);
 
     hayro_cmap_free(&map);
     hayro_cmap_free(&other);
     hayro_cmap_encoder_free(&encoder);
+    hayro_cmap_loader_free(&loader);
     puts(failed ? "failed" : "ok");
     return failed;
 }

@@ -67,6 +67,33 @@ const many = all + " ".repeat(200000);
 assert.equal(read(many).count, 65536);
 assert.deepEqual(read(many).codes[999], [999, 2, 999, null]);
 
+// ten files of which each uses the next one seven times, and the last one has a CID
+const names = [..."ABCDEFGHIJ"];
+const files = names.map((name, index) => [name, `/${names[index + 1]} usecmap `.repeat(index < 9 ? 7 : 0)]);
+const bytes = Object.fromEntries(files.map(([name, text]) => [name, new TextEncoder().encode(text)]));
+bytes.J = new TextEncoder().encode("1 begincidchar <41> 7 endcidchar");
+
+/** The CID of the code 41 in a file, or why there is no map, and the names that are awaited. */
+async function load(text, missing) {
+  const asked = [];
+  const get = async (name) => {
+    asked.push(name);
+    return name === missing ? null : bytes[name];
+  };
+  try {
+    const map = await CMap.load(library, new TextEncoder().encode(text), get);
+    const cid = library.buffer("needed", 4);
+    assert.equal(library.calls.hayro_cmap_cid(map.at, 0x41, 1, cid), 1);
+    map.free();
+    return [library.numbers(cid, 1)[0], asked.join("")];
+  } catch (error) {
+    return [error.message, asked.join("")];
+  }
+}
+assert.deepEqual(await load("/A usecmap"), [7, "ABCDEFGHIJ"]);
+assert.deepEqual(await load("/A usecmap", "D"), ["no file has this name", "ABCD"]);
+assert.deepEqual(await load("1 begincidrange <20> <7E> x endcidrange /A usecmap"), ["byte 27: a CID was expected", ""]);
+
 // null is a status, as in nulls.c
 assert.equal(library.calls.hayro_cmap_parse(0, 0, 0, 0, 0, 0, 0, 0n), 5);
 assert.equal(library.calls.hayro_cmap_layers(0), 0);

@@ -11,30 +11,16 @@ use alloc::collections::BTreeMap;
 use alloc::vec::Vec;
 use core::cell::RefCell;
 
-/// The most files of a chain, including the top file.
-#[cfg(feature = "std")]
-pub(crate) const MOST_FILES: usize = 16;
-
-impl<'b> ParseOptions<'b> {
-    /// Reads a file, as [`CMap::parse_explained`] does. Used names need files, even Identity-H and Identity-V.
-    pub fn parse<'a>(
-        &self,
-        data: &[u8],
-        get_cmap: impl Fn(CMapName<'_>) -> Option<&'a [u8]>,
-    ) -> Result<CMap, Refusal> {
-        let files = Files::new(self.bundle, get_cmap);
-        let found = reader::CMap::parse_from(Global, self.budget, data, self.tables(), &files);
-        found.map(CMap::of).map_err(refusal_of)
-    }
-
+impl ParseOptions<'_> {
     /// Reads a file past its faults, as [`CMap::salvage`] does.
     pub fn salvage<'a>(
         &self,
         data: &[u8],
         get_cmap: impl Fn(CMapName<'_>) -> Option<&'a [u8]>,
     ) -> Salvaged {
-        let files = Files::named(self.bundle, get_cmap);
-        let found = reader::CMap::salvage(Global, self.budget, data, self.tables(), &files);
+        let files = Files::new(self.bundle, get_cmap);
+        let found =
+            reader::CMap::salvage(Global, self.budget, data, tables_of(self.bundle), &files);
         let found = made(found);
         let faults = found.faults.iter().map(Refusal::of).collect();
         Salvaged { map: CMap::of(found.map), faults }
@@ -46,25 +32,25 @@ impl<'b> ParseOptions<'b> {
         name: CMapName<'_>,
         get_cmap: impl Fn(CMapName<'_>) -> Option<&'a [u8]>,
     ) -> Result<Option<CMap>, Refusal> {
-        let files = Files::named(self.bundle, get_cmap);
+        let files = Files::new(self.bundle, get_cmap);
         let name = name.to_bytes();
-        let found = reader::CMap::open(Global, self.budget, name, self.tables(), &files);
+        let found = reader::CMap::open(Global, self.budget, name, tables_of(self.bundle), &files);
         found.map(|map| map.map(CMap::of)).map_err(refusal_of)
     }
 
     /// The names of the files that a file uses, in the order of the uses; `None` if it is outside the
     /// grammar.
     pub fn uses(&self, data: &[u8]) -> Option<Vec<Vec<u8>>> {
-        let names = made(reader::CMap::uses(Global, data, self.tables()))?;
+        let names = made(reader::CMap::uses(Global, data, tables_of(self.bundle)))?;
         Some(names.iter().map(|name| name.to_vec()).collect())
     }
+}
 
-    /// The tables for binary files: the tables of the bundle, otherwise of the bundle in the crate.
-    fn tables(&self) -> Option<&'b reader::Bundle<'static>> {
-        match self.bundle {
-            Some(bundle) => Some(bundle.tables()),
-            None => Bundle::embedded().map(Bundle::tables),
-        }
+/// The tables for binary files: the tables of the bundle, otherwise of the bundle in the crate.
+pub(crate) fn tables_of(bundle: Option<&Bundle>) -> Option<&reader::Bundle<'static>> {
+    match bundle {
+        Some(bundle) => Some(bundle.tables()),
+        None => Bundle::embedded().map(Bundle::tables),
     }
 }
 
@@ -75,24 +61,17 @@ fn refusal_of(fault: Fault<reader::Refusal<'_>>) -> Refusal {
     }
 }
 
-/// The files of `get_cmap`, and the files of a bundle. `get_cmap` is called once for each name, so that each name
-/// stands for one file.
+/// The files of `get_cmap`, which is called once for each name; if it has none, the file of the bundle, and the texts
+/// of Identity-H and Identity-V.
 struct Files<'a, 'b, F> {
     bundle: Option<&'b Bundle>,
     get_cmap: F,
     answers: RefCell<BTreeMap<Vec<u8>, Option<&'a [u8]>>>,
-    /// Whether Identity-H and Identity-V need files too.
-    identities_need_files: bool,
 }
 
 impl<'a, 'b, F: Fn(CMapName<'_>) -> Option<&'a [u8]>> Files<'a, 'b, F> {
     fn new(bundle: Option<&'b Bundle>, get_cmap: F) -> Self {
-        Files { bundle, get_cmap, answers: RefCell::default(), identities_need_files: true }
-    }
-
-    /// The files of a call for which Identity-H and Identity-V need no file.
-    fn named(bundle: Option<&'b Bundle>, get_cmap: F) -> Self {
-        Files { identities_need_files: false, ..Files::new(bundle, get_cmap) }
+        Files { bundle, get_cmap, answers: RefCell::default() }
     }
 
     fn answer(&self, name: &[u8]) -> Option<&'a [u8]> {
@@ -108,7 +87,6 @@ impl<'a, 'b, F: Fn(CMapName<'_>) -> Option<&'a [u8]>> Files<'a, 'b, F> {
 impl<'a, F: Fn(CMapName<'_>) -> Option<&'a [u8]>> Source for Files<'a, '_, F> {
     fn file(&self, name: &[u8]) -> Option<&[u8]> {
         let given = self.answer(name).or_else(|| self.bundle?.bytes_of(name));
-        let identity = || if self.identities_need_files { None } else { identity_text(name) };
-        given.or_else(identity)
+        given.or_else(|| identity_text(name))
     }
 }

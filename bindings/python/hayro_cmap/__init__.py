@@ -24,7 +24,7 @@ from ._lint import Finding
 from ._map import CidRange, CMap, Code, CodeRange, Codespace, Layer, Metadata, Salvaged, TextRange, WritingMode
 from ._owned import library, put
 from ._predefined import predefined
-from ._reading import uses
+from ._reading import Loader, uses
 from ._source import CMapSource
 from ._writer import CMapWriter, to_unicode
 
@@ -43,6 +43,7 @@ __all__ = [
     "Finding",
     "Grade",
     "Layer",
+    "Loader",
     "Metadata",
     "NotABundle",
     "NotWritable",

@@ -5,11 +5,11 @@ from typing import ContextManager, Optional
 
 from ._faults import NotABundle
 from ._library import NOT_A_BUNDLE, Handle
-from ._owned import Owned, checked, library, put
+from ._owned import Shared, checked, library, put
 from ._values import Buffer, Name, bytes_of, name_of
 
 
-class Bundle(Owned):
+class Bundle(Shared):
     """A bundle, opened once for any number of maps. It is freed by `close`, at the end of `with`, or with the last
     reference.
 

@@ -44,7 +44,7 @@ MOST_NAMES = 16
 
 
 class Handle(Structure):
-    """A hayro_cmap, a hayro_cmap_bundle or a hayro_cmap_encoder."""
+    """A hayro_cmap, a hayro_cmap_bundle, a hayro_cmap_encoder or a hayro_cmap_loader."""
 
     _fields_ = [("full", c_bool), ("owned", c_void_p)]
 
@@ -201,8 +201,8 @@ CALLS = {
     "hayro_cmap_encoder_build_with": (c_int, [HANDLE, HANDLE, HANDLE, HANDLE, HANDLE, c_bool]),
     "hayro_cmap_encoder_free": (None, [HANDLE]),
     "hayro_cmap_encoder_share": (c_int, [HANDLE, HANDLE]),
-    "hayro_cmap_explain": (c_int, [HANDLE, *DATA, *OVER_FILES, POINTER(Fault), *ROOM]),
     "hayro_cmap_extract": (c_int, [HANDLE, HANDLE, HANDLE, *DATA, *CHARACTERS, c_char_p, c_size_t, POINTER(Extracted)]),
+    "hayro_cmap_finish": (c_int, [HANDLE, HANDLE, POINTER(Fault), *ROOM]),
     "hayro_cmap_fold": (c_int, [*DATA, *ROOM, SIZE]),
     "hayro_cmap_free": (None, [HANDLE]),
     "hayro_cmap_identity": (c_int, [HANDLE, c_bool]),
@@ -216,6 +216,8 @@ CALLS = {
         c_int,
         [HANDLE, *DATA, c_bool, POINTER(c_uint32), c_size_t, POINTER(Found), c_size_t, SIZE],
     ),
+    "hayro_cmap_load": (c_int, [HANDLE, *DATA, HANDLE, c_uint64]),
+    "hayro_cmap_loader_free": (None, [HANDLE]),
     "hayro_cmap_make": (c_int, [POINTER(Facts), POINTER(Declaration), c_size_t, *ROOM]),
     "hayro_cmap_message": (c_int, [POINTER(Fault), *ROOM]),
     "hayro_cmap_notdef_ranges": (c_int, [HANDLE, c_size_t, c_uint8, POINTER(DeclaredCids), c_size_t, SIZE]),
@@ -223,12 +225,14 @@ CALLS = {
     "hayro_cmap_read_as": (c_int, [POINTER(Fault), *DATA]),
     "hayro_cmap_salvage": (c_int, [HANDLE, *DATA, *OVER_FILES, POINTER(Fault), c_size_t, SIZE, *ROOM]),
     "hayro_cmap_share": (c_int, [HANDLE, HANDLE]),
+    "hayro_cmap_supply": (c_int, [HANDLE, HANDLE, c_uint32, *DATA]),
     "hayro_cmap_text": (c_int, [HANDLE, c_uint32, *ROOM]),
     "hayro_cmap_text_ranges": (c_int, [HANDLE, c_size_t, POINTER(DeclaredTexts), c_size_t, SIZE]),
     "hayro_cmap_text_units": (c_int, [HANDLE, c_size_t, c_size_t, POINTER(c_uint16), c_size_t, SIZE]),
     "hayro_cmap_unicode_name": (c_int, [*DATA, c_uint32, *ROOM]),
     "hayro_cmap_uses": (c_int, [*DATA, HANDLE, SIZE, c_size_t, SIZE, *ROOM]),
     "hayro_cmap_version": (c_int, ROOM),
+    "hayro_cmap_wanted": (c_int, [HANDLE, *ROOM]),
     "hayro_cmap_warning_name": (c_int, [c_uint32, *ROOM]),
     "hayro_cmap_write": (c_int, [HANDLE, POINTER(ChosenCodes), c_size_t, *ROOM]),
 }

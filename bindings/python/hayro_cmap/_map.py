@@ -27,14 +27,16 @@ from ._library import (
     Handle,
 )
 from ._lint import Finding, finding_of, shown_codes
-from ._owned import Owned, checked, library, put
+from ._owned import Shared, checked, library, put
 from ._predefined import Kept, beside
 from ._reading import (
     NO_FILES,
+    AwaitedFiles,
     Files,
+    Loader,
     budget_of,
-    explained_over,
     gathered,
+    loaded,
     no_file,
     past_budget,
     salvaged_over,
@@ -198,7 +200,7 @@ class Layer:
         return texts
 
 
-class CMap(Owned):
+class CMap(Shared):
     """The map of a CMap file and the files that it uses. It is freed by `close`, at the end of `with`, or with the last
     reference.
 
@@ -225,10 +227,11 @@ class CMap(Owned):
     ) -> "CMap":
         """Reads a CMap file: a text or, with a bundle, also a binary file.
 
-        Used files are looked up by name in `files`, then in the bundle. `files` is a mapping, or a callable that is
-        called once for each name and returns the file, or None. All files that are read may have at most `budget` bytes
-        together; at most one file beyond the budget is requested from a callable. Files of the bundle count if they are
-        read; the bundle itself doesn't.
+        Used files are looked up by name in `files`, then in the bundle. `files` is a mapping, or a callable that
+        returns the file with a name, or None. It is called once for each name, in the order in which files are opened,
+        and not after a fault. All files that are opened may have at most `budget` bytes together, each as often as it
+        is used; at most one file beyond the budget is requested from a callable. Files of the bundle count if they are
+        used; the bundle itself doesn't.
 
         `base` is the base of the file, for example from the entry UseCMap of a stream in a PDF file. It replaces the
         base that the file names, and is used even if the file names none. It is a map, or the bytes of a file, which
@@ -239,8 +242,21 @@ class CMap(Owned):
         """
         if base is not None:
             return _based.parsed(cls, data, base, files, bundle, budget)
-        data, most = bytes_of(data), budget_of(budget)
-        return cls(explained_over(data, files, bundle, most))
+        return cls(loaded(data, files, bundle, budget))
+
+    @classmethod
+    async def load(
+        cls, data: Buffer, files: AwaitedFiles, bundle: Optional[Bundle] = None, budget: Optional[int] = None
+    ) -> "CMap":
+        """Reads a CMap file as `parse` does, over files that are awaited, for example from a network. `files` is an
+        asynchronous function that returns the file with a name, or None.
+
+        Files are awaited one after another, since only a file that was read shows which files it uses.
+        """
+        with Loader(data, bundle, budget) as loader:
+            while (name := loader.wanted) is not None:
+                loader.supply(await files(name))
+            return cls(loader._finished())
 
     @classmethod
     def salvage(
@@ -298,7 +314,7 @@ class CMap(Owned):
         if file is None and bundle is not None:
             file = bundle.file(name)
         if file is not None:
-            return cls(explained_over(bytes_of(file), files, bundle, most, opened=name))
+            return cls(loaded(file, files, bundle, most, opened=name))
         handle = Handle()
         with held(None) as over:
             status = checked(library.hayro_cmap_open(handle, name, len(name), over, table_of({}), 0, most))

@@ -35,7 +35,6 @@ class Owned:
     _what = "the handle"
     _made_by = ""
     _free = None
-    _share = None
 
     def __init__(self, handle: Optional[Handle] = None):
         if not isinstance(handle, Handle):
@@ -69,12 +68,6 @@ class Owned:
             raise ValueError(f"{self._what} is closed")
         return self._handle
 
-    def share(self):
-        """Another handle of the same object, for lookups in another thread at the same time. Nothing is copied."""
-        other = Handle()
-        checked(self._ask(type(self)._share, other))
-        return type(self)(other)
-
     def close(self):
         """Frees it, unless other handles share it. Later use raises ValueError, except a second `close`."""
         with self._lock:
@@ -94,6 +87,21 @@ class Owned:
     def __del__(self):
         if hasattr(self, "_lock"):
             self.close()
+
+    def __reduce__(self):
+        raise TypeError(f"{self._what} can't be copied or pickled")
+
+
+class Shared(Owned):
+    """A handle of an object that other handles may share."""
+
+    _share = None
+
+    def share(self):
+        """Another handle of the same object, for lookups in another thread at the same time. Nothing is copied."""
+        other = Handle()
+        checked(self._ask(type(self)._share, other))
+        return type(self)(other)
 
     def __reduce__(self):
         raise TypeError(f"{self._what} can't be copied or pickled: share() gives another handle")

@@ -6,18 +6,36 @@ import functools
 import itertools
 from ctypes import c_size_t
 from types import MappingProxyType
-from typing import Callable, Dict, Iterable, Iterator, List, Mapping, Optional, Tuple, Union
+from typing import (
+    TYPE_CHECKING,
+    Awaitable,
+    Callable,
+    Dict,
+    Iterable,
+    Iterator,
+    List,
+    Mapping,
+    Optional,
+    Tuple,
+    Union,
+)
 
 from ._bundle import Bundle, held
 from ._faults import Cause, Reason, Refused, Segment
-from ._library import NO_BUDGET, NO_ROOM, OK, REFUSED, Fault, File, Handle
-from ._owned import checked, library, put
+from ._library import NO_BUDGET, NO_ROOM, OVER_BUDGET, REFUSED, Fault, File, Handle
+from ._owned import Owned, checked, library, put
 from ._values import Buffer, Name, bytes_of, name_of, number
+
+if TYPE_CHECKING:
+    from ._map import CMap
 
 #: Files by their names, or a callable that gives the file with a name, or None.
 Files = Union[
     Mapping[bytes, Buffer], Mapping[str, Buffer], Mapping[Name, Buffer], Callable[[bytes], Optional[Buffer]]
 ]
+
+#: An asynchronous function that gives the file with a name, or None.
+AwaitedFiles = Callable[[bytes], Awaitable[Optional[Buffer]]]
 
 NO_FILES: Files = MappingProxyType({})
 
@@ -47,43 +65,80 @@ def filled():
         raise
 
 
-def explained(data: bytes, files: Dict[bytes, bytes], bundle: Optional[Bundle], budget: int, opened=None) -> Handle:
-    """The handle of the map of a file. Raises Refused if there is no map."""
-    with filled() as handle:
-        explain_to(handle, data, files, bundle, budget, opened)
-    return handle
+class Loader(Owned):
+    """Reads a CMap file as `CMap.parse` does, over files that the caller looks up, in any way and at any time:
 
+        with Loader(data) as loader:
+            while (name := loader.wanted) is not None:
+                loader.supply(look_up(name))
+            cmap = loader.finish()
 
-def explained_over(data: bytes, files: Optional[Files], bundle: Optional[Bundle], budget: int, opened=None) -> Handle:
-    """The same with all files of a mapping, or with the files of a callable. Each name is requested once."""
-    if not callable(files):
-        return explained(data, gathered(files), bundle, budget, opened)
-    ask = functools.lru_cache(maxsize=None)(files)
-    found = fetched(names_in(data, bundle), MOST_IN_CHAIN - 1, ask, bundle, budget - len(data))
-    while True:
-        try:
-            return explained(data, found, bundle, budget, opened)
-        except Refused as refused:
-            # this file wasn't requested, since the others have more bytes than the budget
-            file = ask(refused.names[-1]) if refused.cause == Cause.NO_FILE else None
-            if file is None:
-                raise
-            found[refused.names[-1]] = bytes_of(file)
+    Each name is wanted once, in the order in which files are opened, and no name after a fault. Each file is parsed
+    once. `CMap.load` is this loop for files that are awaited. Binary files are read with the tables of the bundle.
+    """
 
+    _what = "the loader"
+    _free = staticmethod(library.hayro_cmap_loader_free)
 
-def explain_to(handle: Handle, data: bytes, files, bundle: Optional[Bundle], budget: int, opened):
-    """Fills a handle with the map of a file."""
-    table, fault, needed, room_len = table_of(files), Fault(), c_size_t(256), 0
-    while needed.value > room_len:
-        room_len = needed.value
-        room = ctypes.create_string_buffer(room_len)
+    def __init__(self, data: Buffer, bundle: Optional[Bundle] = None, budget: Optional[int] = None):
+        data, most, handle = bytes_of(data), budget_of(budget), Handle()
         with held(bundle) as over:
-            status = library.hayro_cmap_explain(
-                handle, data, len(data), over, table, len(files), budget, fault, room, room_len, needed
-            )
-        if checked(status) == OK:
-            return
-    raise refusal(fault, room.raw, opened)
+            checked(library.hayro_cmap_load(handle, data, len(data), over, most))
+        super().__init__(handle)
+        self._bundle = bundle
+
+    @property
+    def wanted(self) -> Optional[bytes]:
+        """The name of the file that is wanted next, or None."""
+        with self._held() as handle:
+            return put(library.hayro_cmap_wanted, handle)
+
+    def supply(self, file: Optional[Buffer]) -> None:
+        """Supplies the wanted file. With None, the file of the bundle counts, and Identity-H and Identity-V need no
+        file. Nothing changes if no file is wanted."""
+        data = b"" if file is None else bytes_of(file)
+        with self._held() as handle, held(self._bundle) as over:
+            checked(library.hayro_cmap_supply(handle, over, file is not None, data, len(data)))
+
+    def finish(self) -> "CMap":
+        """The map, which closes the loader. The caller has none of the files that are still wanted. Raises Refused if
+        there is no map."""
+        from ._map import CMap
+
+        return CMap(self._finished())
+
+    def _finished(self, opened: Optional[bytes] = None) -> Handle:
+        """The handle of the map."""
+        while self.wanted is not None:
+            self.supply(None)
+        fault, needed, room_len = Fault(), c_size_t(256), 0
+        with filled() as cmap:
+            while needed.value > room_len:
+                room_len = needed.value
+                room = ctypes.create_string_buffer(room_len)
+                with self._held() as handle:
+                    status = library.hayro_cmap_finish(cmap, handle, fault, room, room_len, needed)
+                if status not in (REFUSED, OVER_BUDGET):
+                    self.close()
+                    checked(status)
+                    return cmap
+            raise refusal(fault, room.raw, opened)
+
+
+def loaded(
+    data: Buffer,
+    files: Optional[Files],
+    bundle: Optional[Bundle],
+    budget: Optional[int],
+    opened: Optional[bytes] = None,
+) -> Handle:
+    """The handle of the map of a file, over the files of a mapping or of a callable. Raises Refused if there is no
+    map."""
+    file_of = files if callable(files) else gathered(files).get
+    with Loader(data, bundle, budget) as loader:
+        while (name := loader.wanted) is not None:
+            loader.supply(file_of(name))
+        return loader._finished(opened)
 
 
 def salvage_to(handle: Handle, data: bytes, files: Dict[bytes, bytes], bundle: Optional[Bundle], budget: int):
@@ -192,7 +247,7 @@ def uses(data: Buffer, bundle: Optional[Bundle] = None) -> List[bytes]:
         with held(bundle) as over:
             status = library.hayro_cmap_uses(data, len(data), over, lens, len(lens), names, room, len(room), needed)
     if checked(status) == REFUSED:
-        library.hayro_cmap_free(explained(data, {}, bundle, NO_BUDGET))
+        Loader(data, bundle).finish()
     return pieces(room.raw, lens[: names.value])
 
 

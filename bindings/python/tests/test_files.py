@@ -104,7 +104,7 @@ class Callables(unittest.TestCase):
         files = Recorded({b"A": uses(b"C", b"B"), b"B": uses(b"C"), b"C": SMALL})
         with CMap.parse(uses(b"A", b"B", b"A"), files) as cmap:
             self.assertEqual(cmap.cid(0x41, 1), 34)
-        self.assertEqual(files.asked, [b"A", b"B", b"C"])
+        self.assertEqual(files.asked, [b"A", b"C", b"B"])
 
     def test_open(self):
         files = Recorded({b"Small-V": SMALL_V, b"Small-H": SMALL})

@@ -7,27 +7,10 @@
 //! then the text of its CID in the CMap from its character collection to Unicode, such as
 //! Adobe-Japan1-UCS2 (ISO 32000-1, 9.10.2), if the folder has this CMap.
 
-use hayro_cmap::{BfString, CMap, CMapName, Extractor, Refusal, StringCode};
-use std::collections::HashMap;
+use hayro_cmap::{BfString, CMap, CMapName, Extractor, Loader, Refusal, StringCode};
 use std::error::Error;
 use std::path::Path;
 use std::{env, fs, process};
-
-/// The file of a name, and the files that it uses, directly or through others, by their names.
-fn files_of(folder: &Path, name: &[u8]) -> HashMap<Vec<u8>, Vec<u8>> {
-    let mut files = HashMap::new();
-    let mut wanted = vec![name.to_vec()];
-    while let Some(name) = wanted.pop() {
-        if files.contains_key(&name) {
-            continue;
-        }
-        if let Some(bytes) = read(folder, &name) {
-            wanted.extend(CMap::uses(&bytes).unwrap_or_default());
-            files.insert(name, bytes);
-        }
-    }
-    files
-}
 
 /// The file of a name in a folder. A name may come from a file, and mustn't lead out of the folder.
 fn read(folder: &Path, name: &[u8]) -> Option<Vec<u8>> {
@@ -37,9 +20,15 @@ fn read(folder: &Path, name: &[u8]) -> Option<Vec<u8>> {
 
 /// The map of a file of the folder; `None` if there is no such file.
 fn map_of(folder: &Path, name: CMapName<'_>) -> Result<Option<CMap>, String> {
-    let files = files_of(folder, name.to_bytes());
-    CMap::open(name, |name| files.get(name.to_bytes()).map(Vec::as_slice))
-        .map_err(|refusal| message_of(name, &refusal))
+    let Some(data) = read(folder, name.to_bytes()) else {
+        return Ok(None);
+    };
+    let mut loader = Loader::new(&data);
+    while let Some(used) = loader.wanted() {
+        let file = read(folder, used.to_bytes());
+        loader.supply(file.as_deref());
+    }
+    loader.finish().map(Some).map_err(|refusal| message_of(name, &refusal))
 }
 
 /// The file at fault, and what is wrong with it.

@@ -54,6 +54,13 @@ struct RawEncoder {
     encoder: *mut c_void,
 }
 
+/// A loader, or none.
+#[repr(C)]
+struct RawLoader {
+    full: bool,
+    loader: *mut c_void,
+}
+
 /// A file and its name, both borrowed for `'a`.
 #[repr(C)]
 pub(crate) struct File<'a> {
@@ -270,19 +277,35 @@ type LayerCids =
     unsafe extern "C" fn(*mut RawMap, usize, u8, *mut CidRange, usize, *mut usize) -> u32;
 
 unsafe extern "C" {
-    fn hayro_cmap_explain(
-        map: *mut RawMap,
+    fn hayro_cmap_load(
+        loader: *mut RawLoader,
         data: *const u8,
         data_len: usize,
         bundle: *mut RawBundle,
-        files: *const File<'_>,
-        files_len: usize,
         budget: u64,
+    ) -> u32;
+    fn hayro_cmap_wanted(
+        loader: *mut RawLoader,
+        room: *mut u8,
+        room_len: usize,
+        needed: *mut usize,
+    ) -> u32;
+    fn hayro_cmap_supply(
+        loader: *mut RawLoader,
+        bundle: *mut RawBundle,
+        found: u32,
+        file: *const u8,
+        file_len: usize,
+    ) -> u32;
+    fn hayro_cmap_finish(
+        map: *mut RawMap,
+        loader: *mut RawLoader,
         fault: *mut RawFault,
         room: *mut u8,
         room_len: usize,
         needed: *mut usize,
     ) -> u32;
+    fn hayro_cmap_loader_free(loader: *mut RawLoader);
     fn hayro_cmap_salvage(
         map: *mut RawMap,
         data: *const u8,
@@ -672,45 +695,6 @@ impl MapHandle {
         MapHandle(RawMap { full: false, map: ptr::null_mut() })
     }
 
-    /// The map of a file. The bundle may be empty.
-    pub(crate) fn read(
-        data: &[u8],
-        bundle: &mut BundleHandle,
-        files: &[File<'_>],
-        budget: u64,
-    ) -> Result<MapHandle, Fault> {
-        let mut map = MapHandle::empty();
-        let mut fault = RawFault::default();
-        let mut room = vec![0; SHORT];
-        loop {
-            let mut needed = 0;
-            // SAFETY: see the head of the module.
-            let status = unsafe {
-                hayro_cmap_explain(
-                    &mut map.0,
-                    data.as_ptr(),
-                    data.len(),
-                    &mut bundle.0,
-                    files.as_ptr(),
-                    files.len(),
-                    budget,
-                    &mut fault,
-                    room.as_mut_ptr(),
-                    room.len(),
-                    &mut needed,
-                )
-            };
-            match status {
-                OK => return Ok(map),
-                REFUSED | OVER_BUDGET if needed <= room.len() => {
-                    return Err(Fault::of(&fault, &room));
-                }
-                REFUSED | OVER_BUDGET => room.resize(needed, 0),
-                _ => out_of_memory(),
-            }
-        }
-    }
-
     /// The map of a file that is read past its faults, and the faults.
     pub(crate) fn salvage(
         data: &[u8],
@@ -749,14 +733,10 @@ impl MapHandle {
         (map, Fault::each(&faults[..found], &room))
     }
 
-    /// The map of the file of a name.
-    pub(crate) fn open(
-        name: &[u8],
-        bundle: &mut BundleHandle,
-        files: &[File<'_>],
-        budget: u64,
-    ) -> Opened {
+    /// The map of a name for which the caller has no file.
+    pub(crate) fn open(name: &[u8], bundle: &mut BundleHandle, budget: u64) -> Opened {
         let mut map = MapHandle::empty();
+        let files: [File<'_>; 0] = [];
         // SAFETY: see the head of the module.
         let status = unsafe {
             hayro_cmap_open(
@@ -1109,6 +1089,104 @@ impl BundleHandle {
                 }
                 NO_MEMORY => out_of_memory(),
                 _ => return None,
+            }
+        }
+    }
+}
+
+/// What the caller has of a wanted file.
+#[derive(Clone, Copy)]
+#[repr(u32)]
+pub(crate) enum Found {
+    /// Nothing. The file may be in the bundle, or built in.
+    Elsewhere = 0,
+    /// Its bytes.
+    Given = 1,
+    /// Nothing. No file has the name.
+    Nowhere = 2,
+}
+
+/// A loader of the library, and its bundle, which may be empty.
+pub(crate) struct LoaderHandle {
+    loader: RawLoader,
+    bundle: BundleHandle,
+}
+
+// SAFETY: as for `MapHandle`.
+unsafe impl Send for LoaderHandle {}
+
+// SAFETY: no call takes a `&LoaderHandle`.
+unsafe impl Sync for LoaderHandle {}
+
+impl Drop for LoaderHandle {
+    fn drop(&mut self) {
+        // SAFETY: see the head of the module. This is the one call that frees the handle.
+        unsafe { hayro_cmap_loader_free(&mut self.loader) }
+    }
+}
+
+impl LoaderHandle {
+    /// A loader of a file.
+    pub(crate) fn load(data: &[u8], bundle: &mut BundleHandle, budget: u64) -> LoaderHandle {
+        let loader = RawLoader { full: false, loader: ptr::null_mut() };
+        let mut made = LoaderHandle { loader, bundle: bundle.share() };
+        // SAFETY: see the head of the module.
+        expect_memory(unsafe {
+            hayro_cmap_load(&mut made.loader, data.as_ptr(), data.len(), &mut made.bundle.0, budget)
+        });
+        made
+    }
+
+    /// The name of the wanted file.
+    pub(crate) fn wanted(&mut self) -> Option<Vec<u8>> {
+        written(SHORT, |room, needed| {
+            // SAFETY: see the head of the module.
+            unsafe { hayro_cmap_wanted(&mut self.loader, room.as_mut_ptr(), room.len(), needed) }
+        })
+    }
+
+    /// Whether the bundle has a file with this name.
+    pub(crate) fn is_in_bundle(&mut self, name: &[u8]) -> bool {
+        self.bundle.file(name).is_some()
+    }
+
+    /// Supplies the wanted file, if one is wanted.
+    pub(crate) fn supply(&mut self, found: Found, file: &[u8]) {
+        // SAFETY: see the head of the module.
+        expect_memory(unsafe {
+            hayro_cmap_supply(
+                &mut self.loader,
+                &mut self.bundle.0,
+                found as u32,
+                file.as_ptr(),
+                file.len(),
+            )
+        });
+    }
+
+    /// The map of the file, if no file is wanted.
+    pub(crate) fn finish(&mut self) -> Result<MapHandle, Fault> {
+        let mut map = MapHandle::empty();
+        let mut fault = RawFault::default();
+        let mut room = vec![0; SHORT];
+        loop {
+            let mut needed = 0;
+            // SAFETY: see the head of the module.
+            let status = unsafe {
+                hayro_cmap_finish(
+                    &mut map.0,
+                    &mut self.loader,
+                    &mut fault,
+                    room.as_mut_ptr(),
+                    room.len(),
+                    &mut needed,
+                )
+            };
+            match status {
+                REFUSED | OVER_BUDGET if needed > room.len() => room.resize(needed, 0),
+                REFUSED | OVER_BUDGET => return Err(Fault::of(&fault, &room)),
+                NO_MEMORY => out_of_memory(),
+                _ => return Ok(map),
             }
         }
     }

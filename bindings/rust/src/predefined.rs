@@ -1,18 +1,16 @@
 //! The predefined CMap files of the system.
 
 use crate::extractor::{Extractor, family_of};
+use crate::loader::Loader;
 use crate::map::CMap;
-use crate::options::ParseOptions;
-use crate::reading::MOST_FILES;
 use crate::refusal::Refusal;
 use crate::{CMapName, CidFamily};
-use std::collections::BTreeMap;
 use std::ffi::OsStr;
 use std::fmt::{self, Display, Formatter};
 use std::os::unix::ffi::OsStrExt;
 use std::path::{Path, PathBuf};
 use std::vec::Vec;
-use std::{env, fs, io, vec};
+use std::{env, fs, io};
 
 /// The folders of poppler-data, of Ghostscript, and of the packages cmap-adobe-*.
 const SYSTEM_FOLDERS: [&str; 3] =
@@ -119,9 +117,15 @@ impl CMap {
     /// ```
     pub fn open_predefined<'n>(name: impl Into<CMapName<'n>>) -> Result<Option<CMap>, OpenError> {
         let name = name.into();
-        let files = files_of(name)?;
-        let get_cmap = |name: CMapName<'_>| files.get(name.to_bytes()).map(Vec::as_slice);
-        Ok(ParseOptions::new().open(name, get_cmap)?)
+        let Some(data) = predefined_file(name)? else {
+            return Ok(CMap::open(name, |_| None)?);
+        };
+        let mut loader = Loader::new(&data);
+        while let Some(used) = loader.wanted() {
+            let file = predefined_file(used)?;
+            loader.supply(file.as_deref());
+        }
+        Ok(Some(loader.finish()?))
     }
 }
 
@@ -164,24 +168,4 @@ impl Extractor {
         let open = |name: CMapName<'_>| CMap::open_predefined(name);
         Extractor::by_names(encoding, to_unicode, Some(family), open)
     }
-}
-
-/// The file of a name, and the files that it uses, directly or through others, by their names.
-fn files_of(name: CMapName<'_>) -> io::Result<BTreeMap<Vec<u8>, Vec<u8>>> {
-    let mut found = BTreeMap::new();
-    let mut names = vec![name.to_bytes().to_vec()];
-    for _ in 0..MOST_FILES {
-        let mut used = Vec::new();
-        for name in names {
-            if found.contains_key(&name) {
-                continue;
-            }
-            if let Some(bytes) = predefined_file(CMapName::from_bytes(&name))? {
-                used.extend(CMap::uses(&bytes).unwrap_or_default());
-                found.insert(name, bytes);
-            }
-        }
-        names = used;
-    }
-    Ok(found)
 }

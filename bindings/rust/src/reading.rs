@@ -2,6 +2,7 @@
 
 use crate::bundle::Bundle;
 use crate::ffi::{File, MapHandle, Opened};
+use crate::loader::Loader;
 use crate::map::CMap;
 use crate::names::CMapName;
 use crate::options::{ParseOptions, Salvaged};
@@ -11,22 +12,9 @@ use std::borrow::Cow;
 use std::collections::HashMap;
 
 /// The most files of a chain, including the top file.
-pub(crate) const MOST_FILES: usize = 16;
+const MOST_FILES: usize = 16;
 
 impl ParseOptions<'_> {
-    /// Reads a file, as [`CMap::parse_explained`] does. Used names need files, even Identity-H and Identity-V.
-    pub fn parse<'a>(
-        &self,
-        data: &[u8],
-        get_cmap: impl Fn(CMapName<'_>) -> Option<&'a [u8]>,
-    ) -> Result<CMap, Refusal> {
-        let mut used = Used::new(self, get_cmap);
-        match used.gather(data) {
-            Err(NoMap::Identity(names)) => Err(Refusal::no_file(names)),
-            _ => self.read(data, &used.files()),
-        }
-    }
-
     /// Reads a file past its faults, as [`CMap::salvage`] does.
     ///
     /// `get_cmap` isn't called for a name that only a file at fault uses, if the bundle has the file or the
@@ -36,11 +24,11 @@ impl ParseOptions<'_> {
         data: &[u8],
         get_cmap: impl Fn(CMapName<'_>) -> Option<&'a [u8]>,
     ) -> Salvaged {
-        let mut used = Used::named(self, get_cmap);
-        let _: Result<(), NoMap> = used.gather(data);
+        let mut files = Files::new(self, get_cmap);
+        files.gather(data);
         loop {
-            let (map, faults) = self.read_past(data, &used.files());
-            if !used.gather_missing(&faults) {
+            let (map, faults) = self.read_past(data, &files.answered());
+            if !files.gather_missing(&faults) {
                 return Salvaged { map: CMap::of(map), faults };
             }
         }
@@ -52,19 +40,16 @@ impl ParseOptions<'_> {
         name: CMapName<'_>,
         get_cmap: impl Fn(CMapName<'_>) -> Option<&'a [u8]>,
     ) -> Result<Option<CMap>, Refusal> {
-        let mut used = Used::named(self, get_cmap);
-        let data = used.file(name.to_bytes());
-        if let Some(data) = &data {
-            let _: Result<(), NoMap> = used.gather(data);
+        let mut files = Files::new(self, get_cmap);
+        if let Some(data) = files.file(name.to_bytes()) {
+            return files.load(&data).finish().map(Some);
         }
-        let files = used.files();
-        let open = |bundle: &mut _| MapHandle::open(name.to_bytes(), bundle, &files, self.most());
-        match (self.tables().ask(open), data) {
-            (Opened::Map(map), _) => Ok(Some(CMap::of(map))),
-            (Opened::Refused, Some(data)) => self.read(&data, &files).map(Some),
-            // Identity-H and Identity-V have no file here. Only the budget refuses them.
-            (Opened::Refused, None) => Err(Refusal::over_budget()),
-            (Opened::Absent, _) => Ok(None),
+        let open = |bundle: &mut _| MapHandle::open(name.to_bytes(), bundle, self.most());
+        match self.tables().ask(open) {
+            Opened::Map(map) => Ok(Some(CMap::of(map))),
+            // Identity-H and Identity-V need no file. Only the budget refuses them.
+            Opened::Refused => Err(Refusal::over_budget()),
+            Opened::Absent => Ok(None),
         }
     }
 
@@ -74,91 +59,81 @@ impl ParseOptions<'_> {
         self.tables().ask(|bundle| bundle.uses(data))
     }
 
-    fn read(&self, data: &[u8], files: &[File<'_>]) -> Result<CMap, Refusal> {
-        let read = |bundle: &mut _| MapHandle::read(data, bundle, files, self.most());
-        self.tables().ask(read).map(CMap::of).map_err(Refusal::of)
-    }
-
     fn read_past(&self, data: &[u8], files: &[File<'_>]) -> (MapHandle, Vec<Refusal>) {
         let read = |bundle: &mut _| MapHandle::salvage(data, bundle, files, self.most());
         let (map, faults) = self.tables().ask(read);
         (map, faults.into_iter().map(Refusal::of).collect())
     }
 
-    fn tables(&self) -> &Bundle {
+    pub(crate) fn tables(&self) -> &Bundle {
         self.bundle.unwrap_or_else(|| Bundle::none())
     }
 
-    fn most(&self) -> u64 {
+    pub(crate) fn most(&self) -> u64 {
         self.budget.unwrap_or(u64::MAX)
     }
 }
 
-/// The files that a file uses, directly or through others. `get_cmap` is called once for each name.
-struct Used<'a, 'o, F> {
+/// The files of `get_cmap`, which is called once for each name; if it has none, the files of the bundle.
+struct Files<'a, 'o, F> {
     options: &'o ParseOptions<'o>,
     get_cmap: F,
     answers: HashMap<Vec<u8>, Option<&'a [u8]>>,
     /// How many bytes the read file and the answers have, each counted once.
     bytes: u64,
-    /// Whether Identity-H and Identity-V need files too.
-    identities_need_files: bool,
 }
 
-/// There is no map.
-enum NoMap {
-    /// These names lead to Identity-H or Identity-V, which needs a file.
-    Identity(Vec<Vec<u8>>),
-    /// A file is missing or malformed, a chain is too long, or the budget is exceeded. The library reports
-    /// which, from the files that were gathered until then.
-    Told,
-}
+/// The walk through the files ended at a fault, which the library reports.
+struct Fault;
 
-impl<'a, 'o, F: Fn(CMapName<'_>) -> Option<&'a [u8]>> Used<'a, 'o, F> {
-    fn new(options: &'o ParseOptions<'o>, get_cmap: F) -> Used<'a, 'o, F> {
-        let answers = HashMap::new();
-        Used { options, get_cmap, answers, bytes: 0, identities_need_files: true }
+impl<'a, 'o, F: Fn(CMapName<'_>) -> Option<&'a [u8]>> Files<'a, 'o, F> {
+    fn new(options: &'o ParseOptions<'o>, get_cmap: F) -> Files<'a, 'o, F> {
+        Files { options, get_cmap, answers: HashMap::new(), bytes: 0 }
     }
 
-    /// The files of a call for which Identity-H and Identity-V need no file.
-    fn named(options: &'o ParseOptions<'o>, get_cmap: F) -> Used<'a, 'o, F> {
-        Used { identities_need_files: false, ..Used::new(options, get_cmap) }
-    }
-
-    /// Gathers the files that a file uses, and the files that these use, in the order in which they are read.
-    fn gather(&mut self, data: &[u8]) -> Result<(), NoMap> {
-        self.bytes = data.len() as u64;
-        self.gather_under(data, &[])
-    }
-
-    /// The same for a file to which these names lead.
-    fn gather_under(&mut self, data: &[u8], names: &[Vec<u8>]) -> Result<(), NoMap> {
-        if self.bytes > self.options.most() {
-            return Err(NoMap::Told);
+    /// A loader that is supplied with each file that it wants.
+    fn load(&mut self, data: &[u8]) -> Loader {
+        let mut loader = self.options.loader(data);
+        while let Some(name) = loader.wanted() {
+            let file = self.answer(name.to_bytes());
+            loader.supply(file);
         }
-        for name in self.uses(data).ok_or(NoMap::Told)? {
-            if names.len() + 1 == MOST_FILES {
-                return Err(NoMap::Told);
+        loader
+    }
+
+    /// Asks for the files that a file uses, and the files that these use, in the order in which they are read, up to a
+    /// fault.
+    fn gather(&mut self, data: &[u8]) {
+        self.bytes = data.len() as u64;
+        let _: Result<(), Fault> = self.gather_under(data, 1);
+    }
+
+    /// The same for the last of so many files of a chain.
+    fn gather_under(&mut self, data: &[u8], files: usize) -> Result<(), Fault> {
+        if self.bytes > self.options.most() {
+            return Err(Fault);
+        }
+        for name in self.uses(data).ok_or(Fault)? {
+            if files == MOST_FILES {
+                return Err(Fault);
             }
             if !self.answers.contains_key(&name) {
-                self.gather_file(&[names, &[name]].concat())?;
+                self.gather_file(&name, files + 1)?;
             }
         }
         Ok(())
     }
 
-    /// Gathers the file to which these names lead, and the files that it uses.
-    fn gather_file(&mut self, names: &[Vec<u8>]) -> Result<(), NoMap> {
-        let name = names.last().ok_or(NoMap::Told)?;
+    /// The same for the file of a name, and the files that it uses.
+    fn gather_file(&mut self, name: &[u8], files: usize) -> Result<(), Fault> {
         match self.file(name) {
-            Some(file) => self.gather_under(&file, names),
-            None if !is_identity(name) => Err(NoMap::Told),
-            None if self.identities_need_files => Err(NoMap::Identity(names.to_vec())),
-            None => Ok(()),
+            Some(file) => self.gather_under(&file, files),
+            None if is_identity(name) => Ok(()),
+            None => Err(Fault),
         }
     }
 
-    /// Gathers the files that are missing by these faults. It returns whether one of them was found.
+    /// Asks for the files that are missing by these faults. It returns whether one of them was found.
     fn gather_missing(&mut self, faults: &[Refusal]) -> bool {
         let missing = faults.iter().filter(|fault| fault.cause() == Cause::NoFile);
         let mut is_found = false;
@@ -176,29 +151,37 @@ impl<'a, 'o, F: Fn(CMapName<'_>) -> Option<&'a [u8]>> Used<'a, 'o, F> {
 
     /// The file of a name: the answer of `get_cmap`, otherwise the file of the bundle.
     fn file(&mut self, name: &[u8]) -> Option<Cow<'a, [u8]>> {
-        let answer = (self.get_cmap)(CMapName::from_bytes(name));
-        self.answers.insert(name.to_vec(), answer);
-        if let Some(bytes) = answer {
-            self.bytes = self.bytes.saturating_add(bytes.len() as u64);
+        if let Some(bytes) = self.answer(name) {
             return Some(Cow::Borrowed(bytes));
         }
         self.options.bundle?.ask(|bundle| bundle.file(name)).map(Cow::Owned)
     }
 
-    fn files(&self) -> Vec<File<'_>> {
-        let answered = self.answers.iter();
-        answered.filter_map(|(name, bytes)| Some(File::new(name, (*bytes)?))).collect()
+    fn answer(&mut self, name: &[u8]) -> Option<&'a [u8]> {
+        if let Some(answer) = self.answers.get(name) {
+            return *answer;
+        }
+        let answer = (self.get_cmap)(CMapName::from_bytes(name));
+        self.answers.insert(name.to_vec(), answer);
+        self.bytes = self.bytes.saturating_add(answer.map_or(0, |bytes| bytes.len() as u64));
+        answer
     }
-}
 
-fn is_identity(name: &[u8]) -> bool {
-    matches!(CMapName::from_bytes(name), CMapName::IdentityH | CMapName::IdentityV)
+    fn answered(&self) -> Vec<File<'_>> {
+        let answers = self.answers.iter();
+        answers.filter_map(|(name, bytes)| Some(File::new(name, (*bytes)?))).collect()
+    }
 }
 
 /// Whether a file may use another one. A text that does has the word `usecmap`.
 fn may_use(data: &[u8]) -> bool {
     const WORD: &[u8] = b"usecmap";
     data.starts_with(b"bcmap") || data.windows(WORD.len()).any(|bytes| bytes == WORD)
+}
+
+/// Whether a name is Identity-H or Identity-V.
+pub(crate) fn is_identity(name: &[u8]) -> bool {
+    matches!(CMapName::from_bytes(name), CMapName::IdentityH | CMapName::IdentityV)
 }
 
 #[cfg(test)]

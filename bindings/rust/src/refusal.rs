@@ -43,20 +43,12 @@ const SEGMENTS: [Segment; 6] = [
     Segment::Collection,
 ];
 
-/// The number of `Cause::NoFile`.
-const NO_FILE: u32 = 2;
-
 /// The number of `Cause::OverBudget`.
 const OVER_BUDGET: u32 = 4;
 
 impl Refusal {
     pub(crate) fn of(fault: Fault) -> Refusal {
         Refusal(fault)
-    }
-
-    /// No file has the last of these names.
-    pub(crate) fn no_file(names: Vec<Vec<u8>>) -> Refusal {
-        Refusal(Fault { cause: NO_FILE, reason: 0, segment: 0, offset: 0, names })
     }
 
     /// The file itself has more bytes than the budget.
@@ -67,7 +59,7 @@ impl Refusal {
     /// What is wrong.
     pub fn cause(&self) -> Cause {
         match self.0.cause {
-            NO_FILE => Cause::NoFile,
+            2 => Cause::NoFile,
             3 => Cause::ChainLength,
             OVER_BUDGET => Cause::OverBudget,
             _ => Cause::Malformed,

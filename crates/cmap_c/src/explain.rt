@@ -61,7 +61,7 @@ pub extern "C" fn hayro_cmap_explain(
 }
 
 /// The map, or the status of the call without a map, with the fault for C.
-fn tell(
+pub(crate) fn tell(
     explained: Result<Layers, Fault<Told>>,
     fault: &mut FaultNumbers,
     room: &mut [u8],

@@ -1,6 +1,6 @@
 //! A loader that its caller asks for the wanted files, and that never asks the caller.
 
-ghost use Rattle.std.specs.Prelude.{◌≡◌, ◌⊎◌, ◌+◌, ◌++◌, ◌∷◌, [], IfErr, IfOk, IfSome, IsSome, List, None, OnErr, OnOk, Option, Some, map, option_map, slice_get};
+ghost use Rattle.std.specs.Prelude.{◌≡◌, ◌⊎◌, ◌+◌, ◌++◌, ◌≤◌, ◌∷◌, [], IfErr, IfOk, IfSome, IsSome, List, None, OnErr, OnOk, Option, Some, length, map, option_map, slice_get};
 ghost use Rattle.std.specs.Option.{option_copied};
 ghost use Rattle.cmap_load.specs.Graphs.{AreNamed, IsBegun, IsNext};
 ghost use Rattle.cmap_load.specs.Loads.{AreLoadedBy, FitsBy, HasGrown, IsAwaited, IsLoading, IsRead, IsRefusedBy, IsRefusedFile, IsSet, IsUnchanged, NextIs, Reads, Refused, budget_of, files_in, refusal_of, refused_of, wanted_of};
@@ -197,6 +197,8 @@ impl<'d, N: Names<'d>> Loader<N> {
             (λ refusal. option_map refused_of refusal ≡ refusal_of N.texts self.now) }
         ensures blames { IfOk result (λ refusal. IfSome refusal
             (λ refusal. IsRefusedBy N.texts self.now (refused_of refusal))) }
+        ensures few { IfOk result (λ refusal. IfSome refusal
+            (λ refusal. length refusal.names.items ≤ 16)) }
     {
         match &self.state {
             State::Refused(FaultyFile { names, cause }) => {
@@ -326,8 +328,9 @@ fn refusal<'n, 'd, N: Names<'d>>(
     cause: Cause,
 ) -> Result<Refusal<'n>, AllocError>
     requires { AreWithin (N.texts list.now) numbers.now.items }
-    ensures { IfOk result (λ refusal. refused_of refusal
+    ensures refused { IfOk result (λ refusal. refused_of refusal
         ≡ record { names = map (text_at (N.texts list.now)) numbers.now.items; cause = cause }) }
+    ensures few { IfOk result (λ refusal. length refusal.names.items ≤ 16) }
 {
     let mut names = Vec::new(alloc);
     for number in numbers.as_slice() {

@@ -23,6 +23,12 @@ impl<T> Box<T> {
         }
     }
 
+    /// Moves the value out of its memory.
+    pub fn into_inner(held: Self) -> T {
+        let [value] = *held.0;
+        value
+    }
+
     /// The value in an array of one item in a box of `alloc`, without a copy.
     pub fn into_std(self) -> ::alloc::boxed::Box<[T; 1]> {
         self.0
@@ -67,5 +73,6 @@ mod tests {
         let mut held = Box::new(Global, [1, 2]).unwrap();
         held[1] = 3;
         assert_eq!(*held, [1, 3]);
+        assert_eq!(Box::into_inner(held), [1, 3]);
     }
 }
