@@ -4,10 +4,11 @@ use Rattle.std.specs.List.{All, AllZip}
 use Rattle.std.proofs.Math.ListN.{length-append}
 use Rattle.std.proofs.lemmas.List.Elements.{All-cons, All-head, All-nil, All-tail}
 use Rattle.cmap_values.specs.Files.{File}
-use Rattle.cmap_binary.specs.Bundles.{PrefixTables}
 use Rattle.cmap_layers.specs.Layers.{Layer, layer_of}
 use Rattle.cmap_load.specs.BytesSpent.{Leaves}
-use Rattle.cmap_load.specs.Salvage.{Found, IsReadWithin, Opening, Reading, Salvages, SalvagesEach, SalvagesNamed, SalvagesUse, no_layers}
+use Rattle.cmap_load.specs.Kept.{IsAnswer, IsPast, Over, Stored, size}
+use Rattle.cmap_load.specs.declared.salvage.kept.KeptFiles.{KeptFiles}
+use Rattle.cmap_load.specs.Salvage.{Found, Opening, Reading, ReadsWithin, SalvagesEach, SalvagesNamed, SalvagesUse, no_layers}
 use Rattle.cmap_load.specs.SalvageSeen.{HasRoom, IsRead}
 use Rattle.cmap_load.specs.declared.refusal.Cause.{Cause}
 use Rattle.cmap_load.specs.declared.refusal.Cause.TheVariants.{ChainLength, NoFile}
@@ -25,11 +26,11 @@ Leaves-split (Some budget) None first second leaves = absurd leaves
 Leaves-split (Some budget) (Some left) first second leaves = (Some (left + second), omega (arith, leaves), refl)
 
 -- ---- lists
-All-front : {A : Type 0} (P : A → Type 0) (xs ys : List A) → All P (xs ++ ys) → All P xs
+pub All-front : {A : Type 0} (P : A → Type 0) (xs ys : List A) → All P (xs ++ ys) → All P xs
 All-front P [] ys all = All-nil P
 All-front P (x ∷ xs) ys all = All-cons P x xs (All-head P x (xs ++ ys) all) (All-front P xs ys (All-tail P x (xs ++ ys) all))
 
-All-back : {A : Type 0} (P : A → Type 0) (xs ys : List A) → All P (xs ++ ys) → All P ys
+pub All-back : {A : Type 0} (P : A → Type 0) (xs ys : List A) → All P (xs ++ ys) → All P ys
 All-back P [] ys all = all
 All-back P (x ∷ xs) ys all = All-back P xs ys (All-tail P x (xs ++ ys) all)
 
@@ -119,19 +120,19 @@ module _ (longest : ℕ) (names others : List (List ℕ)) (first later : List �
             };
       })
 
-module _ (tables : Option PrefixTables) (answer : List ℕ → Option (List ℕ) → Type 0) where
+module _ (files : KeptFiles) where
   -- ---- the file of a name
   module _ (longest : ℕ) (names others : List (List ℕ)) (name : List ℕ) (now : Opening) (found : Found) (is_open : now.closed ≡ false) (read : All (IsRead longest) found.readings) where
     pub named_again : (most room : ℕ) → longest < length names + room
-        → ((bytes : List ℕ) → Salvages tables answer most names bytes now found → Repeats (Salvages tables answer room others bytes) names others now.left found)
-        → SalvagesNamed answer (Salvages tables answer most) most names name now found → Repeats (SalvagesNamed answer (Salvages tables answer room) room others name) names others now.left found
+        → ((stored : Stored) → Over files most names stored now found → Repeats (Over files room others stored) names others now.left found)
+        → SalvagesNamed (IsAnswer files) (Over files most) most names name now found → Repeats (SalvagesNamed (IsAnswer files) (Over files room) room others name) names others now.left found
     named_again zero room fits file is =
         let all : All (IsRead longest) (record { names = names; causes = ChainLength ∷ [] } ∷ []) = subst (λ f. All (IsRead longest) f.readings) is read in
         absurd (All-head (IsRead longest) (record { names = names; causes = ChainLength ∷ [] }) [] all).room
     named_again (suc most) room fits file (inl (said, is)) =
         let all : All (IsRead longest) (record { names = names; causes = NoFile ∷ [] } ∷ []) = subst (λ f. All (IsRead longest) f.readings) is read in
         let short : length names ≤ longest = (All-head (IsRead longest) (record { names = names; causes = NoFile ∷ [] }) [] all).short in
-        subst (λ f. Repeats (SalvagesNamed answer (Salvages tables answer room) room others name) names others now.left f) (sym is) (record {
+        subst (λ f. Repeats (SalvagesNamed (IsAnswer files) (Over files room) room others name) names others now.left f) (sym is) (record {
           count = 0;
           leaves = Leaves-none now.left;
           is_open = is_open;
@@ -139,28 +140,28 @@ module _ (tables : Option PrefixTables) (answer : List ℕ → Option (List ℕ)
         })
       where
         missing : (room : ℕ) → longest < length names + room → length names ≤ longest → (budget left : Option ℕ) → left ≡ budget
-            → FoundAgain (SalvagesNamed answer (Salvages tables answer room) room others name) names others (no_layers names NoFile now) budget left
+            → FoundAgain (SalvagesNamed (IsAnswer files) (Over files room) room others name) names others (no_layers names NoFile now) budget left
         missing zero fits short budget left same = absurd (omega (arith, fits, short))
         missing (suc room) fits short budget left same = record {
           readings = record { names = others; causes = NoFile ∷ [] } ∷ [];
           finds = inl (said, ap (λ l. no_layers others NoFile (record { left = l; closed = false })) same);
           alike = (itself names others (NoFile ∷ []), tt);
         }
-    named_again (suc most) room fits file (inr (bytes, said, salvaged)) = answered room (file bytes salvaged)
+    named_again (suc most) room fits file (inr (stored, said, salvaged)) = answered room (file stored salvaged)
       where
-        answered : (room : ℕ) → Repeats (Salvages tables answer room others bytes) names others now.left found → Repeats (SalvagesNamed answer (Salvages tables answer room) room others name) names others now.left found
+        answered : (room : ℕ) → Repeats (Over files room others stored) names others now.left found → Repeats (SalvagesNamed (IsAnswer files) (Over files room) room others name) names others now.left found
         answered zero repeats = absurd (repeats.again now.left found.after.left repeats.leaves).finds
         answered (suc room) repeats = record {
           count = repeats.count;
           leaves = repeats.leaves;
           is_open = repeats.is_open;
-          again = λ budget left leaves. let again = repeats.again budget left leaves in record { readings = again.readings; finds = inr (bytes, said, again.finds); alike = again.alike };
+          again = λ budget left leaves. let again = repeats.again budget left leaves in record { readings = again.readings; finds = inr (stored, said, again.finds); alike = again.alike };
         }
 
   -- ---- a use
   use_again : (longest most room : ℕ) (names others : List (List ℕ)) (name : List ℕ) (base : List Layer) (now : Opening) (found : Found) → now.closed ≡ false
-      → (SalvagesNamed answer (Salvages tables answer most) most (names ++ name ∷ []) name now found → Repeats (SalvagesNamed answer (Salvages tables answer room) room (others ++ name ∷ []) name) (names ++ name ∷ []) (others ++ name ∷ []) now.left found)
-      → SalvagesUse answer (Salvages tables answer most) most names name base now found → Repeats (SalvagesUse answer (Salvages tables answer room) room others name base) names others now.left found
+      → (SalvagesNamed (IsAnswer files) (Over files most) most (names ++ name ∷ []) name now found → Repeats (SalvagesNamed (IsAnswer files) (Over files room) room (others ++ name ∷ []) name) (names ++ name ∷ []) (others ++ name ∷ []) now.left found)
+      → SalvagesUse (IsAnswer files) (Over files most) most names name base now found → Repeats (SalvagesUse (IsAnswer files) (Over files room) room others name base) names others now.left found
   use_again longest most room names others name base now found is_open file used = elim used [
     | inl (closed, is) ↦ absurd (cc)
     | inr (opens, named) ↦ (let repeats = file named in record {
@@ -178,19 +179,19 @@ module _ (tables : Option PrefixTables) (answer : List ℕ → Option (List ℕ)
   ]
 
   -- ---- a file
-  module _ (longest : ℕ) (names others : List (List ℕ)) (bytes : List ℕ) (opening : Opening) (file : File) (causes : List Cause) (rest : Option ℕ) (below : Found) where
-    over_again : (most room : ℕ) → longest < length names + room → length names ≤ longest → HasRoom causes → IsReadWithin tables opening.left bytes file causes rest
-        → ((room : ℕ) → longest < length names + suc room → Repeats (SalvagesEach (SalvagesUse answer (Salvages tables answer room) room others) file.uses []) names others rest below)
-        → Repeats (Salvages tables answer room others bytes) names others opening.left (record { layers = layer_of file ∷ below.layers; readings = record { names = names; causes = causes } ∷ below.readings; after = below.after })
+  module _ (longest : ℕ) (names others : List (List ℕ)) (stored : Stored) (opening : Opening) (file : File) (causes : List Cause) (rest : Option ℕ) (below : Found) where
+    over_again : (most room : ℕ) → longest < length names + room → length names ≤ longest → HasRoom causes → ReadsWithin (size files) (IsPast files) opening.left stored file causes rest
+        → ((room : ℕ) → longest < length names + suc room → Repeats (SalvagesEach (SalvagesUse (IsAnswer files) (Over files room) room others) file.uses []) names others rest below)
+        → Repeats (Over files room others stored) names others opening.left (record { layers = layer_of file ∷ below.layers; readings = record { names = names; causes = causes } ∷ below.readings; after = below.after })
     over_again most zero fits short has_room reads uses = absurd (omega (arith, fits, short))
     over_again most (suc room) fits short has_room reads uses = elim reads [
       | inl (over, nothing, causes_are, same) ↦ absurd (subst HasRoom causes_are has_room)
       | inr (stops, leaves, past, causes_are) ↦ (let repeats = uses room fits in record {
-        count = length bytes + repeats.count;
-        leaves = Leaves-more opening.left rest below.after.left (length bytes) repeats.count leaves repeats.leaves;
+        count = size files stored + repeats.count;
+        leaves = Leaves-more opening.left rest below.after.left (size files stored) repeats.count leaves repeats.leaves;
         is_open = repeats.is_open;
         again = λ budget left leaves.
-            let (mid, now, then) = Leaves-split budget left (length bytes) repeats.count leaves in
+            let (mid, now, then) = Leaves-split budget left (size files stored) repeats.count leaves in
             let again = repeats.again mid left then in
             record {
               readings = record { names = others; causes = causes } ∷ again.readings;
@@ -200,18 +201,18 @@ module _ (tables : Option PrefixTables) (answer : List ℕ → Option (List ℕ)
       })
     ]
 
-  pub file_again : (longest most room : ℕ) (names others : List (List ℕ)) (bytes : List ℕ) (opening : Opening) (found : Found) → longest < length names + room → opening.closed ≡ false → Salvages tables answer most names bytes opening found → All (IsRead longest) found.readings
-      → Repeats (Salvages tables answer room others bytes) names others opening.left found
-  file_again longest zero room names others bytes opening found fits is_open salvages read = absurd salvages
-  file_again longest (suc most) room names others bytes opening found fits is_open (file, causes, rest, below, reads, uses, is) read =
+  pub file_again : (longest most room : ℕ) (names others : List (List ℕ)) (stored : Stored) (opening : Opening) (found : Found) → longest < length names + room → opening.closed ≡ false → Over files most names stored opening found → All (IsRead longest) found.readings
+      → Repeats (Over files room others stored) names others opening.left found
+  file_again longest zero room names others stored opening found fits is_open salvages read = absurd salvages
+  file_again longest (suc most) room names others stored opening found fits is_open (file, causes, rest, below, reads, uses, is) read =
       let all : All (IsRead longest) (record { names = names; causes = causes } ∷ below.readings) = subst (λ f. All (IsRead longest) f.readings) is read in
       let first = All-head (IsRead longest) (record { names = names; causes = causes }) below.readings all in
-      let each : (room : ℕ) → longest < length names + suc room → (name : List ℕ) (base : List Layer) (now : Opening) (one : Found) → now.closed ≡ false → SalvagesUse answer (Salvages tables answer most) most names name base now one → All (IsRead longest) one.readings
-      → Repeats (SalvagesUse answer (Salvages tables answer room) room others name base) names others now.left one = λ room fits name base now one still_open used read.
+      let each : (room : ℕ) → longest < length names + suc room → (name : List ℕ) (base : List Layer) (now : Opening) (one : Found) → now.closed ≡ false → SalvagesUse (IsAnswer files) (Over files most) most names name base now one → All (IsRead longest) one.readings
+      → Repeats (SalvagesUse (IsAnswer files) (Over files room) room others name base) names others now.left one = λ room fits name base now one still_open used read.
       let longer : length (names ++ name ∷ []) ≡ length names + 1 = length-append names (name ∷ []) in
       let room_left : longest < length (names ++ name ∷ []) + room = omega (arith, longer, fits) in
       use_again longest most room names others name base now one still_open (λ named. named_again longest (names ++ name ∷ []) (others ++ name ∷ []) name now one still_open read most room room_left (λ under salvaged. file_again longest most room (names ++ name ∷ []) (others ++ name ∷ []) under now one room_left still_open salvaged read) named) used
       in
-      subst (λ f. Repeats (Salvages tables answer room others bytes) names others opening.left f) (sym is)
-      (over_again longest names others bytes opening file causes rest below most room fits first.short first.room reads
-      (λ room fits. each_again longest names others (SalvagesUse answer (Salvages tables answer most) most names) (SalvagesUse answer (Salvages tables answer room) room others) (each room fits) file.uses [] (record { left = rest; closed = opening.closed }) below is_open uses (All-tail (IsRead longest) (record { names = names; causes = causes }) below.readings all)))
+      subst (λ f. Repeats (Over files room others stored) names others opening.left f) (sym is)
+      (over_again longest names others stored opening file causes rest below most room fits first.short first.room reads
+      (λ room fits. each_again longest names others (SalvagesUse (IsAnswer files) (Over files most) most names) (SalvagesUse (IsAnswer files) (Over files room) room others) (each room fits) file.uses [] (record { left = rest; closed = opening.closed }) below is_open uses (All-tail (IsRead longest) (record { names = names; causes = causes }) below.readings all)))

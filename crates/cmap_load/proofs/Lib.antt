@@ -20,7 +20,7 @@ pub mod Again
 pub mod Agreed
 pub mod Growing
 pub mod Trails
-pub mod Leading
+mod Leading
 pub mod GraphFiles
 pub mod GraphUses
 pub mod GraphHeights
@@ -35,3 +35,6 @@ pub mod Meant
 pub mod TableLayers
 pub mod Loaded
 pub mod Supplied
+pub mod KeptFiles
+pub mod KeptGrowing
+pub mod KeptRead

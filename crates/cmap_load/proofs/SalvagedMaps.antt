@@ -2,6 +2,8 @@
 use Rattle.std.proofs.Common.{◌≡◌, ◌∙◌, ℕ, zero, suc, ◌<◌, ◌≤◌, refl, sym, ap, subst, ◌++◌, false, List, [], ◌∷◌, length, inl, inr, arith}
 use Rattle.std.specs.Prelude.{◌≢◌, ◌⊎◌, Option}
 use Rattle.std.proofs.Math.ListN.{length-map}
+use Rattle.cmap_values.specs.Files.{File}
+use Rattle.cmap_values.specs.declared.fault.Stop.{Stop}
 use Rattle.cmap_binary.specs.Bundles.{PrefixTables}
 use Rattle.cmap_layers.specs.Layers.{Layer}
 use Rattle.cmap_layers.specs.LayersSeen.{layers_seen}
@@ -11,7 +13,7 @@ use Rattle.cmap_load.specs.BytesSpent.{of_file}
 use Rattle.cmap_load.specs.Layers.{Means}
 use Rattle.cmap_load.specs.Maps.{ExceedsBudget, FitsBudget, HasNoMap, IsMapOf, LeadsToFault}
 use Rattle.cmap_load.specs.Refusals.{Fails, IsFaultWithin}
-use Rattle.cmap_load.specs.Salvage.{BeginsWithFault, Found, GivesMap, IsRefusedFor, NamedFault, Opening, Reading, Salvages, SalvagesEach, SalvagesMap, SalvagesNamed, SalvagesUse, list_each}
+use Rattle.cmap_load.specs.Salvage.{BeginsWithFault, Found, GivesMap, IsReadPast, IsRefusedFor, NamedFault, Opening, Reading, SalvagesEach, SalvagesMap, SalvagesNamed, SalvagesOver, SalvagesUse, list_each}
 use Rattle.cmap_load.specs.declared.refusal.Cause.{Cause}
 use Rattle.cmap_load.specs.declared.refusal.Cause.TheVariants.{Malformed, NoFile, ChainLength, OverBudget}
 use Rattle.cmap_load.proofs.BudgetLeft.{not_over}
@@ -73,7 +75,7 @@ module _ (tables : Option PrefixTables) (answers : List ℕ → Option (List ℕ
             (fault, more, refuted.cause, salvages.3 ∙ is, refuted.shows, λ over. goes_over fault.names fault.cause refuted.cause refuted.left refuted.shows over refuted.fails fits, subst (λ names. IsFaultWithin tables answers budget 16 bytes names refuted.cause) (sym refuted.named) refuted.leads_on)
 
 -- ---- how many layers there are
-module _ (tables : Option PrefixTables) (answers : List ℕ → Option (List ℕ) → Type 0) where
+module _ {A : Type 0} (size : A → ℕ) (past : A → File → List Stop → Type 0) (answers : List ℕ → Option A → Type 0) where
   each_fits : (salvages : List ℕ → List Layer → Opening → Found → Type 0) (most : ℕ) → ((name : List ℕ) (base : List Layer) (opening : Opening) (found : Found) → length base ≤ most → salvages name base opening found → length found.layers ≤ most)
       → (names : List (List ℕ)) (base : List Layer) (opening : Opening) (found : Found) → length base ≤ most → SalvagesEach salvages names base opening found → length found.layers ≤ most
   each_fits salvages most fits [] base opening found short is = let same : length found.layers ≡ length base = ap (λ f. length f.layers) is in omega (arith, same, short)
@@ -82,7 +84,7 @@ module _ (tables : Option PrefixTables) (answers : List ℕ → Option (List ℕ
       let same : length found.layers ≡ length last.layers = ap (λ f. length f.layers) is in
       omega (arith, same, rest)
 
-  named_fits : (salvages : List (List ℕ) → List ℕ → Opening → Found → Type 0) (most room : ℕ) (all : List (List ℕ)) (name : List ℕ) (now : Opening) (one : Found) → ((base : List ℕ) → salvages all base now one → length one.layers ≤ most)
+  named_fits : (salvages : List (List ℕ) → A → Opening → Found → Type 0) (most room : ℕ) (all : List (List ℕ)) (name : List ℕ) (now : Opening) (one : Found) → ((base : A) → salvages all base now one → length one.layers ≤ most)
       → SalvagesNamed answers salvages room all name now one → length one.layers ≤ most
   named_fits salvages most zero all name now one fits is = let same : length one.layers ≡ 0 = ap (λ f. length f.layers) is in omega (arith, same)
   named_fits salvages most (suc room) all name now one fits finds = elim finds [
@@ -90,19 +92,19 @@ module _ (tables : Option PrefixTables) (answers : List ℕ → Option (List ℕ
     | inr (base, said, salvaged) ↦ fits base salvaged
   ]
 
-  salvages_fit : (most : ℕ) (names : List (List ℕ)) (bytes : List ℕ) (opening : Opening) (found : Found) → Salvages tables answers most names bytes opening found → (0 < length found.layers) × (length found.layers ≤ most)
-  salvages_fit zero names bytes opening found salvages = absurd salvages
-  salvages_fit (suc most) names bytes opening found (file, causes, rest, below, reads, uses, is) =
-      let use_fits : (name : List ℕ) (base : List Layer) (now : Opening) (one : Found) → length base ≤ most → SalvagesUse answers (Salvages tables answers most) most names name base now one → length one.layers ≤ most = λ name base now one fits finds. elim finds [
+  pub salvages_fit : (most : ℕ) (names : List (List ℕ)) (source : A) (opening : Opening) (found : Found) → SalvagesOver size past answers most names source opening found → (0 < length found.layers) × (length found.layers ≤ most)
+  salvages_fit zero names source opening found salvages = absurd salvages
+  salvages_fit (suc most) names source opening found (file, causes, rest, below, reads, uses, is) =
+      let use_fits : (name : List ℕ) (base : List Layer) (now : Opening) (one : Found) → length base ≤ most → SalvagesUse answers (SalvagesOver size past answers most) most names name base now one → length one.layers ≤ most = λ name base now one fits finds. elim finds [
         | inl (closed, stays) ↦ (let same : length one.layers ≡ length base = ap (λ f. length f.layers) stays in omega (arith, same, fits))
-        | inr (opens, named) ↦ named_fits (Salvages tables answers most) most most (names ++ name ∷ []) name now one (λ under salvaged. (salvages_fit most (names ++ name ∷ []) under now one salvaged).1) named
+        | inr (opens, named) ↦ named_fits (SalvagesOver size past answers most) most most (names ++ name ∷ []) name now one (λ under salvaged. (salvages_fit most (names ++ name ∷ []) under now one salvaged).1) named
       ] in
-      let short = each_fits (SalvagesUse answers (Salvages tables answers most) most names) most use_fits file.uses [] _ below (omega arith) uses in
+      let short = each_fits (SalvagesUse answers (SalvagesOver size past answers most) most names) most use_fits file.uses [] _ below (omega arith) uses in
       let same : length found.layers ≡ suc (length below.layers) = ap (λ f. length f.layers) is in
       (omega (arith, same), omega (arith, same, short))
 
-  pub map_fits : (bytes : List ℕ) (budget : Option ℕ) (layers : List declared.Layer) (faults : List NamedFault) → SalvagesMap tables answers bytes budget (layers_seen layers) faults → (0 < length layers) × (length layers ≤ 16)
-  map_fits bytes budget layers faults (readings, after, is, listed) =
-      let fits = salvages_fit 16 [] bytes _ _ is in
-      let same : length (layers_seen layers) ≡ length layers = simp length-map in
-      (omega (arith, fits.0, same), omega (arith, fits.1, same))
+pub map_fits : (tables : Option PrefixTables) (answers : List ℕ → Option (List ℕ) → Type 0) (bytes : List ℕ) (budget : Option ℕ) (layers : List declared.Layer) (faults : List NamedFault) → SalvagesMap tables answers bytes budget (layers_seen layers) faults → (0 < length layers) × (length layers ≤ 16)
+map_fits tables answers bytes budget layers faults (readings, after, is, listed) =
+    let fits = salvages_fit length (IsReadPast tables) answers 16 [] bytes _ _ is in
+    let same : length (layers_seen layers) ≡ length layers = simp length-map in
+    (omega (arith, fits.0, same), omega (arith, fits.1, same))

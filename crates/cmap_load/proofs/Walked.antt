@@ -1,26 +1,28 @@
 -- A walk through files over files that are read past their faults: what is found, what is listed, and what is known.
 use Rattle.std.proofs.Common.{◌≡◌, ℕ, suc, ◌+◌, ◌-◌, ◌<◌, ◌≤◌, refl, sym, ap, ◌∙◌, subst, Bool, false, true, List, [], ◌∷◌, ◌++◌, drop, get_or, length, inl, inr, append-nil, append_assoc, arith}
-use Rattle.std.specs.Prelude.{◌⊎◌, IfOk, IfSome, IsOk, MatchResult, OnOk, Option, Some, None, Result, Ok, Err}
-use Rattle.std.specs.Borrow.{Bor}
+use Rattle.std.specs.Prelude.{◌⊎◌, IfOk, IfSome, IsOk, MatchResult, OnOk, Option, Some, None, Result, Ok, Err, map}
 use Rattle.std.specs.List.{All, last_or}
 use Rattle.std.proofs.Math.ListN.{length-append}
 use Rattle.std.proofs.Math.ListN.{length-map}
 use Rattle.std.proofs.lemmas.List.{drop_more, drop_all, get_or-map}
 use Rattle.std.proofs.lemmas.List.Elements.{All-append, All-cons, All-nil, All-weaker}
 use Rattle.cmap_values.specs.Files.{File}
+use Rattle.cmap_values.specs.ListsAppended.{no_file}
 use Rattle.cmap_values.specs.NamesSeen.{names_seen}
-use Rattle.cmap_binary.specs.Bundles.{PrefixTables}
+use Rattle.cmap_load.specs.Budgets.{IsOver}
+use Rattle.cmap_load.specs.Numbers.{text_at}
 use Rattle.cmap_layers.specs.Layers.{Layer, layer_of}
-use Rattle.cmap_layers.specs.LayersSeen.{layers_seen}
 use Rattle.cmap_load.specs.KnownFiles.{IsSpent, SpendsAgain, file_known}
-use Rattle.cmap_load.specs.Salvage.{Found, NamedFault, Opening, Reading, Salvages, SalvagesEach, SalvagesMap, SalvagesNamed, SalvagesUse, list_each, no_layers}
+use Rattle.cmap_load.specs.Kept.{IsAnswer, IsSalvaged, Over, Stored, layers_on, texts_in}
+use Rattle.cmap_load.specs.declared.salvage.kept.KeptFiles.{KeptFiles}
+use Rattle.cmap_load.specs.Salvage.{Found, NamedFault, Opening, Reading, SalvagesEach, SalvagesNamed, SalvagesUse, list_each, no_layers}
 use Rattle.cmap_load.specs.SalvageSeen.{AreMarked, GoesOn, HasRoom, IsRead, Knows, Lists, ReadingAddsNothing, ReadsOn, Walks, WalksFile, WalksNamed, WalksOpen, WalksUse, WalksUses, WasRead, WereRead, faults_seen, listed, opening_seen}
 use Rattle.cmap_load.specs.Searches.{PassesOver}
 use Rattle.cmap_load.specs.declared.known.KnownFile.{KnownFile}
 use Rattle.cmap_load.specs.declared.refusal.Cause.{Cause}
-use Rattle.cmap_load.specs.declared.refusal.Cause.TheVariants.{ChainLength, NoFile}
-use Rattle.cmap_load.specs.declared.salvage.Chain.{Chain}
-use Rattle.cmap_load.specs.declared.salvage.Walk.{Walk}
+use Rattle.cmap_load.specs.declared.refusal.Cause.TheVariants.{ChainLength, NoFile, OverBudget}
+use Rattle.cmap_load.specs.declared.salvage.walk.Chain.{Chain}
+use Rattle.cmap_load.specs.declared.salvage.walk.Walk.{Walk}
 use Rattle.cmap_load.proofs.Again.{All-alike, FoundAgain, IsAlike, file_again, named_again}
 use Rattle.cmap_load.proofs.Listed.{IsNamed, ReadingAddsNothing-more, all_listed, list_each-again, list_each-append}
 use Rattle.cmap_load.proofs.UsedAgain.{leaves_again}
@@ -55,9 +57,9 @@ one_read : (most : ℕ) (names : List (List ℕ)) (causes : List Cause) → leng
 one_read most names causes short room = All-cons (IsRead most) (record { names = names; causes = causes }) [] (record { short = short; room = room }) (All-nil (IsRead most))
 
 -- ---- what is known
-module _ (tables : Option PrefixTables) (answer : List ℕ → Option (List ℕ) → Type 0) where
+module _ (files : KeptFiles) where
   -- it stays so where more is listed
-  pub Knows-more : (old new : Walk) (readings : List Reading) → Knows tables answer old → new.search.known ≡ old.search.known → GoesOn old new readings → AreMarked new.faults → Knows tables answer new
+  pub Knows-more : (old new : Walk) (readings : List Reading) → Knows files old → new.search.known ≡ old.search.known → GoesOn old new readings → AreMarked new.faults → Knows files new
   Knows-more old new readings knows same on marked = record {
     marked = marked;
     known = λ name file is.
@@ -88,9 +90,9 @@ last_under : (leading : List (List ℕ)) (name : List ℕ) (below names : List (
 last_under leading name below names is = ap (last_or None) (is ∙ append_assoc leading (name ∷ []) below) ∙ last_after None leading name below
 
 -- ---- a use that is passed over
-module _ (tables : Option PrefixTables) (answer : List ℕ → Option (List ℕ) → Type 0) (name : List ℕ) (file : KnownFile) (faults : List NamedFault) (was : WasRead tables answer faults name file) (others : List (List ℕ)) (below : ℕ) (fits : file.height ≤ below) where
+module _ (files : KeptFiles) (name : List ℕ) (file : KnownFile) (faults : List NamedFault) (was : WasRead files faults name file) (others : List (List ℕ)) (below : ℕ) (fits : file.height ≤ below) where
   abbrev FoundHere : Option ℕ → Option ℕ → Type 0
-  FoundHere budget left = FoundAgain (SalvagesNamed answer (Salvages tables answer below) below (others ++ name ∷ []) name) (was.leading ++ name ∷ []) (others ++ name ∷ []) was.found budget left
+  FoundHere budget left = FoundAgain (SalvagesNamed (IsAnswer files) (Over files below) below (others ++ name ∷ []) name) (was.leading ++ name ∷ []) (others ++ name ∷ []) was.found budget left
 
   found_here : (budget left : Option ℕ) → SpendsAgain file.spent budget left → FoundHere budget left
   found_here budget left spends =
@@ -98,8 +100,8 @@ module _ (tables : Option PrefixTables) (answer : List ℕ → Option (List ℕ)
       let names = was.leading ++ name ∷ [] in
       let longer : length names ≡ length was.leading + 1 = length-append was.leading (name ∷ []) in
       let room : longest < length names + below = omega (arith, longer, fits) in
-      let repeats = named_again tables answer longest names (others ++ name ∷ []) name (record { left = was.before; closed = false }) was.found refl was.read was.room below room
-      (λ bytes salvaged. file_again tables answer longest was.room below names (others ++ name ∷ []) bytes (record { left = was.before; closed = false }) was.found room refl salvaged was.read) was.run in
+      let repeats = named_again files longest names (others ++ name ∷ []) name (record { left = was.before; closed = false }) was.found refl was.read was.room below room
+      (λ stored salvaged. file_again files longest was.room below names (others ++ name ∷ []) stored (record { left = was.before; closed = false }) was.found room refl salvaged was.read) was.run in
       repeats.again budget left (leaves_again was.before was.found.after.left repeats.count repeats.leaves file.spent was.spent budget left spends)
 
   alike_named : (reading other : Reading) → IsAlike (was.leading ++ name ∷ []) (others ++ name ∷ []) reading other → ReadingAddsNothing faults reading → IsNamed other × ReadingAddsNothing faults other
@@ -128,29 +130,29 @@ module _ (tables : Option PrefixTables) (answer : List ℕ → Option (List ℕ)
     all_read : All (IsRead (length others + file.height)) again.readings
     all_read = All-alike (IsAlike (was.leading ++ name ∷ []) (others ++ name ∷ [])) (IsRead (length was.leading + file.height)) (IsRead (length others + file.height)) alike_read was.found.readings again.readings again.alike was.read
 
-module _ (tables : Option PrefixTables) (answer : List ℕ → Option (List ℕ) → Type 0) where
-  pub walks_over : (name : List ℕ) (below height : ℕ) (wanted : Bool) (old new : Walk) (chain : Chain) → Knows tables answer old → PassesOver name below old.search new.search height → wanted ≡ false → new ≡ record old { search = new.search } → chain.height ≡ height → WalksOpen tables answer below name wanted old new chain
+module _ (files : KeptFiles) where
+  pub walks_over : (name : List ℕ) (below height : ℕ) (wanted : Bool) (old new : Walk) (chain : Chain) → Knows files old → PassesOver name below old.search new.search height → wanted ≡ false → new ≡ record old { search = new.search } → chain.height ≡ height → WalksOpen files below name wanted old new chain
   walks_over name below height wanted old new chain knows over unwanted same is_height is_open =
       let others = names_seen old.search.names.items in
       let faults = listed old.faults in
       let file = over.file in
       let fits : file.height ≤ below = subst (λ h. h ≤ below) (sym over.same) over.fits in
       let was = knows.known name file over.is_known in
-      let again = found_here tables answer name file faults was others below fits old.search.left new.search.left over.spends in
+      let again = found_here files name file faults was others below fits old.search.left new.search.left over.spends in
       let same_faults : new.faults ≡ old.faults = ap (λ w. w.faults) same in
       let same_cut : new.is_cut ≡ old.is_cut = ap (λ w. w.is_cut) same in
       let same_closed : new.is_closed ≡ false = ap (λ w. w.is_closed) same ∙ is_open in
-      let nothing = nothing_more tables answer name file faults was others below fits old.search.left new.search.left again in
-      let read = all_read tables answer name file faults was others below fits old.search.left new.search.left again in
+      let nothing = nothing_more files name file faults was others below fits old.search.left new.search.left again in
+      let read = all_read files name file faults was others below fits old.search.left new.search.left again in
       let on : GoesOn old new again.readings = record { names = ap (λ names. names_seen names.items) over.names; all = ap listed same_faults ∙ sym nothing } in
       let as_height : file.height ≡ chain.height = over.same ∙ sym is_height in
       record {
         layers = was.found.layers;
         readings = again.readings;
-        finds = subst (λ c. SalvagesNamed answer (Salvages tables answer below) below (others ++ name ∷ []) name (record { left = old.search.left; closed = c }) (record { layers = was.found.layers; readings = again.readings; after = opening_seen new })) (sym is_open)
-            (subst (λ c. SalvagesNamed answer (Salvages tables answer below) below (others ++ name ∷ []) name (record { left = old.search.left; closed = false }) (record { layers = was.found.layers; readings = again.readings; after = record { left = new.search.left; closed = c } })) (sym same_closed) again.finds);
+        finds = subst (λ c. SalvagesNamed (IsAnswer files) (Over files below) below (others ++ name ∷ []) name (record { left = old.search.left; closed = c }) (record { layers = was.found.layers; readings = again.readings; after = opening_seen new })) (sym is_open)
+            (subst (λ c. SalvagesNamed (IsAnswer files) (Over files below) below (others ++ name ∷ []) name (record { left = old.search.left; closed = false }) (record { layers = was.found.layers; readings = again.readings; after = record { left = new.search.left; closed = c } })) (sym same_closed) again.finds);
         on = on;
-        knows = Knows-more tables answer old new again.readings knows over.known on (subst AreMarked (sym same_faults) knows.marked);
+        knows = Knows-more files old new again.readings knows over.known on (subst AreMarked (sym same_faults) knows.marked);
         read = λ whole. (sym same_cut ∙ whole, subst (λ h. All (IsRead (length others + h)) again.readings) as_height read);
         fits = subst (λ h. h ≤ below) as_height fits;
         given = λ asked. elim asked [
@@ -163,8 +165,8 @@ module _ (tables : Option PrefixTables) (answer : List ℕ → Option (List ℕ)
   -- the file of a name is known after it
   pub walks_unknown : (name : List ℕ) (below : ℕ) (wanted : Bool) (old pushed after new : Walk) (chain : Chain)
       → names_seen pushed.search.names.items ≡ names_seen old.search.names.items ++ name ∷ [] → pushed ≡ record old { search = pushed.search } → pushed.search.left ≡ old.search.left
-      → names_seen new.search.names.items ≡ names_seen old.search.names.items → new ≡ record after { search = new.search } → new.search.left ≡ after.search.left → WereRead tables answer (listed after.faults) new.search.known
-      → WalksNamed tables answer below name wanted pushed after chain → WalksOpen tables answer below name wanted old new chain
+      → names_seen new.search.names.items ≡ names_seen old.search.names.items → new ≡ record after { search = new.search } → new.search.left ≡ after.search.left → WereRead files (listed after.faults) new.search.known
+      → WalksNamed files below name wanted pushed after chain → WalksOpen files below name wanted old new chain
   walks_unknown name below wanted old pushed after new chain names before before_left back end end_left known walks is_open =
       let others = names_seen old.search.names.items in
       let longer : length (names_seen pushed.search.names.items) ≡ length others + 1 = ap length names ∙ length-append others (name ∷ []) in
@@ -178,11 +180,11 @@ module _ (tables : Option PrefixTables) (answer : List ℕ → Option (List ℕ)
         layers = walks.layers;
         readings = walks.readings;
         finds =
-            subst (λ e. SalvagesNamed answer (Salvages tables answer below) below (others ++ name ∷ []) name (opening_seen old) (record { layers = walks.layers; readings = walks.readings; after = e })) (sym ends)
-            (subst (λ o. SalvagesNamed answer (Salvages tables answer below) below (others ++ name ∷ []) name o (record { layers = walks.layers; readings = walks.readings; after = opening_seen after })) opening
-            (subst (λ n. SalvagesNamed answer (Salvages tables answer below) below n name (opening_seen pushed) (record { layers = walks.layers; readings = walks.readings; after = opening_seen after })) names walks.finds));
+            subst (λ e. SalvagesNamed (IsAnswer files) (Over files below) below (others ++ name ∷ []) name (opening_seen old) (record { layers = walks.layers; readings = walks.readings; after = e })) (sym ends)
+            (subst (λ o. SalvagesNamed (IsAnswer files) (Over files below) below (others ++ name ∷ []) name o (record { layers = walks.layers; readings = walks.readings; after = opening_seen after })) opening
+            (subst (λ n. SalvagesNamed (IsAnswer files) (Over files below) below n name (opening_seen pushed) (record { layers = walks.layers; readings = walks.readings; after = opening_seen after })) names walks.finds));
         on = record { names = back; all = ap listed faults ∙ walks.on.all ∙ ap (λ w. list_each (listed w.faults) walks.readings) before };
-        knows = record { marked = subst AreMarked (sym faults) walks.knows.marked; known = subst (λ f. WereRead tables answer (listed f) new.search.known) (sym faults) known };
+        knows = record { marked = subst AreMarked (sym faults) walks.knows.marked; known = subst (λ f. WereRead files (listed f) new.search.known) (sym faults) known };
         read = λ whole.
             let (first, all) = walks.read (sym cut ∙ whole) in
             (sym (ap (λ w. w.is_cut) before) ∙ first, subst (λ n. All (IsRead (n + chain.height)) walks.readings) above all);
@@ -193,8 +195,8 @@ module _ (tables : Option PrefixTables) (answer : List ℕ → Option (List ℕ)
   -- what was found of it, whenever nothing was cut
   pub was_read : (name : List ℕ) (below : ℕ) (wanted : Bool) (old pushed after : Walk) (chain : Chain) (file : KnownFile) → old.is_closed ≡ false
       → names_seen pushed.search.names.items ≡ names_seen old.search.names.items ++ name ∷ [] → pushed ≡ record old { search = pushed.search } → after.is_cut ≡ false → file.height ≡ chain.height → IfSome file.spent (IsSpent pushed.search.left after.search.left)
-      → WalksNamed tables answer below name wanted pushed after chain
-      → WasRead tables answer (listed after.faults) name file
+      → WalksNamed files below name wanted pushed after chain
+      → WasRead files (listed after.faults) name file
   was_read name below wanted old pushed after chain file is_open names before whole same spent walks =
       let others = names_seen old.search.names.items in
       let longer : length (names_seen pushed.search.names.items) ≡ length others + 1 = ap length names ∙ length-append others (name ∷ []) in
@@ -206,16 +208,16 @@ module _ (tables : Option PrefixTables) (answer : List ℕ → Option (List ℕ)
         leading = others;
         before = pushed.search.left;
         found = found;
-        run = subst (λ n. SalvagesNamed answer (Salvages tables answer below) below n name (record { left = pushed.search.left; closed = false }) found) names
-            (subst (λ c. SalvagesNamed answer (Salvages tables answer below) below (names_seen pushed.search.names.items) name (record { left = pushed.search.left; closed = c }) found) closed walks.finds);
+        run = subst (λ n. SalvagesNamed (IsAnswer files) (Over files below) below n name (record { left = pushed.search.left; closed = false }) found) names
+            (subst (λ c. SalvagesNamed (IsAnswer files) (Over files below) below (names_seen pushed.search.names.items) name (record { left = pushed.search.left; closed = c }) found) closed walks.finds);
         read = subst (λ h. All (IsRead (length others + h)) walks.readings) (sym same) (subst (λ n. All (IsRead (n + chain.height)) walks.readings) above (walks.read whole).1);
         listed = subst (λ f. All (ReadingAddsNothing f) walks.readings) (sym walks.on.all) (all_listed (listed pushed.faults) walks.readings);
         spent = spent;
       }
 
   -- after other uses
-  pub walks_used : (name : List ℕ) (below : ℕ) (base : List Layer) (wanted : Bool) (old new : Walk) (used chain : Chain) → old.is_closed ≡ false → used.height ≤ chain.height → chain.height ≤ below → chain.layers ≡ used.layers
-      → Walks tables answer (SalvagesNamed answer (Salvages tables answer below) below (names_seen old.search.names.items ++ name ∷ []) name) (length (names_seen old.search.names.items)) below wanted old new used → WalksUse tables answer below name base wanted old new chain
+  pub walks_used : (name : List ℕ) (below : ℕ) (base : List Layer) (wanted : Bool) (old new : Walk) (used chain : Chain) → old.is_closed ≡ false → used.height ≤ chain.height → chain.height ≤ below → chain.path ≡ used.path
+      → Walks files (SalvagesNamed (IsAnswer files) (Over files below) below (names_seen old.search.names.items ++ name ∷ []) name) (length (names_seen old.search.names.items)) below wanted old new used → WalksUse files below name base wanted old new chain
   walks_used name below base wanted old new used chain is_open higher fits same walks =
       let above = length (names_seen old.search.names.items) in
       record {
@@ -226,13 +228,13 @@ module _ (tables : Option PrefixTables) (answer : List ℕ → Option (List ℕ)
         knows = walks.knows;
         read = λ whole. let (first, all) = walks.read whole in (first, IsRead-more (above + used.height) (above + chain.height) (omega (arith, higher)) walks.readings all);
         fits = fits;
-        given = λ asked. ap (λ l. layers_seen l.items) same ∙ walks.given asked;
+        given = λ asked. ap (λ l. layers_on files l.items) same ∙ walks.given asked;
       }
 
   -- once a chain was too long
-  pub walks_closed : (name : List ℕ) (below : ℕ) (wanted : Bool) (walk : Walk) (others : Chain) → Knows tables answer walk → walk.is_closed ≡ true → others.height ≤ below → WalksUse tables answer below name (layers_seen others.layers.items) wanted walk walk others
+  pub walks_closed : (name : List ℕ) (below : ℕ) (wanted : Bool) (walk : Walk) (others : Chain) → Knows files walk → walk.is_closed ≡ true → others.height ≤ below → WalksUse files below name (layers_on files others.path.items) wanted walk walk others
   walks_closed name below wanted walk others knows closed fits = record {
-    layers = layers_seen others.layers.items;
+    layers = layers_on files others.path.items;
     readings = [];
     finds = inl (closed, refl);
     on = GoesOn-none walk;
@@ -245,7 +247,7 @@ module _ (tables : Option PrefixTables) (answer : List ℕ → Option (List ℕ)
   -- ---- uses, one after another
   module _ (below : ℕ) where
     abbrev pub use_under : List (List ℕ) → List ℕ → List Layer → Opening → Found → Type 0
-    use_under leading = SalvagesUse answer (Salvages tables answer below) below leading
+    use_under leading = SalvagesUse (IsAnswer files) (Over files below) below leading
 
     -- between two uses: who finds the rest from here on has found all
     pub record Walked (names rest : List (List ℕ)) (wanted : Bool) (start here : Walk) (chain : Chain) : Type 0 where
@@ -254,12 +256,12 @@ module _ (tables : Option PrefixTables) (answer : List ℕ → Option (List ℕ)
       pub finds : (last : Found) → SalvagesEach (use_under (names_seen start.search.names.items)) rest layers (opening_seen here) last
           → SalvagesEach (use_under (names_seen start.search.names.items)) names [] (opening_seen start) (record { layers = last.layers; readings = readings ++ last.readings; after = last.after })
       pub on : GoesOn start here readings
-      pub knows : Knows tables answer here
+      pub knows : Knows files here
       pub read : here.is_cut ≡ false → (start.is_cut ≡ false) × All (IsRead (length (names_seen start.search.names.items) + chain.height)) readings
       pub fits : chain.height ≤ below
-      pub given : (wanted ≡ true) ⊎ (here.is_closed ≡ true) → layers_seen chain.layers.items ≡ layers
+      pub given : (wanted ≡ true) ⊎ (here.is_closed ≡ true) → layers_on files chain.path.items ≡ layers
 
-    pub walked_none : (names : List (List ℕ)) (wanted : Bool) (start : Walk) (chain : Chain) → Knows tables answer start → chain.layers.items ≡ [] → chain.height ≡ 0 → Walked names names wanted start start chain
+    pub walked_none : (names : List (List ℕ)) (wanted : Bool) (start : Walk) (chain : Chain) → Knows files start → chain.path.items ≡ [] → chain.height ≡ 0 → Walked names names wanted start start chain
     walked_none names wanted start chain knows none low = record {
       layers = [];
       readings = [];
@@ -268,7 +270,7 @@ module _ (tables : Option PrefixTables) (answer : List ℕ → Option (List ℕ)
       knows = knows;
       read = λ whole. (whole, All-nil (IsRead (length (names_seen start.search.names.items) + chain.height)));
       fits = omega (arith, low);
-      given = λ asked. ap layers_seen none;
+      given = λ asked. ap (layers_on files) none;
     }
 
     -- what is found of a use doesn't depend on the layers before it, unless a chain was too long
@@ -279,12 +281,12 @@ module _ (tables : Option PrefixTables) (answer : List ℕ → Option (List ℕ)
     ]
 
     pub walked_more : (names rest : List (List ℕ)) (name : List ℕ) (before wanted : Bool) (start here later : Walk) (base chain : Chain) → Walked names (name ∷ rest) before start here base → base.height ≤ chain.height
-        → WalksUse tables answer below name (layers_seen base.layers.items) wanted here later chain → Walked names rest wanted start later chain
+        → WalksUse files below name (layers_on files base.path.items) wanted here later chain → Walked names rest wanted start later chain
     walked_more names rest name before wanted start here later base chain walked higher walks =
         let leading = names_seen start.search.names.items in
         let first : Found = record { layers = walks.layers; readings = walks.readings; after = opening_seen later } in
-        let found = subst (λ n. use_under n name (layers_seen base.layers.items) (opening_seen here) first) walked.on.names walks.finds in
-        let from = from_layers leading name (layers_seen base.layers.items) walked.layers here first (λ closed. walked.given (inr closed)) found in
+        let found = subst (λ n. use_under n name (layers_on files base.path.items) (opening_seen here) first) walked.on.names walks.finds in
+        let from = from_layers leading name (layers_on files base.path.items) walked.layers here first (λ closed. walked.given (inr closed)) found in
         record {
           layers = walks.layers;
           readings = walked.readings ++ walks.readings;
@@ -304,7 +306,7 @@ module _ (tables : Option PrefixTables) (answer : List ℕ → Option (List ℕ)
         }
 
     pub walks_each : (names : List (List ℕ)) (wanted : Bool) (start here : Walk) (chain : Chain) → Walked names [] wanted start here chain
-        → WalksUses tables answer below names wanted start here chain
+        → WalksUses files below names wanted start here chain
     walks_each names wanted start here chain walked = record {
       layers = walked.layers;
       readings = walked.readings;
@@ -317,22 +319,22 @@ module _ (tables : Option PrefixTables) (answer : List ℕ → Option (List ℕ)
       given = walked.given;
     }
 
-    -- the names are those of the items of a slice, and some after them
-    module _ (names : List (List ℕ)) (items : List (Bor (List ℕ))) (i : ℕ) (rest : List (List ℕ)) (wanted : Bool) (start here : Walk) (chain : Chain) (walked : Walked names (drop i (names_seen items) ++ rest) wanted start here chain) where
-      pub walked_at : i < length items → Walked names ((get_or items i (record { ref_ptr = (0, 0); now = [] })).now ∷ (drop (i + 1) (names_seen items) ++ rest)) wanted start here chain
+    -- the names have the numbers of a slice, and there are some after them
+    module _ (names : List (List ℕ)) (numbers : List ℕ) (i : ℕ) (rest : List (List ℕ)) (wanted : Bool) (start here : Walk) (chain : Chain) (walked : Walked names (drop i (map (text_at (texts_in files)) numbers) ++ rest) wanted start here chain) where
+      pub walked_at : i < length numbers → Walked names (text_at (texts_in files) (get_or numbers i 0) ∷ (drop (i + 1) (map (text_at (texts_in files)) numbers) ++ rest)) wanted start here chain
       walked_at lt =
-          let name = get_or-map (λ x. x.now) items i (record { ref_ptr = (0, 0); now = [] }) [] lt in
-          subst (λ r. Walked names (r ++ rest) wanted start here chain) (drop_more (names_seen items) i [] (simp length-map lt) ∙ ap (λ x. x ∷ drop (i + 1) (names_seen items)) name) walked
+          let name = get_or-map (text_at (texts_in files)) numbers i 0 [] lt in
+          subst (λ r. Walked names (r ++ rest) wanted start here chain) (drop_more (map (text_at (texts_in files)) numbers) i [] (simp length-map lt) ∙ ap (λ x. x ∷ drop (i + 1) (map (text_at (texts_in files)) numbers)) name) walked
 
-      pub walked_end : length items ≤ i → Walked names rest wanted start here chain
-      walked_end le = subst (λ r. Walked names (r ++ rest) wanted start here chain) (drop_all i (names_seen items) (simp length-map le)) walked
+      pub walked_end : length numbers ≤ i → Walked names rest wanted start here chain
+      walked_end le = subst (λ r. Walked names (r ++ rest) wanted start here chain) (drop_all i (map (text_at (texts_in files)) numbers) (simp length-map le)) walked
 
     -- ---- files
     -- a file, then its uses
-    pub walks_file : (bytes : List ℕ) (file : File) (wanted : Bool) (old start new : Walk) (base chain : Chain) → ReadsOn tables bytes old start file → chain.height ≡ base.height
-        → ((wanted ≡ true) ⊎ (new.is_closed ≡ true) → layers_seen chain.layers.items ≡ layer_of file ∷ layers_seen base.layers.items)
-        → WalksUses tables answer below file.uses wanted start new base → WalksFile tables answer below bytes wanted old new chain
-    walks_file bytes file wanted old start new base chain reads same made walks =
+    pub walks_file : (stored : Stored) (file : File) (wanted : Bool) (old start new : Walk) (base chain : Chain) → ReadsOn files stored old start file → chain.height ≡ base.height
+        → ((wanted ≡ true) ⊎ (new.is_closed ≡ true) → layers_on files chain.path.items ≡ layer_of file ∷ layers_on files base.path.items)
+        → WalksUses files below file.uses wanted start new base → WalksFile files below stored wanted old new chain
+    walks_file stored file wanted old start new base chain reads same made walks =
         let leading = names_seen old.search.names.items in
         let here : Reading = record { names = leading; causes = reads.causes } in
         let under : Found = record { layers = walks.layers; readings = walks.readings; after = opening_seen new } in
@@ -355,26 +357,51 @@ module _ (tables : Option PrefixTables) (answer : List ℕ → Option (List ℕ)
 
   -- ---- the file of a name
   -- it is counted
-  pub walks_named : (n below : ℕ) (room : suc n ≡ below) (name bytes : List ℕ) (wanted : Bool) (old new : Walk) (file chain : Chain) → answer name (Some bytes) → chain.layers ≡ file.layers → chain.height ≡ file.height + 1
-      → WalksFile tables answer n bytes wanted old new file → WalksNamed tables answer below name wanted old new chain
-  walks_named n below room name bytes wanted old new file chain said layers higher walks =
+  pub walks_named : (n below : ℕ) (room : suc n ≡ below) (name : List ℕ) (stored : Stored) (wanted : Bool) (old new : Walk) (file chain : Chain) → IsAnswer files name (Some stored) → chain.path ≡ file.path → chain.height ≡ file.height + 1
+      → WalksFile files n stored wanted old new file → WalksNamed files below name wanted old new chain
+  walks_named n below room name stored wanted old new file chain said layers higher walks =
       let leading = names_seen old.search.names.items in
       record {
         layers = walks.layers;
         readings = walks.readings;
-        finds = subst (λ m. SalvagesNamed answer (Salvages tables answer m) m leading name (opening_seen old) (record { layers = walks.layers; readings = walks.readings; after = opening_seen new })) room (inr (bytes, said, walks.finds));
+        finds = subst (λ m. SalvagesNamed (IsAnswer files) (Over files m) m leading name (opening_seen old) (record { layers = walks.layers; readings = walks.readings; after = opening_seen new })) room (inr (stored, said, walks.finds));
         on = walks.on;
         knows = walks.knows;
         read = λ whole. let (first, all) = walks.read whole in (first, IsRead-more (length leading + file.height) (length leading - 1 + chain.height) (omega (arith, higher)) walks.readings all);
         fits = omega (arith, higher, walks.fits, room);
-        given = λ asked. ap (λ l. layers_seen l.items) layers ∙ walks.given asked;
+        given = λ asked. ap (λ l. layers_on files l.items) layers ∙ walks.given asked;
+      }
+
+  -- it exceeds the budget
+  pub walks_too_long : (n below : ℕ) (room : suc n ≡ below) (name : List ℕ) (count : ℕ) (wanted : Bool) (old new : Walk) (chain : Chain) → IsAnswer files name (Some (Stored.too_long count)) → IsOver old.search.left count → Knows files old
+      → Lists old.faults new.faults (names_seen old.search.names.items) (OverBudget ∷ []) → new ≡ record old { faults = new.faults; is_cut = true } → chain.path.items ≡ None ∷ [] → chain.height ≡ 1 → WalksNamed files below name wanted old new chain
+  walks_too_long n below room name count wanted old new chain said over knows lists same one height =
+      let leading = names_seen old.search.names.items in
+      let here : Reading = record { names = leading; causes = OverBudget ∷ [] } in
+      let search : new.search ≡ old.search = ap (λ w. w.search) same in
+      let opening : opening_seen new ≡ opening_seen old = ap opening_seen same in
+      let on : GoesOn old new (here ∷ []) = record { names = ap (λ s. names_seen s.names.items) search; all = lists.all } in
+      let layers = layers_on files (None ∷ []) in
+      let found : Opening → Found = λ after. record { layers = layers; readings = here ∷ []; after = after } in
+      let file : Over files (suc n) leading (Stored.too_long count) (opening_seen old) (found (opening_seen old)) =
+      (no_file, OverBudget ∷ [], old.search.left, record { layers = []; readings = []; after = opening_seen old }, inl (over, refl, refl, refl), refl, refl) in
+      record {
+        layers = layers;
+        readings = here ∷ [];
+        finds = subst (λ o. SalvagesNamed (IsAnswer files) (Over files below) below leading name (opening_seen old) (found o)) (sym opening)
+            (subst (λ m. SalvagesNamed (IsAnswer files) (Over files m) m leading name (opening_seen old) (found (opening_seen old))) room (inr (Stored.too_long count, said, file)));
+        on = on;
+        knows = Knows-more files old new (here ∷ []) knows (ap (λ s. s.known) search) on lists.marked;
+        read = λ whole. absurd (let cut = ap (λ w. w.is_cut) same in cc);
+        fits = omega (arith, height, room);
+        given = λ asked. ap (layers_on files) one;
       }
 
   -- there is none
   pub walks_missing : (below : ℕ) (name : List ℕ) (cause : Cause) (wanted : Bool) (old new : Walk) (chain : Chain)
-      → SalvagesNamed answer (Salvages tables answer below) below (names_seen old.search.names.items) name (opening_seen old) (no_layers (names_seen old.search.names.items) cause (opening_seen new)) → Knows tables answer old
+      → SalvagesNamed (IsAnswer files) (Over files below) below (names_seen old.search.names.items) name (opening_seen old) (no_layers (names_seen old.search.names.items) cause (opening_seen new)) → Knows files old
       → Lists old.faults new.faults (names_seen old.search.names.items) (cause ∷ []) → new.search ≡ old.search → (new.is_cut ≡ false → (old.is_cut ≡ false) × (chain.height ≡ 1) × HasRoom (cause ∷ []))
-      → chain.layers.items ≡ [] → chain.height ≤ below → WalksNamed tables answer below name wanted old new chain
+      → chain.path.items ≡ [] → chain.height ≤ below → WalksNamed files below name wanted old new chain
   walks_missing below name cause wanted old new chain finds knows lists search whole none fits =
       let leading = names_seen old.search.names.items in
       let here : Reading = record { names = leading; causes = cause ∷ [] } in
@@ -384,32 +411,32 @@ module _ (tables : Option PrefixTables) (answer : List ℕ → Option (List ℕ)
         readings = here ∷ [];
         finds = finds;
         on = on;
-        knows = Knows-more tables answer old new (here ∷ []) knows (ap (λ s. s.known) search) on lists.marked;
+        knows = Knows-more files old new (here ∷ []) knows (ap (λ s. s.known) search) on lists.marked;
         read = λ is.
             let (begun, one, room) = whole is in
             (begun, one_read (length leading - 1 + chain.height) leading (cause ∷ []) (omega (arith, one)) room);
         fits = fits;
-        given = λ asked. ap layers_seen none;
+        given = λ asked. ap (layers_on files) none;
       }
 
 -- the chain has no room for the file
-pub no_room : (answer : List ℕ → Option (List ℕ) → Type 0) (salvages : List (List ℕ) → List ℕ → Opening → Found → Type 0) (below : ℕ) → below ≡ 0 → (names : List (List ℕ)) (name : List ℕ) (opening after : Opening) → after ≡ record { left = opening.left; closed = true }
+pub no_room : (answer : List ℕ → Option Stored → Type 0) (salvages : List (List ℕ) → Stored → Opening → Found → Type 0) (below : ℕ) → below ≡ 0 → (names : List (List ℕ)) (name : List ℕ) (opening after : Opening) → after ≡ record { left = opening.left; closed = true }
     → SalvagesNamed answer salvages below names name opening (no_layers names ChainLength after)
 no_room answer salvages below none names name opening after same =
     subst (λ m. SalvagesNamed answer salvages m names name opening (no_layers names ChainLength after)) (sym none) (ap (no_layers names ChainLength) same)
 
 -- no file has the name
-pub no_answer : (answer : List ℕ → Option (List ℕ) → Type 0) (salvages : ℕ → List (List ℕ) → List ℕ → Opening → Found → Type 0) (n below : ℕ) → suc n ≡ below → (names : List (List ℕ)) (name : List ℕ) (opening after : Opening) → answer name None → after ≡ opening
+pub no_answer : (answer : List ℕ → Option Stored → Type 0) (salvages : ℕ → List (List ℕ) → Stored → Opening → Found → Type 0) (n below : ℕ) → suc n ≡ below → (names : List (List ℕ)) (name : List ℕ) (opening after : Opening) → answer name None → after ≡ opening
     → SalvagesNamed answer (salvages below) below names name opening (no_layers names NoFile after)
 no_answer answer salvages n below room names name opening after said same =
     subst (λ m. SalvagesNamed answer (salvages m) m names name opening (no_layers names NoFile after)) room (inl (said, ap (no_layers names NoFile) same))
 
 -- the top file
-pub walks_map : (tables : Option PrefixTables) (answer : List ℕ → Option (List ℕ) → Type 0) (bytes : List ℕ) (budget : Option ℕ) (start end : Walk) (chain : Chain) → start.search.names.items ≡ [] → start.faults.list.items ≡ [] → opening_seen start ≡ record { left = budget; closed = false }
-    → WalksFile tables answer 15 bytes true start end chain → SalvagesMap tables answer bytes budget (layers_seen chain.layers.items) (faults_seen end.faults.list.items)
-walks_map tables answer bytes budget start end chain no_names no_faults opening walks =
+pub walks_top : (files : KeptFiles) (budget : Option ℕ) (start end : Walk) (chain : Chain) → start.search.names.items ≡ [] → start.faults.list.items ≡ [] → opening_seen start ≡ record { left = budget; closed = false }
+    → WalksFile files 15 (Stored.at 0) true start end chain → IsSalvaged files budget (layers_on files chain.path.items) (faults_seen end.faults.list.items)
+walks_top files budget start end chain no_names no_faults opening walks =
     let found : Found = record { layers = walks.layers; readings = walks.readings; after = opening_seen end } in
-    let begun = subst (λ n. Salvages tables answer 16 (names_seen n) bytes (opening_seen start) found) no_names walks.finds in
-    let opened = subst (λ o. Salvages tables answer 16 [] bytes o found) opening begun in
-    let given = subst (λ l. Salvages tables answer 16 [] bytes (record { left = budget; closed = false }) (record { layers = l; readings = walks.readings; after = opening_seen end })) (sym (walks.given (inl refl))) opened in
-    (walks.readings, opening_seen end, given, walks.on.all ∙ ap (λ f. list_each (faults_seen f) walks.readings) no_faults)
+    let begun = subst (λ n. Over files 16 (names_seen n) (Stored.at 0) (opening_seen start) found) no_names walks.finds in
+    let opened = subst (λ o. Over files 16 [] (Stored.at 0) o found) opening begun in
+    let given = subst (λ l. Over files 16 [] (Stored.at 0) (record { left = budget; closed = false }) (record { layers = l; readings = walks.readings; after = opening_seen end })) (sym (walks.given (inl refl))) opened in
+    record { readings = walks.readings; after = opening_seen end; over = given; listed = walks.on.all ∙ ap (λ f. list_each (faults_seen f) walks.readings) no_faults }

@@ -8,7 +8,6 @@ pub mod Maps
 pub mod NamedFiles
 pub mod Opened
 pub mod Salvage
-pub mod SalvageSeen
 pub mod KnownFiles
 pub mod Searches
 pub mod Numbers
@@ -18,4 +17,7 @@ pub mod Loading
 pub mod Graphs
 pub mod Tables
 pub mod Loads
+pub mod Kept
+pub mod SalvageSeen
+pub mod SalvageLoads
 pub mod Results

@@ -49,11 +49,16 @@ SalvagesBytes (Some tables) bytes file stops = (IsMarkedBinary bytes × Salvages
 abbrev pub IsReadPast : Option PrefixTables → List ℕ → File → List Stop → Type 0
 IsReadPast tables bytes file stops = (IsOnly (Means tables bytes) file × (stops ≡ [])) ⊎ (HoldsOfNone (Means tables bytes) × SalvagesBytes tables bytes file stops)
 
--- the file and the faults of bytes within a budget, of which the rest is left: bytes that would exceed the budget aren't read, and give an empty file
+module _ {A : Type 0} (size : A → ℕ) (past : A → File → List Stop → Type 0) where
+  -- the file and the faults of a source within a budget, of which the rest is left: a source that would exceed the budget isn't read, and gives an empty file
+  abbrev pub ReadsWithin : Option ℕ → A → File → List Cause → Option ℕ → Type 0
+  ReadsWithin budget source file causes rest =
+      (IsOver budget (size source) × (file ≡ no_file) × (causes ≡ OverBudget ∷ []) × (rest ≡ budget))
+      ⊎ ((stops : List Stop) × Leaves budget (size source) rest × past source file stops × (causes ≡ map Malformed stops))
+
+-- the sources are bytes
 abbrev pub IsReadWithin : Option PrefixTables → Option ℕ → List ℕ → File → List Cause → Option ℕ → Type 0
-IsReadWithin tables budget bytes file causes rest =
-    (IsOver budget (length bytes) × (file ≡ no_file) × (causes ≡ OverBudget ∷ []) × (rest ≡ budget))
-    ⊎ ((stops : List Stop) × Leaves budget (length bytes) rest × IsReadPast tables bytes file stops × (causes ≡ map Malformed stops))
+IsReadWithin tables = ReadsWithin length (IsReadPast tables)
 
 -- ---- the files that it uses
 -- no layers, for this fault of the file that the names lead to
@@ -66,25 +71,30 @@ SalvagesEach salvages [] base opening found = found ≡ record { layers = base; 
 SalvagesEach salvages (name ∷ names) base opening found = (first : Found) × (last : Found) × salvages name base opening first × SalvagesEach salvages names first.layers first.after last
     × (found ≡ record { layers = last.layers; readings = first.readings ++ last.readings; after = last.after })
 
-module _ (answer : List ℕ → Option (List ℕ) → Type 0) (salvages : List (List ℕ) → List ℕ → Opening → Found → Type 0) where
+module _ {A : Type 0} (answer : List ℕ → Option A → Type 0) (salvages : List (List ℕ) → A → Opening → Found → Type 0) where
   -- the file of this name, the last of the names that lead to it. If the chain would be too long, no further file is opened
   abbrev pub SalvagesNamed : ℕ → List (List ℕ) → List ℕ → Opening → Found → Type 0
   SalvagesNamed zero names name opening found = found ≡ no_layers names ChainLength (record { left = opening.left; closed = true })
   SalvagesNamed (suc room) names name opening found = (answer name None × (found ≡ no_layers names NoFile opening))
-      ⊎ ((bytes : List ℕ) × answer name (Some bytes) × salvages names bytes opening found)
+      ⊎ ((source : A) × answer name (Some source) × salvages names source opening found)
 
   -- a use in the file that the names lead to. Once a chain was too long, the use is passed over, and the layers stay
   abbrev pub SalvagesUse : ℕ → List (List ℕ) → List ℕ → List Layer → Opening → Found → Type 0
   SalvagesUse room leading name base opening found = ((opening.closed ≡ true) × (found ≡ record { layers = base; readings = []; after = opening }))
       ⊎ ((opening.closed ≡ false) × SalvagesNamed room (leading ++ name ∷ []) name opening found)
 
-module _ (tables : Option PrefixTables) (answer : List ℕ → Option (List ℕ) → Type 0) where
-  -- the file of these bytes, to which the names lead, over the layers of the last file that it uses; no chain is longer than this
-  abbrev pub Salvages : ℕ → List (List ℕ) → List ℕ → Opening → Found → Type 0
-  Salvages zero names bytes opening found = ⊥
-  Salvages (suc most) names bytes opening found = (file : File) × (causes : List Cause) × (rest : Option ℕ) × (below : Found) × IsReadWithin tables opening.left bytes file causes rest
-      × SalvagesEach (SalvagesUse answer (Salvages most) most names) file.uses [] (record { left = rest; closed = opening.closed }) below
+-- the answers to names are sources of files, and past tells the file and the faults of each
+module _ {A : Type 0} (size : A → ℕ) (past : A → File → List Stop → Type 0) (answer : List ℕ → Option A → Type 0) where
+  -- the file of this source, to which the names lead, over the layers of the last file that it uses; no chain is longer than this
+  abbrev pub SalvagesOver : ℕ → List (List ℕ) → A → Opening → Found → Type 0
+  SalvagesOver zero names source opening found = ⊥
+  SalvagesOver (suc most) names source opening found = (file : File) × (causes : List Cause) × (rest : Option ℕ) × (below : Found) × ReadsWithin size past opening.left source file causes rest
+      × SalvagesEach (SalvagesUse answer (SalvagesOver most) most names) file.uses [] (record { left = rest; closed = opening.closed }) below
       × (found ≡ record { layers = layer_of file ∷ below.layers; readings = record { names = names; causes = causes } ∷ below.readings; after = below.after })
+
+-- the answers are bytes
+abbrev pub Salvages : Option PrefixTables → (List ℕ → Option (List ℕ) → Type 0) → ℕ → List (List ℕ) → List ℕ → Opening → Found → Type 0
+Salvages tables answer = SalvagesOver length (IsReadPast tables) answer
 
 -- ---- the faults that are listed
 -- these faults of the file that the names lead to

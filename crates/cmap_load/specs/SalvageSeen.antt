@@ -6,9 +6,8 @@ use Rattle.std.specs.List.{last_or, list_any}
 use Rattle.std.specs.Ordering.{nat_cmp}
 use Rattle.cmap_values.specs.NamesSeen.{names_seen}
 use Rattle.cmap_values.specs.Files.{File}
-use Rattle.cmap_binary.specs.Bundles.{PrefixTables}
 use Rattle.cmap_load.specs.KnownFiles.{IsSpent, file_known}
-use Rattle.cmap_load.specs.Salvage.{Found, IsReadWithin, NamedFault, Opening, Reading, Salvages, SalvagesEach, SalvagesNamed, SalvagesUse, is_fault_of, list_causes, list_each}
+use Rattle.cmap_load.specs.Salvage.{Found, NamedFault, Opening, Reading, ReadsWithin, SalvagesEach, SalvagesNamed, SalvagesUse, is_fault_of, list_causes, list_each}
 use Rattle.cmap_load.specs.declared.faults.Faults.{Faults}
 use Rattle.cmap_load.specs.declared.faults.Kinds.{Kinds}
 use Rattle.cmap_load.specs.declared.known.KnownFile.{KnownFile}
@@ -16,10 +15,11 @@ use Rattle.cmap_load.specs.declared.known.KnownFiles.{KnownFiles}
 use Rattle.cmap_load.specs.declared.refusal.Cause.{Cause}
 use Rattle.cmap_load.specs.declared.refusal.Cause.TheVariants.{Malformed, NoFile, ChainLength, OverBudget}
 use Rattle.cmap_load.specs.declared.refusal.Refusal.{Refusal}
-use Rattle.cmap_load.specs.declared.salvage.Chain.{Chain}
-use Rattle.cmap_load.specs.declared.salvage.Walk.{Walk}
+use Rattle.cmap_load.specs.declared.salvage.walk.Chain.{Chain}
+use Rattle.cmap_load.specs.declared.salvage.walk.Walk.{Walk}
 use Rattle.cmap_layers.specs.Layers.{Layer}
-use Rattle.cmap_layers.specs.LayersSeen.{layers_seen}
+use Rattle.cmap_load.specs.Kept.{IsAnswer, IsPast, Over, Stored, layers_on, size}
+use Rattle.cmap_load.specs.declared.salvage.kept.KeptFiles.{KeptFiles}
 
 abbrev pub fault_seen : Refusal → NamedFault
 fault_seen refusal = record { names = names_seen refusal.names.items; cause = refusal.cause }
@@ -77,14 +77,14 @@ pub record IsRead (most : ℕ) (reading : Reading) : Type 0 where
   pub short : length reading.names ≤ most
   pub room : HasRoom reading.causes
 
-module _ (tables : Option PrefixTables) (answer : List ℕ → Option (List ℕ) → Type 0) where
+module _ (files : KeptFiles) where
   -- the file of this name was read with the files that it uses, and their faults are listed
   pub record WasRead (faults : List NamedFault) (name : List ℕ) (file : KnownFile) : Type 0 where
     pub room : ℕ
     pub leading : List (List ℕ)
     pub before : Option ℕ
     pub found : Found
-    pub run : SalvagesNamed answer (Salvages tables answer room) room (leading ++ name ∷ []) name (record { left = before; closed = false }) found
+    pub run : SalvagesNamed (IsAnswer files) (Over files room) room (leading ++ name ∷ []) name (record { left = before; closed = false }) found
     pub read : All (IsRead (length leading + file.height)) found.readings
     pub listed : All (ReadingAddsNothing faults) found.readings
     pub spent : IfSome file.spent (IsSpent before found.after.left)
@@ -106,45 +106,45 @@ pub record GoesOn (old new : Walk) (readings : List Reading) : Type 0 where
   pub names : names_seen new.search.names.items ≡ names_seen old.search.names.items
   pub all : listed new.faults ≡ list_each (listed old.faults) readings
 
-module _ (tables : Option PrefixTables) (answer : List ℕ → Option (List ℕ) → Type 0) where
+module _ (files : KeptFiles) where
   -- the result of a walk from old to new, with chains of this height after so many names; the layers are right if they are wanted or a chain was too long
   pub record Walks (salvages : Opening → Found → Type 0) (above below : ℕ) (wanted : Bool) (old new : Walk) (chain : Chain) : Type 0 where
     pub layers : List Layer
     pub readings : List Reading
     pub finds : salvages (opening_seen old) (record { layers = layers; readings = readings; after = opening_seen new })
     pub on : GoesOn old new readings
-    pub knows : Knows tables answer new
+    pub knows : Knows files new
     pub read : new.is_cut ≡ false → (old.is_cut ≡ false) × All (IsRead (above + chain.height)) readings
     pub fits : chain.height ≤ below
-    pub given : (wanted ≡ true) ⊎ (new.is_closed ≡ true) → layers_seen chain.layers.items ≡ layers
+    pub given : (wanted ≡ true) ⊎ (new.is_closed ≡ true) → layers_on files chain.path.items ≡ layers
 
   abbrev names_at : Walk → List (List ℕ)
   names_at walk = names_seen walk.search.names.items
 
   -- the walk of a file, under which this many files may stand in a chain
-  abbrev pub WalksFile : ℕ → List ℕ → Bool → Walk → Walk → Chain → Type 0
-  WalksFile below bytes wanted old new = Walks (Salvages tables answer (suc below) (names_at old) bytes) (length (names_at old)) below wanted old new
+  abbrev pub WalksFile : ℕ → Stored → Bool → Walk → Walk → Chain → Type 0
+  WalksFile below stored wanted old new = Walks (Over files (suc below) (names_at old) stored) (length (names_at old)) below wanted old new
 
   -- the walk of the uses of such a file
   abbrev pub WalksUses : ℕ → List (List ℕ) → Bool → Walk → Walk → Chain → Type 0
-  WalksUses below uses wanted old new = Walks (SalvagesEach (SalvagesUse answer (Salvages tables answer below) below (names_at old)) uses []) (length (names_at old)) below wanted old new
+  WalksUses below uses wanted old new = Walks (SalvagesEach (SalvagesUse (IsAnswer files) (Over files below) below (names_at old)) uses []) (length (names_at old)) below wanted old new
 
   -- the walk of one use, after these layers
   abbrev pub WalksUse : ℕ → List ℕ → List Layer → Bool → Walk → Walk → Chain → Type 0
-  WalksUse below name base wanted old new = Walks (SalvagesUse answer (Salvages tables answer below) below (names_at old) name base) (length (names_at old)) below wanted old new
+  WalksUse below name base wanted old new = Walks (SalvagesUse (IsAnswer files) (Over files below) below (names_at old) name base) (length (names_at old)) below wanted old new
 
   -- the walk of one use, before a chain was too long
   abbrev pub WalksOpen : ℕ → List ℕ → Bool → Walk → Walk → Chain → Type 0
-  WalksOpen below name wanted old new chain = old.is_closed ≡ false → Walks (SalvagesNamed answer (Salvages tables answer below) below (names_at old ++ name ∷ []) name) (length (names_at old)) below wanted old new chain
+  WalksOpen below name wanted old new chain = old.is_closed ≡ false → Walks (SalvagesNamed (IsAnswer files) (Over files below) below (names_at old ++ name ∷ []) name) (length (names_at old)) below wanted old new chain
 
   -- the walk of the file of a use, which counts in the chain
   abbrev pub WalksNamed : ℕ → List ℕ → Bool → Walk → Walk → Chain → Type 0
-  WalksNamed below name wanted old new = Walks (SalvagesNamed answer (Salvages tables answer below) below (names_at old) name) (length (names_at old) - 1) below wanted old new
+  WalksNamed below name wanted old new = Walks (SalvagesNamed (IsAnswer files) (Over files below) below (names_at old) name) (length (names_at old) - 1) below wanted old new
 
 -- a file is read within the rest of the budget, and its faults are listed
-pub record ReadsOn (tables : Option PrefixTables) (bytes : List ℕ) (old new : Walk) (file : File) : Type 0 where
+pub record ReadsOn (files : KeptFiles) (stored : Stored) (old new : Walk) (file : File) : Type 0 where
   pub causes : List Cause
-  pub reads : IsReadWithin tables old.search.left bytes file causes new.search.left
+  pub reads : ReadsWithin (size files) (IsPast files) old.search.left stored file causes new.search.left
   pub on : GoesOn old new (record { names = names_seen old.search.names.items; causes = causes } ∷ [])
   pub marked : AreMarked new.faults
   pub known : new.search.known ≡ old.search.known

@@ -62,7 +62,7 @@ pub(crate) struct Faults<'a> {
     pub(crate) list: Vec<Refusal<'a>>,
     /// The kinds of the listed faults, by the last of the names. The top file has no name, and is
     /// read once.
-    kinds: BTreeMap<&'a [u8], Kinds>,
+    pub(crate) kinds: BTreeMap<&'a [u8], Kinds>,
 }
 
 impl<'a> Faults<'a> {

@@ -6,7 +6,7 @@ ghost use Rattle.cmap_load.specs.Graphs.{AreNamed, IsBegun, IsNext};
 ghost use Rattle.cmap_load.specs.Loads.{AreLoadedBy, FitsBy, HasGrown, IsAwaited, IsLoading, IsRead, IsRefusedBy, IsRefusedFile, IsSet, IsUnchanged, NextIs, Reads, Refused, budget_of, files_in, refusal_of, refused_of, wanted_of};
 ghost use Rattle.cmap_load.specs.Loading.{Answer, FailsToOpen, IsOpened, IsWanted};
 ghost use Rattle.cmap_load.specs.Numbers.{AreWithin, text_at};
-ghost use Rattle.cmap_load.specs.Tables.{IsAdded, IsNew};
+ghost use Rattle.cmap_load.specs.Tables.{IsAdded, IsEmpty, IsNew};
 ghost use Rattle.cmap_binary.specs.Bundles.{PrefixTables};
 ghost use Rattle.cmap_binary.specs.BundleSeen.{tables_given};
 ghost use Rattle.cmap_values.specs.FilesSeen.{file_seen};
@@ -130,6 +130,20 @@ impl<'d, N: Names<'d>> Loader<N> {
                 Ok(load)
             }
             Err(Fault::Memory) => Err(AllocError),
+        }
+    }
+
+    /// A loader without files.
+    pub(crate) fn without_files(alloc: Global, budget: Option<u64>) -> Self
+        ensures texts { N.texts result.list ≡ [] }
+        ensures numbered { N.are_numbered result.list }
+        ensures table { IsEmpty budget result.table }
+    {
+        Loader {
+            alloc,
+            list: N::new(alloc),
+            table: Table::new(alloc, budget),
+            state: State::Whole,
         }
     }
 
@@ -262,7 +276,12 @@ impl<'d, N: Names<'d>> Loader<N> {
     }
 
     /// Adds the file of a name, or the top file, and goes on.
-    fn add(&mut self, name: Option<usize>, length: u64, file: File<'d>) -> Result<Next, AllocError>
+    pub(crate) fn add(
+        &mut self,
+        name: Option<usize>,
+        length: u64,
+        file: File<'d>,
+    ) -> Result<Next, AllocError>
         requires set { IsSet N.texts N.are_numbered self.old }
         requires new { IsNew self.old.table.graph name }
         requires begun { (self.old.table.graph.nodes.items ≡ []) ⊎ IsBegun self.old.table.graph }

@@ -2,7 +2,9 @@
 
 ghost use Rattle.std.specs.Prelude.{◌≡◌, ◌⊎◌, ◌++◌, ◌<◌, ◌∷◌, [], ℕ, IfOk, List, MatchOption, OnErr, OnOk, Some, length, slice_get, slice_set};
 ghost use Rattle.cmap_load.specs.Graphs.{AreNamed, IsBegun, IsNext, IsWhole};
-ghost use Rattle.cmap_load.specs.Tables.{Grows, IsEmpty, IsNew, IsPushed, IsTable, LayersFrom};
+ghost use Rattle.cmap_layers.specs.Layers.{layer_of};
+ghost use Rattle.cmap_values.specs.ListsAppended.{no_file};
+ghost use Rattle.cmap_load.specs.Tables.{Grows, IsEmpty, IsNew, IsPushed, IsTable, LayersFrom, contents_layer};
 ghost use Rattle.cmap_load.specs.declared.table.Contents.{Contents};
 
 use crate::graph::{Graph, Next, Node};
@@ -134,7 +136,7 @@ fn last_use(uses: &[usize]) -> Option<usize>
 }
 
 /// Takes the contents at an index out of the list, and leaves empty contents at the index.
-fn take_contents(alloc: Global, contents: &mut Vec<Contents>, at: usize) -> Contents
+pub(crate) fn take_contents(alloc: Global, contents: &mut Vec<Contents>, at: usize) -> Contents
     requires { at < length contents.old.items }
     ensures taken { slice_get contents.old.items at ≡ Some result }
     ensures left { (none : Contents) × (contents.new.items ≡ slice_set contents.old.items at none) }
@@ -143,7 +145,9 @@ fn take_contents(alloc: Global, contents: &mut Vec<Contents>, at: usize) -> Cont
 }
 
 /// Contents without metadata and declarations.
-fn no_contents(alloc: Global) -> Contents {
+pub(crate) fn no_contents(alloc: Global) -> Contents
+    ensures { contents_layer result ≡ layer_of no_file }
+{
     let metadata = Metadata {
         character_collection: None,
         name: None,
