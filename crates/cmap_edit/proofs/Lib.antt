@@ -3,7 +3,6 @@ pub mod Growing
 pub mod Patterns
 pub mod TextsAlike
 pub mod TextsGrow
-pub mod TextsInRow
 pub mod InPart
 pub mod ListsEnd
 pub mod ListsSaid

@@ -1,15 +1,32 @@
 -- Texts of units are the same just where their units are, or where neither is there.
-use Rattle.std.proofs.Common.{◌≡◌, ℕ, Bool, ◌+◌, ◌-◌, ◌<◌, ◌^◌, true, false, true≢false, List, [], ◌∷◌, ◌++◌, length, take, get_or, Option, Some, None, refl, ap, sym, ◌∙◌, arith}
-use Rattle.std.specs.Prelude.{◌||◌, is_some, option_and_then, nat_lt, slice_index}
+use Rattle.std.proofs.Common.{◌≡◌, ℕ, Bool, ◌+◌, ◌-◌, ◌<◌, ◌^◌, true, false, true≢false, List, [], ◌∷◌, ◌++◌, length, take, get_or, Option, Some, None, option_map, refl, ap, sym, ◌∙◌, arith}
+use Rattle.std.specs.Prelude.{if◌then◌else◌, ◌||◌, is_some, option_and_then, nat_lt, slice_index}
 use Rattle.std.proofs.lemmas.Bool.{ltb-true}
 use Rattle.std.proofs.lemmas.List.{same_from_push}
 use Rattle.std.proofs.lemmas.List.Elements.{All-push, All-take}
-use Rattle.std.proofs.lemmas.Option.{cond_some, none-some, option_and_then_some}
+use Rattle.std.proofs.lemmas.Option.{cond_some, none-some, option_and_then_some, slice_get-get_or}
 use Rattle.cmap_tokens.specs.Texts.{characters, shifted, text_at}
+use Rattle.cmap_layers.specs.CodeStretches.{counted_on}
 use Rattle.cmap_layers.proofs.UnitsOfTexts.{AreUnits, are_units, units_spelled}
 use Rattle.cmap_edit.specs.Differences.{DiffersIf}
 use Rattle.cmap_edit.specs.UnitsAlike.{AreAlike}
-use Rattle.cmap_edit.proofs.TextsInRow.{shifted_at, units_with}
+
+-- where the texts count on, they are there or not
+some_mapped : {A B : Type 0} (f : A → B) (o : Option A) → is_some (option_map f o) ≡ is_some o
+some_mapped f None = refl
+some_mapped f (Some x) = refl
+
+pub in_row : (units : List ℕ) (offset k : ℕ) → text_at units (offset + k) ≡ option_map (λ cs. counted_on cs k) (text_at units offset) → is_some (text_at units (offset + k)) ≡ is_some (text_at units offset)
+in_row units offset k counts = ap is_some counts ∙ some_mapped (λ cs. counted_on cs k) (text_at units offset)
+
+-- units with another last one, if that is a unit
+abbrev units_with : List ℕ → ℕ → Option (List ℕ)
+units_with front value = if nat_lt value (2 ^ 16) then Some (front ++ value ∷ []) else None
+
+shifted_at : (units : List ℕ) (offset : ℕ) → 0 < length units → shifted units offset ≡ units_with (take (length units - 1) units) (slice_index units (length units - 1) + offset)
+shifted_at units offset some =
+    let before : length units - 1 < length units = omega arith in
+    ap (λ o. option_and_then (λ last. if nat_lt (last + offset) (2 ^ 16) then Some (take (length units - 1) units ++ (last + offset) ∷ []) else None) o) (slice_get-get_or units (length units - 1) 0 before)
 
 abbrev front_of : List ℕ → List ℕ
 front_of units = take (length units - 1) units

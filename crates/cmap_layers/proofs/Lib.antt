@@ -1,6 +1,5 @@
 pub mod BestMatch
 pub mod BytesWithin
-pub mod CharactersInRow
 pub mod CodeRanges
 pub mod CodesInside
 pub mod CodesOfCids
@@ -14,4 +13,5 @@ pub mod RowBits
 pub mod RowWritten
 pub mod SpacesFound
 pub mod TablesCopied
+pub mod TextsCounted
 pub mod UnitsOfTexts

@@ -1,5 +1,5 @@
 -- The CIDs and the texts of codes in a row, and the codes of a CID.
-use Rattle.std.specs.Prelude.{◌≡◌, ◌↔◌, ◌⊎◌, ℕ, ◌+◌, ◌-◌, ◌%◌, ◌<◌, ◌≤◌, ◌^◌, IsTrue, List, ◌∷◌, ◌++◌, All, Option, Some, None, IsSomeAnd, MatchOption, flat_map, length, map, option_and_then, option_map, slice_index_or}
+use Rattle.std.specs.Prelude.{◌≡◌, ◌↔◌, ◌⊎◌, ℕ, ◌+◌, ◌-◌, ◌%◌, ◌<◌, ◌≤◌, ◌^◌, IsTrue, List, [], ◌∷◌, ◌++◌, All, Option, Some, None, IsSomeAnd, MatchOption, flat_map, length, map, option_and_then, option_map, slice_index_or}
 use Rattle.std.specs.Char.Escape.{encode_utf16}
 use Rattle.std.specs.Str.{all_scalars}
 use Rattle.cmap_values.specs.declared.range.Range.{Range}
@@ -18,6 +18,12 @@ abbrev pub cid_after : Cids → ℕ → Option ℕ
 cid_after Absent k = None
 cid_after (Same cid) k = Some cid
 cid_after (CountOn cid) k = Some (cid + k)
+
+-- the characters of a text, with the last one k characters further
+abbrev pub counted_on : List ℕ → ℕ → List ℕ
+counted_on [] k = []
+counted_on (c ∷ []) k = (c + k) ∷ []
+counted_on (c ∷ d ∷ cs) k = c ∷ counted_on (d ∷ cs) k
 
 -- at this offset the last unit of a text is the last unit of a row of 1,024 units; surrogates lie in such rows
 abbrev pub IsRowEnd : List ℕ → ℕ → Type 0

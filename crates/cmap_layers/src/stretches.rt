@@ -8,7 +8,7 @@ ghost use Rattle.cmap_tokens.specs.Texts.{only_character, text_at};
 ghost use Rattle.cmap_values.specs.CodeLengths.{length_of};
 ghost use Rattle.cmap_values.specs.Files.{CidEntry, of_length};
 ghost use Rattle.cmap_values.specs.DeclarationsSeen.{bf_entry_seen, cid_entry_seen};
-ghost use Rattle.cmap_layers.specs.CodeStretches.{AreCodesAmong, AreCodesOfCid, AreDeclaredBy, Decides, DeclarationsEnd, EndsCids, EndsRow, Fits, IsCidStretch, IsLayerLongest, IsRowEnd, IsTextStretch};
+ghost use Rattle.cmap_layers.specs.CodeStretches.{AreCodesAmong, AreCodesOfCid, AreDeclaredBy, Decides, DeclarationsEnd, EndsCids, EndsRow, Fits, IsCidStretch, IsLayerLongest, IsRowEnd, IsTextStretch, counted_on};
 ghost use Rattle.cmap_values.specs.UnitsSeen.{units_seen};
 ghost use Rattle.cmap_layers.specs.LayersDecide.{layer_cid};
 ghost use Rattle.cmap_layers.specs.LayersSeen.{layer_seen};
@@ -251,21 +251,21 @@ fn declared_characters(declaration: &BfRange, first: u32, last: u32) -> LayerStr
         Some(character) => Some(Cids::CountOn(u32::from(character))),
         None => None,
     };
-    let more = further_characters(units, offset);
+    let more = further_texts(units, offset);
     LayerStretch {
         cids,
         last: first + (last - first).min(more),
     }
 }
 
-/// The number of further offsets whose characters count on from the character at this offset, or, if this
-/// offset gives no character, the number of further offsets that give none either.
-fn further_characters(units: &[u16], offset: u32) -> u32
-    ensures count { (k : ℕ) → k ≤ result → only_character (text_at units.now (offset + k))
-        ≡ option_map (λ character. character + k) (only_character (text_at units.now offset)) }
+/// The number of further offsets whose texts count on from the text at this offset, or, if this offset gives
+/// no text, the number of further offsets that give none either. Surrogates lie in rows of 1,024 units.
+pub fn further_texts(units: &[u16], offset: u32) -> u32
+    ensures count { (k : ℕ) → k ≤ result → text_at units.now (offset + k)
+        ≡ option_map (λ cs. counted_on cs k) (text_at units.now offset) }
     ensures ends { (result ≡ 2 ^ 32 - 1) ⊎ IsRowEnd units.now (offset + result) }
 {
-    let [.., last] = units else {
+    let Some(last) = units.last() else {
         return u32::MAX;
     };
     let unit = u64::from(*last) + u64::from(offset);

@@ -8,7 +8,7 @@ use Rattle.cmap_layers.specs.Layers.{Layer}
 use Rattle.cmap_layers.specs.Lookups.{bf_of, decided_text, last_bf}
 use Rattle.cmap_unicode.specs.Characters.{characters_of}
 use Rattle.cmap_unicode.specs.TextsOfCodes.{text_in}
-use Rattle.cmap_unicode.proofs.TextsCounted.{some_ended}
+use Rattle.cmap_layers.proofs.TextsCounted.{some_ended}
 
 by_sum : (b : Bool) (front : List ℕ) (last : ℕ) → option_and_then characters (if b then Some (front ++ last ∷ []) else None) ≡ Some [] → ⊥
 by_sum true front last empty = some_ended front last empty

@@ -1,19 +1,16 @@
 //! Codes in a row, whose texts are the same or count on.
 
-ghost use Rattle.std.specs.Prelude.{◌≡◌, ◌⊎◌, ◌+◌, ◌-◌, ◌<◌, ◌≤◌, ◌^◌, ℕ, IfOk, option_map, true};
+ghost use Rattle.std.specs.Prelude.{◌≡◌, ◌⊎◌, ◌+◌, ◌-◌, ◌<◌, ◌≤◌, ◌^◌, IfOk, true};
 ghost use Rattle.std.specs.Option.{option_copied};
-ghost use Rattle.cmap_tokens.specs.Texts.{text_at};
 ghost use Rattle.cmap_values.specs.CodeLengths.{length_of};
-ghost use Rattle.cmap_layers.specs.CodeStretches.{IsRowEnd};
 ghost use Rattle.cmap_unicode.specs.Characters.{font_of};
-ghost use Rattle.cmap_unicode.specs.CountedTexts.{counted_on};
 ghost use Rattle.cmap_unicode.specs.TextsOfCodes.{text_in};
 ghost use Rattle.cmap_unicode.specs.TextRows.{AreTexts, CountedEnd, IsLongestRow, IsLongestTextRow, IsTextRow, MapEnds, TextsCountOn, texts_of_cids};
 
 use crate::cids::declared_stretch;
 use crate::extractor::Extractor;
 use cmap_layers::layers::Layers;
-use cmap_layers::stretches::{CidStretch, Cids};
+use cmap_layers::stretches::{CidStretch, Cids, further_texts};
 use cmap_runs::runs::Looks;
 use cmap_tokens::utf16::BfString;
 use cmap_values::code_length::CodeLength;
@@ -133,23 +130,5 @@ fn last_in_row(map: &Layers, first: u32) -> u32
             first + (stretch.last - first).min(more)
         }
         None => stretch.last,
-    }
-}
-
-/// The number of further offsets whose texts count on from the text at this offset, or, if this offset gives
-/// no text, the number of further offsets that give none either. Surrogates lie in rows of 1,024 units.
-fn further_texts(units: &[u16], offset: u32) -> u32
-    ensures count { (k : ℕ) → k ≤ result → text_at units.now (offset + k)
-        ≡ option_map (λ cs. counted_on cs k) (text_at units.now offset) }
-    ensures ends { (result ≡ 2 ^ 32 - 1) ⊎ IsRowEnd units.now (offset + result) }
-{
-    let Some(last) = units.last() else {
-        return u32::MAX;
-    };
-    let unit = u64::from(*last) + u64::from(offset);
-    if unit < 0x1_0000 {
-        0x3FF - (unit % 0x400) as u32
-    } else {
-        u32::MAX
     }
 }

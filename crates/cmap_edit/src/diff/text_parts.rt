@@ -8,6 +8,7 @@ ghost use Rattle.cmap_edit.specs.UnitsAlike.{AreAlike};
 
 use crate::diff::compared::Comparison;
 use cmap_layers::layers::Layers;
+use cmap_layers::stretches::further_texts;
 use cmap_tokens::utf16::text;
 use cmap_values::declarations::BfRange;
 use std::alloc::{AllocError, Global};
@@ -92,7 +93,7 @@ fn compared_units(
     let there = is_there(alloc, right, other_offset)?;
     Ok(Comparison {
         differs: here || there,
-        more: further_in_row(left, offset).min(further_in_row(right, other_offset)),
+        more: further_texts(left, offset).min(further_texts(right, other_offset)),
     })
 }
 
@@ -116,22 +117,4 @@ fn is_there(alloc: Global, units: &[u16], offset: u32) -> Result<bool, AllocErro
 {
     let text = text(alloc, units, offset)?;
     Ok(text.is_some())
-}
-
-/// The number of further offsets that have a text if this offset has one, and no text if it has
-/// none. The number reaches to the end of the row of 1,024 units, since surrogates lie in such
-/// rows.
-fn further_in_row(units: &[u16], offset: u32) -> u32
-    ensures { (k : ℕ) → k ≤ result
-        → is_some (text_at units.now (offset + k)) ≡ is_some (text_at units.now offset) }
-{
-    let [.., last] = units else {
-        return u32::MAX;
-    };
-    let unit = u64::from(*last) + u64::from(offset);
-    if unit < 0x1_0000 {
-        0x3FF - (unit % 0x400) as u32
-    } else {
-        u32::MAX
-    }
 }
