@@ -12,3 +12,4 @@ mod texts;
 pub use self::cids::{push_cids, push_notdefs};
 pub use self::file::tidy;
 pub use self::texts::push_texts;
+pub(crate) use self::texts::{counted_on, fits};

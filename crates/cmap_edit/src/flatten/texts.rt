@@ -1,13 +1,13 @@
 //! The declarations of texts for the chosen codes.
 
-ghost use Rattle.std.specs.Prelude.{◌≡◌, ◌+◌, ◌-◌, ◌≤◌, ◌^◌, All, IfOk, OnOk, [], false, map, option_map};
-ghost use Rattle.cmap_tokens.specs.Texts.{shifted, text_at};
+ghost use Rattle.std.specs.Prelude.{◌≡◌, ◌+◌, ◌-◌, ◌≤◌, ◌^◌, All, IfOk, OnOk, [], false, map};
+ghost use Rattle.cmap_tokens.specs.Texts.{text_at};
 ghost use Rattle.cmap_values.specs.DeclarationsSeen.{bf_entry_seen};
 ghost use Rattle.cmap_layers.specs.Lookups.{bf_at, bf_of};
 ghost use Rattle.cmap_edit.specs.Parts.{AreTexts, AreTextsAdded, AreTextsBelow, IsTextRoom};
 
 use crate::flatten::codes::{Codes, numbers_of};
-use crate::tidy::push_texts;
+use crate::tidy::{counted_on, fits, push_texts};
 use cmap_layers::layers::Layers;
 use cmap_runs::runs::{Looks, Table};
 use cmap_values::declarations::BfRange;
@@ -110,11 +110,13 @@ fn add_declared(
     ensures { OnOk result (AreTextsAdded (map bf_entry_seen texts.old.items) range.start (range.end + 1)
         (λ code. bf_at (bf_entry_seen declaration.now) code) (map bf_entry_seen texts.new.items)) }
 {
+    let units = declaration.units.as_slice();
     let offset = range.start - declaration.range.start;
-    match units_at(alloc, declaration.units.as_slice(), offset)? {
-        Some(units) => add_units(alloc, texts, &units, range),
-        None => Ok(()),
+    if !fits(units, offset) {
+        return Ok(());
     }
+    let units = counted_on(alloc, units, offset)?;
+    add_units(alloc, texts, units.as_slice(), range)
 }
 
 /// Adds the texts that count on from these units, up to the code at which the last unit passes 16 bits.
@@ -136,20 +138,4 @@ fn add_units(
     let start = range.start;
     let end = start + (range.end - start).min(more);
     push_texts(alloc, texts, Range { start, end }, units)
-}
-
-/// The units with the offset added to the last one; `None` without units, or where the last unit passes
-/// 16 bits.
-fn units_at(alloc: Global, units: &[u16], offset: u32) -> Result<Option<Vec<u16>>, AllocError>
-    ensures { IfOk result (λ made. option_map (λ units. units.items) made ≡ shifted units.now offset) }
-{
-    let [front @ .., last] = units else {
-        return Ok(None);
-    };
-    let Ok(last) = u16::try_from(u64::from(*last) + u64::from(offset)) else {
-        return Ok(None);
-    };
-    let mut made = Vec::from_slice(alloc, front)?;
-    made.push(last)?;
-    Ok(Some(made))
 }

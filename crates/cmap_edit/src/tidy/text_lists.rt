@@ -1,6 +1,6 @@
 //! Lists of texts, written anew as tidy lists.
 
-ghost use Rattle.std.specs.Prelude.{◌≡◌, ◌↔◌, ◌+◌, ◌<◌, ◌≤◌, ◌^◌, ℕ, ◌-◌, None, All, IfOk, IsTrue, MatchOption, OnOk, length, map};
+ghost use Rattle.std.specs.Prelude.{◌≡◌, ◌+◌, ◌<◌, ◌≤◌, ◌^◌, ℕ, ◌-◌, None, All, IfOk, MatchOption, OnOk, length, map};
 ghost use Rattle.cmap_values.specs.DeclarationsSeen.{bf_entry_seen};
 ghost use Rattle.cmap_values.specs.UnitsSeen.{units_seen};
 ghost use Rattle.cmap_edit.specs.Tidied.{AreTidiedTexts, SaysNone, SaysTheSame};
@@ -8,7 +8,7 @@ ghost use Rattle.cmap_edit.specs.Tidy.{AreTidyTexts, last_unit, units_at, units_
 ghost use Rattle.cmap_edit.specs.TidyAdded.{AddsTexts, GivesTexts};
 
 use crate::tidy::copies::copied_texts;
-use crate::tidy::texts::{counted_on, push_texts};
+use crate::tidy::texts::{counted_on, fits, push_texts};
 use cmap_runs::runs::{Looks, Table};
 use cmap_values::declarations::BfRange;
 use cmap_values::range::Range;
@@ -88,14 +88,4 @@ fn first_units(
     }
     let first = counted_on(alloc, units, range.start - declaration.range.start)?;
     Ok(Some(first))
-}
-
-/// Whether there are units, and the last unit plus the offset fits in 16 bits.
-fn fits(units: &[u16], offset: u32) -> bool
-    ensures { IsTrue result ↔ ((0 < length units.now) × (last_unit units.now + offset < 2 ^ 16)) }
-{
-    match units.last() {
-        Some(last) => u64::from(*last) + u64::from(offset) < 0x1_0000,
-        None => false,
-    }
 }

@@ -54,6 +54,16 @@ pub fn push_texts(
     Ok(())
 }
 
+/// Whether there are units, and the last unit plus the offset fits in 16 bits.
+pub(crate) fn fits(units: &[u16], offset: u32) -> bool
+    ensures { IsTrue result ↔ ((0 < length units.now) × (last_unit units.now + offset < 2 ^ 16)) }
+{
+    match units.last() {
+        Some(last) => u64::from(*last) + u64::from(offset) < 0x1_0000,
+        None => false,
+    }
+}
+
 /// The units with the offset added to the last one.
 pub(crate) fn counted_on(alloc: Global, units: &[u16], offset: u32) -> Result<Units, AllocError>
     requires some { 0 < length units.now }
