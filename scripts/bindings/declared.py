@@ -4,21 +4,14 @@ import ctypes
 import importlib.util
 import re
 
-from .header import declarations, fields_of_header
+from .header import VALUES, declarations, fields_of_header
 from .library import TOP
 
 RUST = TOP / "bindings" / "rust" / "src"
 PYTHON = TOP / "bindings" / "python" / "hayro_cmap" / "_library.py"
 
 # the types of Rust, also behind pointers, and the types of the header
-OF_RUST = {
-    "u8": "uint8_t",
-    "u16": "uint16_t",
-    "u32": "uint32_t",
-    "u64": "uint64_t",
-    "i32": "int32_t",
-    "usize": "size_t",
-    "bool": "bool",
+OF_RUST = VALUES | {
     "Cid": "uint32_t",
     "c_void": "void",
     "RawMap": "hayro_cmap",
@@ -41,26 +34,7 @@ OF_RUST = {
     "RawFacts<'_>": "hayro_cmap_facts",
 }
 # the structs of Rust and of Python, with their names in the header
-RUST_STRUCTS = {
-    "RawMap": "hayro_cmap",
-    "RawBundle": "hayro_cmap_bundle",
-    "RawEncoder": "hayro_cmap_encoder",
-    "RawLoader": "hayro_cmap_loader",
-    "File<'a>": "hayro_cmap_file",
-    "RawCode": "hayro_cmap_code",
-    "RawCharacter": "hayro_cmap_character",
-    "RawExtracted": "hayro_cmap_extracted",
-    "RawPiece": "hayro_cmap_piece",
-    "RawFault": "hayro_cmap_fault",
-    "RawFinding": "hayro_cmap_finding",
-    "Codespace": "hayro_cmap_codespace",
-    "CidRange": "hayro_cmap_cid_range",
-    "RawTextRange": "hayro_cmap_text_range",
-    "RawCodeRange": "hayro_cmap_code_range",
-    "RawCodes": "hayro_cmap_codes",
-    "RawDeclaration<'a>": "hayro_cmap_declaration",
-    "RawFacts<'a>": "hayro_cmap_facts",
-}
+RUST_STRUCTS = {name.replace("'_", "'a"): given for name, given in OF_RUST.items() if given.startswith("hayro_cmap")}
 PYTHON_STRUCTS = {
     "File": "hayro_cmap_file",
     "CodeInString": "hayro_cmap_code",
