@@ -34,7 +34,8 @@ pub(crate) fn any_has_front(layers: &[Layer], byte_len: u8, front: &[u8]) -> boo
     requires length { IsCodeLength byte_len }
     requires few { length front.now ≤ 4 }
     ensures { IsTrue result
-        ↔ Any (λ layer. Any (HasFront byte_len front.now) layer.lists.spaces) (layers_seen layers.now) }
+        ↔ Any (λ layer. Any (HasFront byte_len front.now) layer.lists.spaces)
+        (layers_seen layers.now) }
 {
     any(layers, &Query::of_front(byte_len, front))
 }

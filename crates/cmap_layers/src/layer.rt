@@ -175,7 +175,10 @@ type Tables = (
 /// The tables of all declarations of a file.
 fn tables_of(alloc: Global, lists: Lists) -> Result<Tables, AllocError>
     ensures { IfOk result (λ tables. tables
-        ≡ ((lists_held lists.cids, lists_held lists.notdefs), (lists.bfs.items, lists.spaces.items))) }
+        ≡ (
+          (lists_held lists.cids, lists_held lists.notdefs),
+          (lists.bfs.items, lists.spaces.items),
+        )) }
 {
     let Lists {
         cids,

@@ -131,7 +131,8 @@ fn write_text(declaration: &BfRange, code: u32, cids: &mut [Cid])
     requires start { declaration.now.range.start ≤ code }
     requires fits { code + length cids.old ≤ 2 ^ 32 }
     ensures { (k : ℕ) → k < length cids.new → slice_index cids.new k ≡ unwrap_or
-        (only_character (bf_at (bf_entry_seen declaration.now) (code + k))) (slice_index cids.old k) }
+        (only_character (bf_at (bf_entry_seen declaration.now) (code + k)))
+        (slice_index cids.old k) }
 {
     let units = declaration.units.as_slice();
     let offset = code - declaration.range.start;

@@ -150,7 +150,8 @@ fn stretch_in(layer: &Layer, first: u32, len: CodeLength) -> LayerStretch
     ensures within { first ≤ result.last }
     ensures cids { Decides (λ code. layer_cid (layer_seen layer.now) code (length_of len))
         first result.last result.cids }
-    ensures longest { IsLayerLongest (layer_seen layer.now) (length_of len) first result.last result.cids }
+    ensures longest { IsLayerLongest (layer_seen layer.now)
+        (length_of len) first result.last result.cids }
 {
     let declared = declared_stretch_in(layer, first, len);
     if declared.cids.is_some() {
@@ -167,11 +168,13 @@ fn stretch_in(layer: &Layer, first: u32, len: CodeLength) -> LayerStretch
 /// for which another declaration decides, or with the last CID.
 pub fn declared_stretch_in(layer: &Layer, first: u32, len: CodeLength) -> LayerStretch
     ensures within { first ≤ result.last }
-    ensures cids { (code : ℕ) → first ≤ code → code ≤ result.last → AreDeclaredBy result.cids (code - first) code
+    ensures cids { (code : ℕ) → first ≤ code → code ≤ result.last
+        → AreDeclaredBy result.cids (code - first) code
         (last_cid (of_length (layer_seen layer.now).lists.cids (length_of len)) code)
         (last_cid (of_length (layer_seen layer.now).lists.notdefs (length_of len)) code) }
     ensures fit { IfSome result.cids (λ cids. Fits cids (result.last - first)) }
-    ensures longest { result.last + 1 < 2 ^ 32 → DeclarationsEnd (length_of len) first result.last (layer_seen layer.now)
+    ensures longest { result.last + 1 < 2 ^ 32
+        → DeclarationsEnd (length_of len) first result.last (layer_seen layer.now)
         ⊎ IsSomeAnd result.cids (λ these. EndsCids these (result.last - first)) }
 {
     let cids = layer.cids(len).stretch(first);
@@ -199,7 +202,8 @@ fn declared_cids(declaration: &CidRange, first: u32, last: u32) -> LayerStretch
     requires last { first ≤ last }
     ensures within { (first ≤ result.last) × (result.last ≤ last) }
     ensures cids { (code : ℕ) (notdef : Option CidEntry) → first ≤ code → code ≤ result.last
-        → AreDeclaredBy result.cids (code - first) code (Some (cid_entry_seen declaration.now)) notdef }
+        → AreDeclaredBy result.cids (code - first) code
+        (Some (cid_entry_seen declaration.now)) notdef }
     ensures fit { IfSome result.cids (λ cids. Fits cids (result.last - first)) }
     ensures ends { (result.last ≡ last)
         ⊎ IsSomeAnd result.cids (λ these. EndsCids these (result.last - first)) }
@@ -219,7 +223,8 @@ fn declared_cids(declaration: &CidRange, first: u32, last: u32) -> LayerStretch
 /// The characters of codes from `first` on whose texts are just one character.
 fn characters_in(texts: &Table<BfRange>, first: u32) -> LayerStretch
     ensures within { first ≤ result.last }
-    ensures cids { Decides (λ code. option_map Some (character_said (map bf_entry_seen texts.now) code))
+    ensures cids { Decides (λ code. option_map Some
+        (character_said (map bf_entry_seen texts.now) code))
         first result.last result.cids }
     ensures ends { IsLongest (map bf_span (map bf_entry_seen texts.now)) first result.last
         ⊎ EndsRow (map bf_entry_seen texts.now) result.last }
@@ -241,7 +246,8 @@ fn declared_characters(declaration: &BfRange, first: u32, last: u32) -> LayerStr
     requires last { first ≤ last }
     ensures within { (first ≤ result.last) × (result.last ≤ last) }
     ensures cids { Decides (λ code. option_map Some
-        (only_character (bf_at (bf_entry_seen declaration.now) code))) first result.last result.cids }
+        (only_character (bf_at (bf_entry_seen declaration.now) code)))
+        first result.last result.cids }
     ensures ends { (result.last ≡ last)
         ⊎ IsRowEnd (units_seen declaration.now.units) (result.last - declaration.now.range.start) }
 {

@@ -80,7 +80,8 @@ fn shortest_inside(layers: &[Layer], text: &[u8]) -> Option<(u8, u32)>
 #[inline(always)]
 fn code_of_prefix(text: &[u8], byte_len: u8) -> Option<u32>
     ensures { MatchOption result (IsCodeLength byte_len → byte_len ≤ length text.now → ⊥)
-        (λ code. IsCodeLength byte_len × (byte_len ≤ length text.now) × (code ≡ front text.now byte_len)) }
+        (λ code. IsCodeLength byte_len × (byte_len ≤ length text.now)
+        × (code ≡ front text.now byte_len)) }
 {
     // If a caller has found the length, the compiler leaves out these tests.
     match (byte_len, text) {

@@ -125,7 +125,8 @@ struct HexString<'t> {
 impl<'t> HexString<'t> {
     /// The hexadecimal string at the end of bytes.
     fn last_of(bytes: &'t [u8]) -> Option<HexString<'t>>
-        ensures { MatchOption result ((before : List ℕ) (digits : ℕ) → AreBeforeDigits bytes.now before digits → ⊥)
+        ensures { MatchOption result
+            ((before : List ℕ) (digits : ℕ) → AreBeforeDigits bytes.now before digits → ⊥)
             (λ found. AreBeforeDigits bytes.now found.before.now found.digits) }
     {
         let mut rest = without_last(bytes, b'>')?;
@@ -147,7 +148,9 @@ impl<'t> HexString<'t> {
     /// Whether the string is a code with fewer bytes than another string. A string after a `<` doesn't count as a
     /// code.
     fn is_shorter_code(&self, other: &HexString<'_>) -> bool
-        ensures { IsTrue result ↔ ((0 < bytes_of self.now.digits) × (bytes_of self.now.digits < bytes_of other.now.digits)
+        ensures { IsTrue result
+            ↔ ((0 < bytes_of self.now.digits)
+            × (bytes_of self.now.digits < bytes_of other.now.digits)
             × (EndWith self.now.before.now (byte "<") → ⊥)) }
     {
         0 < self.len() && self.len() < other.len() && without_last(self.before, b'<').is_none()

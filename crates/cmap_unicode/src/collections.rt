@@ -93,7 +93,8 @@ pub fn unicode_name(collection: &[u8], mode: WritingMode) -> Option<&'static [u8
 
 /// The names of the CMaps from Unicode to the CIDs of a character collection.
 fn from_unicode(collection: &[u8]) -> Option<FromUnicode>
-    ensures { option_map (λ names. (names.horizontal.now, names.vertical.now)) result ≡ names_of collection.now }
+    ensures { option_map (λ names. (names.horizontal.now, names.vertical.now)) result
+        ≡ names_of collection.now }
 {
     if collection == JAPAN1 {
         return Some(FromUnicode {

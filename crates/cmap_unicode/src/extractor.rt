@@ -46,7 +46,8 @@ impl Extractor<'_> {
     /// `next_code` of the font's CMap gives the code, and `character_of` the CID and the text.
     pub fn next(&self, alloc: Global, string: &[u8]) -> Result<Option<Character>, AllocError>
         ensures character { IfOk result
-            (λ found. MatchOption found (string.now ≡ []) (IsNextCharacter (font_of self.now) string.now)) }
+            (λ found. MatchOption found (string.now ≡ [])
+            (IsNextCharacter (font_of self.now) string.now)) }
         ensures length { IfOk result (λ found. IfSome found (λ character.
             IsCodeLength character.code.byte_len × (character.code.byte_len ≤ length string.now))) }
         ensures err { OnErr result (BeginsWithLongText (font_of self.now) string.now) }

@@ -138,7 +138,8 @@ fn difference(one: &Layers, other: &Layers, chosen: &Table<Codes>, len: CodeLeng
 /// The first code of a range for which two maps have different CIDs.
 fn difference_in(one: &Layers, other: &Layers, range: Range, len: CodeLength) -> Option<u32>
     requires { range.start ≤ range.end }
-    ensures { MatchOption result (HaveSameCids one.now other.now (length_of len) range.start (range.end + 1))
+    ensures { MatchOption result
+        (HaveSameCids one.now other.now (length_of len) range.start (range.end + 1))
         (λ code. (range.start ≤ code) × (code ≤ range.end)
         × (cid_of one.now code (length_of len) ≢ cid_of other.now code (length_of len))) }
 {

@@ -35,7 +35,8 @@ impl Declared {
         requires room { IsRoom (entries_seen self.now.cids.items)
             (entries_seen self.now.notdefs.items) range.start }
         requires range { range.start ≤ range.end }
-        ensures { OnOk result (IsAdded (entries_seen self.old.cids.items) (entries_seen self.old.notdefs.items)
+        ensures { OnOk result (IsAdded (entries_seen self.old.cids.items)
+            (entries_seen self.old.notdefs.items)
             range.start (range.end + 1) (λ code. given layers.now code (length_of len))
             (entries_seen self.new.cids.items) (entries_seen self.new.notdefs.items)) }
     {
@@ -61,7 +62,8 @@ impl Declared {
             (entries_seen self.now.notdefs.items) range.start }
         requires range { range.start ≤ range.end }
         requires fits { Fits cids (range.end - range.start) }
-        ensures { OnOk result (IsAdded (entries_seen self.old.cids.items) (entries_seen self.old.notdefs.items)
+        ensures { OnOk result (IsAdded (entries_seen self.old.cids.items)
+            (entries_seen self.old.notdefs.items)
             range.start (range.end + 1) (λ code. given_after cids (code - range.start))
             (entries_seen self.new.cids.items) (entries_seen self.new.notdefs.items)) }
     {

@@ -47,7 +47,8 @@ pub(crate) fn lists_of(alloc: Global, layers: &Layers, codes: &[Codes]) -> Resul
 
 /// The codespace ranges of all layers, each once, in ascending order of their number of bytes.
 fn spaces_of(alloc: Global, layers: &Layers) -> Result<Vec<Codespace>, AllocError>
-    ensures { IfOk result (λ spaces. AreEachOnce (ranges_of layers.now) (map codespace_seen spaces.items)) }
+    ensures { IfOk result (λ spaces.
+        AreEachOnce (ranges_of layers.now) (map codespace_seen spaces.items)) }
 {
     let mut spaces = all_spaces(alloc, layers)?;
     spaces.sort_unstable_by_key(|space| order_of(space));

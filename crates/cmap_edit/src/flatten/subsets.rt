@@ -26,7 +26,8 @@ use std::alloc::{AllocError, Global};
 /// file gives the character of a text as a CID only where the file declares no CID. Otherwise the function
 /// fails only if memory runs out.
 pub fn flatten<'d>(alloc: Global, layers: &Layers) -> Result<File<'d>, Fault<Contradiction>>
-    ensures file { Outcome (λ file. IsFlat layers.now (file_seen file)) (Contradicts layers.now) result }
+    ensures file { Outcome
+        (λ file. IsFlat layers.now (file_seen file)) (Contradicts layers.now) result }
     ensures none { IfErr result (RefusesWith (λ at. HoldsOfNone (IsFlat layers.now))) }
 {
     subset(alloc, layers, &all_codes())

@@ -77,7 +77,8 @@ fn add_texts(
 ) -> Result<(), AllocError>
     requires room { IsTextRoom (map bf_entry_seen texts.now.items) range.start }
     requires range { range.start ≤ range.end }
-    ensures { OnOk result (AreTextsAdded (map bf_entry_seen texts.old.items) range.start (range.end + 1)
+    ensures { OnOk result (AreTextsAdded (map bf_entry_seen texts.old.items)
+        range.start (range.end + 1)
         (λ code. bf_of layers.now code) (map bf_entry_seen texts.new.items)) }
 {
     let end = u64::from(range.end);
@@ -107,7 +108,8 @@ fn add_declared(
     requires room { IsTextRoom (map bf_entry_seen texts.now.items) range.start }
     requires range { range.start ≤ range.end }
     requires start { declaration.now.range.start ≤ range.start }
-    ensures { OnOk result (AreTextsAdded (map bf_entry_seen texts.old.items) range.start (range.end + 1)
+    ensures { OnOk result (AreTextsAdded (map bf_entry_seen texts.old.items)
+        range.start (range.end + 1)
         (λ code. bf_at (bf_entry_seen declaration.now) code) (map bf_entry_seen texts.new.items)) }
 {
     let units = declaration.units.as_slice();
@@ -128,7 +130,8 @@ fn add_units(
 ) -> Result<(), AllocError>
     requires room { IsTextRoom (map bf_entry_seen texts.now.items) range.start }
     requires range { range.start ≤ range.end }
-    ensures { OnOk result (AreTextsAdded (map bf_entry_seen texts.old.items) range.start (range.end + 1)
+    ensures { OnOk result (AreTextsAdded (map bf_entry_seen texts.old.items)
+        range.start (range.end + 1)
         (λ code. text_at units.now (code - range.start)) (map bf_entry_seen texts.new.items)) }
 {
     let Some(last) = units.last() else {

@@ -18,7 +18,8 @@ pub(crate) fn tidied_cids<K: Counting>(
     alloc: Global,
     list: &[CidRange],
 ) -> Result<Vec<CidRange>, AllocError>
-    ensures { IfOk result (λ tidied. AreTidiedOf K.kind (entries_seen list.now) (entries_seen tidied.items)) }
+    ensures { IfOk result (λ tidied. AreTidiedOf K.kind (entries_seen list.now)
+        (entries_seen tidied.items)) }
 {
     let table = Table::build(alloc, copied_cids(alloc, list)?)?;
     match cids_by_runs::<K>(alloc, &table)? {
@@ -60,7 +61,8 @@ fn cids_by_runs<K: Counting>(
 fn first_cid<K: Counting>(declaration: &CidRange, range: &Range) -> Option<Cid>
     requires starts { declaration.now.range.start ≤ range.now.start }
     requires filled { range.now.start ≤ range.now.end }
-    ensures { MatchOption result (K.kind.IsLost (Some (K.kind.at (cid_entry_seen declaration.now) range.now.end)))
+    ensures { MatchOption result
+        (K.kind.IsLost (Some (K.kind.at (cid_entry_seen declaration.now) range.now.end)))
         (λ cid. GivesOf K.kind (cid_entry_seen declaration.now) range.now cid) }
 {
     let cid = declaration

@@ -26,7 +26,8 @@ pub fn push_cids(list: &mut Vec<CidRange>, range: Range, cid: Cid) -> Result<(),
     requires counts { (range.start ≤ range.end) × (cid + (range.end - range.start) < 2 ^ 32) }
     ensures tidy { OnOk result (AreTidyCids (entries_seen list.new.items)) }
     ensures said { OnOk result ((code : ℕ) → cid_said (entries_seen list.new.items) code
-        ≡ said_with range (λ code. Some (cid + (code - range.start))) (cid_said (entries_seen list.old.items)) code) }
+        ≡ said_with range (λ code. Some (cid + (code - range.start)))
+        (cid_said (entries_seen list.old.items)) code) }
     ensures last { OnOk result (All (λ e. e.end ≤ range.end) (entries_seen list.new.items)) }
     ensures err { OnErr result (AreTidyCids (entries_seen list.new.items)) }
     ensures kept { OnErr result (IsSaidInPart range (λ code. Some (cid + (code - range.start)))
@@ -65,15 +66,18 @@ pub(crate) fn push<K: Counting>(
 ) -> Result<(), AllocError>
     requires tidy { AreTidyOf K.kind (entries_seen list.now.items) }
     requires after { All (λ e. e.end < range.start) (entries_seen list.now.items) }
-    requires counts { (range.start ≤ range.end) × (K.kind.moved cid (range.end - range.start) < 2 ^ 32) }
+    requires counts { (range.start ≤ range.end)
+        × (K.kind.moved cid (range.end - range.start) < 2 ^ 32) }
     ensures tidy { OnOk result (AreTidyOf K.kind (entries_seen list.new.items)) }
     ensures said { OnOk result ((code : ℕ) → said_of K.kind (entries_seen list.new.items) code
         ≡ said_with range (λ code. K.kind.told (K.kind.moved cid (code - range.start)))
         (said_of K.kind (entries_seen list.old.items)) code) }
     ensures last { OnOk result (All (λ e. e.end ≤ range.end) (entries_seen list.new.items)) }
     ensures err { OnErr result (AreTidyOf K.kind (entries_seen list.new.items)) }
-    ensures kept { OnErr result (IsSaidInPart range (λ code. K.kind.told (K.kind.moved cid (code - range.start)))
-        (said_of K.kind (entries_seen list.old.items)) (said_of K.kind (entries_seen list.new.items))) }
+    ensures kept { OnErr result (IsSaidInPart range
+        (λ code. K.kind.told (K.kind.moved cid (code - range.start)))
+        (said_of K.kind (entries_seen list.old.items))
+        (said_of K.kind (entries_seen list.new.items))) }
 {
     let end = u64::from(range.end);
     let mut next = u64::from(range.start);
@@ -96,7 +100,8 @@ fn add_row<K: Counting>(list: &mut Vec<CidRange>, row: CidRange) -> Result<(), A
     requires tidy { AreTidyOf K.kind (entries_seen list.now.items) }
     requires after { All (λ e. e.end < row.range.start) (entries_seen list.now.items) }
     requires row { K.kind.IsRow (cid_entry_seen row) }
-    ensures added { OnOk result (AddsRowOf K.kind (entries_seen list.old.items) (cid_entry_seen row) (entries_seen list.new.items)) }
+    ensures added { OnOk result (AddsRowOf K.kind (entries_seen list.old.items) (cid_entry_seen row)
+        (entries_seen list.new.items)) }
     ensures same { OnErr result (list.new.items ≡ list.old.items) }
 {
     if let Some(last) = list.last_mut() {
@@ -113,7 +118,8 @@ fn add_row<K: Counting>(list: &mut Vec<CidRange>, row: CidRange) -> Result<(), A
 fn could_be_one<K: Counting>(entry: &CidRange, later: &CidRange) -> bool
     requires row { K.kind.IsRow (cid_entry_seen entry.now) }
     requires after { entry.now.range.end < later.now.range.start }
-    ensures { IsTrue result ↔ CouldBeOneOf K.kind (cid_entry_seen entry.now) (cid_entry_seen later.now) }
+    ensures { IsTrue result
+        ↔ CouldBeOneOf K.kind (cid_entry_seen entry.now) (cid_entry_seen later.now) }
 {
     let step = K::step(later.range.start - entry.range.start);
     entry.range.end == later.range.start - 1

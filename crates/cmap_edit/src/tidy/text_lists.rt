@@ -18,7 +18,8 @@ use std::alloc::{AllocError, Global};
 /// The tidy list with the same answers; or, where a text has no units or its last unit passes 16 bits, a
 /// copy of the list.
 pub(crate) fn tidied_texts(alloc: Global, list: &[BfRange]) -> Result<Vec<BfRange>, AllocError>
-    ensures { IfOk result (λ tidied. AreTidiedTexts (map bf_entry_seen list.now) (map bf_entry_seen tidied.items)) }
+    ensures { IfOk result (λ tidied. AreTidiedTexts (map bf_entry_seen list.now)
+        (map bf_entry_seen tidied.items)) }
 {
     let table = Table::build(alloc, copied_texts(alloc, list)?)?;
     match texts_by_runs(alloc, &table)? {
@@ -30,9 +31,11 @@ pub(crate) fn tidied_texts(alloc: Global, list: &[BfRange]) -> Result<Vec<BfRang
 /// The tidy list with the same answers, run by run; `None` where a text has no units or its last unit
 /// passes 16 bits.
 fn texts_by_runs(alloc: Global, table: &Table<BfRange>) -> Result<Option<Vec<BfRange>>, AllocError>
-    ensures { IfOk result (λ tidied. MatchOption tidied (SaysNone (units_said (map bf_entry_seen table.now)))
+    ensures { IfOk result (λ tidied. MatchOption tidied
+        (SaysNone (units_said (map bf_entry_seen table.now)))
         (λ list. AreTidyTexts (map bf_entry_seen list.items)
-        × SaysTheSame (units_said (map bf_entry_seen table.now)) (units_said (map bf_entry_seen list.items)))) }
+        × SaysTheSame (units_said (map bf_entry_seen table.now))
+        (units_said (map bf_entry_seen list.items)))) }
 {
     let mut looks = Looks::new();
     let mut list = Vec::new(alloc);
@@ -64,8 +67,10 @@ fn push_units(
     requires tidy { AreTidyTexts (map bf_entry_seen list.now.items) }
     requires after { All (λ e. e.end < range.start) (map bf_entry_seen list.now.items) }
     requires some { 0 < length (units_seen units) }
-    requires counts { (range.start ≤ range.end) × (last_unit (units_seen units) + (range.end - range.start) < 2 ^ 16) }
-    ensures { OnOk result (AddsTexts (map bf_entry_seen list.old.items) range (units_seen units) (map bf_entry_seen list.new.items)) }
+    requires counts { (range.start ≤ range.end)
+        × (last_unit (units_seen units) + (range.end - range.start) < 2 ^ 16) }
+    ensures { OnOk result (AddsTexts (map bf_entry_seen list.old.items) range (units_seen units)
+        (map bf_entry_seen list.new.items)) }
 {
     push_texts(alloc, list, range, units.as_slice())
 }
@@ -79,7 +84,8 @@ fn first_units(
 ) -> Result<Option<Units>, AllocError>
     requires starts { declaration.now.range.start ≤ range.now.start }
     requires filled { range.now.start ≤ range.now.end }
-    ensures { IfOk result (λ units. MatchOption units (units_at (bf_entry_seen declaration.now) range.now.end ≡ None)
+    ensures { IfOk result (λ units. MatchOption units
+        (units_at (bf_entry_seen declaration.now) range.now.end ≡ None)
         (λ first. GivesTexts (bf_entry_seen declaration.now) range.now (units_seen first))) }
 {
     let units = declaration.units.as_slice();

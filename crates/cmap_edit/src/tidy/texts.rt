@@ -30,14 +30,17 @@ pub fn push_texts(
     requires tidy { AreTidyTexts (map bf_entry_seen list.now.items) }
     requires after { All (λ e. e.end < range.start) (map bf_entry_seen list.now.items) }
     requires some { 0 < length units.now }
-    requires counts { (range.start ≤ range.end) × (last_unit units.now + (range.end - range.start) < 2 ^ 16) }
+    requires counts { (range.start ≤ range.end)
+        × (last_unit units.now + (range.end - range.start) < 2 ^ 16) }
     ensures tidy { OnOk result (AreTidyTexts (map bf_entry_seen list.new.items)) }
     ensures said { OnOk result ((code : ℕ) → units_said (map bf_entry_seen list.new.items) code
-        ≡ said_with range (λ code. shifted units.now (code - range.start)) (units_said (map bf_entry_seen list.old.items)) code) }
+        ≡ said_with range (λ code. shifted units.now (code - range.start))
+        (units_said (map bf_entry_seen list.old.items)) code) }
     ensures last { OnOk result (All (λ e. e.end ≤ range.end) (map bf_entry_seen list.new.items)) }
     ensures err { OnErr result (AreTidyTexts (map bf_entry_seen list.new.items)) }
     ensures kept { OnErr result (IsSaidInPart range (λ code. shifted units.now (code - range.start))
-        (units_said (map bf_entry_seen list.old.items)) (units_said (map bf_entry_seen list.new.items))) }
+        (units_said (map bf_entry_seen list.old.items))
+        (units_said (map bf_entry_seen list.new.items))) }
 {
     let end = u64::from(range.end);
     let mut next = u64::from(range.start);
@@ -99,7 +102,8 @@ fn add_row(list: &mut Vec<BfRange>, row: BfRange) -> Result<(), AllocError>
     requires tidy { AreTidyTexts (map bf_entry_seen list.now.items) }
     requires after { All (λ e. e.end < row.range.start) (map bf_entry_seen list.now.items) }
     requires row { IsTextRow (bf_entry_seen row) }
-    ensures added { OnOk result (AddsTextRow (map bf_entry_seen list.old.items) (bf_entry_seen row) (map bf_entry_seen list.new.items)) }
+    ensures added { OnOk result (AddsTextRow (map bf_entry_seen list.old.items) (bf_entry_seen row)
+        (map bf_entry_seen list.new.items)) }
     ensures same { OnErr result (list.new.items ≡ list.old.items) }
 {
     if let Some(last) = list.last_mut() {
