@@ -108,7 +108,9 @@ pub(super) fn find_ahead(
 
 /// The word that the last `held` bits of a number begin with, searched from the state that is known.
 /// `None` means that the bits begin with no word, if at least as many bits are held as the longest
-/// word has, or if no bit comes after them.
+/// word has, or if no bit comes after them. Few words need this search, since frequent symbols have
+/// short words.
+#[cold]
 #[inline(never)]
 fn find_from(
     counts: &Vec<u32>,
