@@ -75,6 +75,7 @@ impl Layers {
     /// The result is `None` if no declaration contains the code, and if the deciding declaration gives
     /// no text: a layer's declaration decides even then. It fails only if memory runs out, and only for
     /// a text of more than one character. ISO 32000-1, 9.10.3.
+    #[inline(always)]
     pub fn text(
         &self,
         alloc: Global,
@@ -134,10 +135,24 @@ fn text_of(alloc: Global, found: &BfRange, offset: u32) -> Result<Option<BfStrin
             return Ok(Some(BfString::Char(character)));
         }
     }
-    text(alloc, found.units.as_slice(), offset)
+    longer_text(alloc, &found.units, offset)
+}
+
+/// The text of the code at this offset from the start of a declaration with these units, by a call,
+/// so that a text of one unit needs neither a jump by their number nor memory for a result.
+#[cold]
+#[inline(never)]
+fn longer_text(alloc: Global, units: &Units, offset: u32) -> Result<Option<BfString>, AllocError>
+    ensures value { IfOk result (λ text. option_map text_seen text
+        ≡ option_map text_of_characters (text_at (units_seen units.now) offset)) }
+    ensures err { OnErr result (IsSomeAnd (text_at (units_seen units.now) offset)
+        (λ characters. 1 < length characters)) }
+{
+    text(alloc, units.as_slice(), offset)
 }
 
 /// The declaration that decides the text of a code.
+#[inline(always)]
 fn find_bf<'l>(layers: &'l [Layer], code: u32, looks: &mut Looks) -> Option<&'l BfRange>
     ensures found { option_map bf_entry_seen (option_copied result)
         ≡ deciding_bf (layers_seen layers.now) code }
@@ -153,6 +168,8 @@ fn find_bf<'l>(layers: &'l [Layer], code: u32, looks: &mut Looks) -> Option<&'l 
 }
 
 /// The answer of `find_bf`, by asking each layer in turn.
+#[cold]
+#[inline(never)]
 fn find_bf_in_turn<'l>(layers: &'l [Layer], code: u32, looks: &mut Looks) -> Option<&'l BfRange>
     ensures found { option_map bf_entry_seen (option_copied result)
         ≡ deciding_bf (layers_seen layers.now) code }

@@ -294,6 +294,7 @@ impl CMap {
     }
 
     /// The Unicode text of `code`, as `Layers::text` gives it.
+    #[inline(always)]
     pub fn lookup_bf_string(&self, alloc: Global, code: u32) -> Result<Option<BfString>, AllocError>
         ensures { GivesText self.now code result }
     {
