@@ -192,11 +192,11 @@ impl CMap {
     /// If `parse_from` refuses the file, the first fault is the cause of the refusal, or in a text
     /// in rows a fault before the cause.
     ///
-    /// A file is read past its faults. The faults are listed once, however often the file is used.
-    /// A use without a file is a fault too, and so is a use that makes the chain too long; such a
-    /// use gives no layers. After a chain that is too long, no further file is opened, and the uses
-    /// that follow are passed over. A file that would exceed the budget isn't read, and gives an
-    /// empty layer.
+    /// A file is read past its faults, once, and its faults are listed once, however often it is
+    /// used. A use without a file is a fault too, and so is a use that makes the chain too long;
+    /// such a use gives no layers. After a chain that is too long, no further file is opened, and
+    /// the uses that follow are passed over. A file that would exceed the budget isn't read, and
+    /// gives an empty layer.
     ///
     /// It fails only if memory runs out.
     pub fn salvage<'a, S: Source>(
