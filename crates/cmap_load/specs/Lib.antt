@@ -18,6 +18,7 @@ pub mod Graphs
 pub mod Tables
 pub mod Loads
 pub mod Kept
+pub mod Asks
 pub mod SalvageSeen
 pub mod SalvageLoads
 pub mod Results

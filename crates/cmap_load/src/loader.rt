@@ -304,6 +304,34 @@ impl<'d, N: Names<'d>> Loader<N> {
         Ok(next)
     }
 
+    /// Adds the file of a name, or a file without a name, and goes on no further.
+    pub(crate) fn push(
+        &mut self,
+        name: Option<usize>,
+        length: u64,
+        file: File<'d>,
+    ) -> Result<(), AllocError>
+        requires set { IsSet N.texts N.are_numbered self.old }
+        requires new { IsNew self.old.table.graph name }
+        ensures set { IsSet N.texts N.are_numbered self.new }
+        ensures grown { OnErr result (HasGrown N.texts self.old self.new) }
+        ensures begun { OnOk result ((self.old.table.graph.nodes.items ≡ []) ⊎ IsBegun self.old.table.graph
+            → IsBegun self.new.table.graph) }
+        ensures added { OnOk result (IsAdded (N.texts self.old.list) (N.texts self.new.list)
+            self.old.table self.new.table name length file.entry) }
+    {
+        let File {
+            metadata,
+            lists,
+            uses,
+        } = file;
+        let uses = self.numbers(&uses)?;
+        let node = Node { length, uses };
+        let contents = Contents { metadata, lists };
+        self.table.push(name, node, contents)?;
+        Ok(())
+    }
+
     /// The numbers of the names of uses. New names get numbers.
     fn numbers(&mut self, uses: &[&'d [u8]]) -> Result<Vec<usize>, AllocError>
         requires { IsSet N.texts N.are_numbered self.old }

@@ -6,6 +6,7 @@ ghost use Rattle.cmap_load.specs.Answers.{IsByName};
 ghost use Rattle.cmap_load.specs.Results.{SalvagesLayers};
 ghost use Rattle.cmap_load.specs.SalvageLoads.{IsSalvaging, Salvages, is_settled};
 
+mod asker;
 mod kept;
 mod loader;
 mod path;

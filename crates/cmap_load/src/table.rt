@@ -42,7 +42,7 @@ impl Table {
     }
 
     /// Adds the file of a name that has no file, or the top file, which has no name.
-    fn push(
+    pub(crate) fn push(
         &mut self,
         name: Option<usize>,
         node: Node,

@@ -19,6 +19,23 @@ impl<T: Copy + Default, const CAP: usize> ArrayVec<T, CAP> {
         self.len += 1;
     }
 
+    /// Takes the last item away; `None` if there is none.
+    pub fn pop(&mut self) -> Option<T> {
+        self.len = self.len.checked_sub(1)?;
+        Some(self.items[self.len])
+    }
+
+    /// Takes all items away.
+    pub fn clear(&mut self) {
+        self.len = 0;
+    }
+
+    /// The number of items.
+    #[allow(clippy::len_without_is_empty)]
+    pub fn len(&self) -> usize {
+        self.len
+    }
+
     /// The items.
     pub fn as_slice(&self) -> &[T] {
         &self.items[..self.len]

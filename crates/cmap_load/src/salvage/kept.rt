@@ -123,13 +123,15 @@ impl<'d> KeptFiles<'d> {
         }
     }
 
-    /// Takes the answer to a name, where this is left of the budget, and goes on.
+    /// Takes the answer to a name, where this is left of the budget, and goes on. The graph is asked
+    /// what comes next until it knows no further name.
     pub(crate) fn supply(
         &mut self,
         name: usize,
         left: Option<u64>,
         bytes: Option<&'d [u8]>,
         bundle: Option<&Bundle<'_>>,
+        asks: bool,
     ) -> Result<Progress<'d>, AllocError>
         requires kept { AreKept self.old }
         requires new { IsNew self.old.load.table.graph (Some name) }
@@ -143,20 +145,21 @@ impl<'d> KeptFiles<'d> {
             (option_copied bytes.entry)) }
     {
         let Some(bytes) = bytes else {
-            return self.add_nothing(name);
+            return self.add_nothing(name, asks);
         };
         if exceeds(left, bytes.len() as u64) {
             return self.add_too_long(name, bytes);
         }
-        self.read(Some(name), bytes, bundle)
+        self.read(Some(name), bytes, bundle, asks)
     }
 
-    /// Reads the file of a name, or the top file, which has no name, and goes on.
+    /// Reads the file of a name, or the top file, which has no name and is asked for first, and goes on.
     pub(crate) fn read(
         &mut self,
         name: Option<usize>,
         bytes: &'d [u8],
         bundle: Option<&Bundle<'_>>,
+        asks: bool,
     ) -> Result<Progress<'d>, AllocError>
         requires kept { AreKept self.old }
         requires new { IsNew self.old.load.table.graph name }
@@ -170,12 +173,12 @@ impl<'d> KeptFiles<'d> {
     {
         let length = bytes.len() as u64;
         let Salvaged { file, faults } = read_past(self.load.alloc, bytes, bundle)?;
-        let next = self.add(name, length, file, Some(faults))?;
+        let next = self.add(name, length, file, Some(faults), asks)?;
         Ok(self.progress(next))
     }
 
     /// Notes that no file has a name, and goes on.
-    fn add_nothing(&mut self, name: usize) -> Result<Progress<'d>, AllocError>
+    fn add_nothing(&mut self, name: usize, asks: bool) -> Result<Progress<'d>, AllocError>
         requires kept { AreKept self.old }
         requires new { IsNew self.old.load.table.graph (Some name) }
         requires begun { IsBegun self.old.load.table.graph }
@@ -187,7 +190,7 @@ impl<'d> KeptFiles<'d> {
         ensures adds { OnOk result ((tables : Option PrefixTables)
             → AddsAnswer tables self.old self.new name None) }
     {
-        let next = self.add(Some(name), 0, File::new(self.load.alloc), None)?;
+        let next = self.add(Some(name), 0, File::new(self.load.alloc), None, asks)?;
         Ok(self.progress(next))
     }
 
@@ -204,21 +207,23 @@ impl<'d> KeptFiles<'d> {
         ensures adds { OnOk result ((tables : Option PrefixTables)
             → AddsAnswer tables self.old self.new name (Some bytes.now)) }
     {
-        self.add(None, 0, File::new(self.load.alloc), None)?;
+        self.add(None, 0, File::new(self.load.alloc), None, false)?;
         match self.too_long.insert(name, bytes.len() as u64) {
             Ok(_) => Ok(Progress::Open),
             Err(_) => Err(AllocError),
         }
     }
 
-    /// Adds the file of a name, or a file without a name.
+    /// Adds the file of a name, or a file without a name. If the graph is asked, it tells what comes
+    /// next.
     fn add(
         &mut self,
         name: Option<usize>,
         length: u64,
         file: File<'d>,
         stops: Option<Vec<Stop>>,
-    ) -> Result<Next, AllocError>
+        asks: bool,
+    ) -> Result<Option<Next>, AllocError>
         requires kept { AreKept self.old }
         requires new { IsNew self.old.load.table.graph name }
         requires begun { (self.old.load.table.graph.nodes.items ≡ []) ⊎ IsBegun self.old.load.table.graph }
@@ -226,24 +231,29 @@ impl<'d> KeptFiles<'d> {
         ensures stays { OnErr result (Stays self.old self.new) }
         ensures begun { OnOk result (IsBegun self.new.load.table.graph) }
         ensures added { OnOk result (IsKeptMore self.old self.new name length file.entry stops) }
-        ensures next { IfOk result (IsNext self.new.load.table.graph) }
+        ensures next { IfOk result (λ next. IfSome next (IsNext self.new.load.table.graph)) }
     {
         self.stops.reserve(1)?;
+        if !asks {
+            self.load.push(name, length, file)?;
+            self.stops.push_reserved(stops);
+            return Ok(None);
+        }
         let next = self.load.add(name, length, file)?;
         self.stops.push_reserved(stops);
-        Ok(next)
+        Ok(Some(next))
     }
 
     /// What comes next. A file that exceeded the budget where it was first used isn't wanted again.
-    fn progress(&self, next: Next) -> Progress<'d>
+    fn progress(&self, next: Option<Next>) -> Progress<'d>
         requires begun { IsBegun self.now.load.table.graph }
         requires top { IsReadAt self.now 0 }
-        requires next { IsNext self.now.load.table.graph next }
+        requires next { IfSome next (IsNext self.now.load.table.graph) }
         ensures follows { Follows self.now result }
         ensures open { is_found result ≡ false }
     {
         match next {
-            Next::Wanted(wanted) => {
+            Some(Next::Wanted(wanted)) => {
                 let Wanted {
                     names: _,
                     name,

@@ -7,10 +7,13 @@ ghost use Rattle.cmap_binary.specs.Bundles.{PrefixTables};
 ghost use Rattle.cmap_load.specs.Loading.{Answer};
 ghost use Rattle.cmap_load.specs.SalvageSeen.{faults_seen};
 ghost use Rattle.cmap_load.specs.declared.refusal.Cause.TheVariants.{OverBudget};
-ghost use Rattle.cmap_load.specs.SalvageLoads.{IsSalvaging, IsSalvagedBy, ReadsPast, budget_in, files_read, is_settled, wanted_name};
+ghost use Rattle.cmap_load.specs.Graphs.{IsBegun};
+ghost use Rattle.cmap_load.specs.Kept.{AreKept, IsReadAt};
+ghost use Rattle.cmap_load.specs.SalvageLoads.{Follows, IsSalvaging, IsSalvagedBy, ReadsPast, Walks, budget_in, files_read, is_settled, wanted_name};
 
 use crate::refusal::{Cause, Refusal};
 use crate::salvage::SalvagedLayers;
+use crate::salvage::asker::Asker;
 use crate::salvage::kept::{FoundFiles, KeptFiles, Progress, exceeds};
 use crate::salvage::walk::Unread;
 use cmap_binary::Bundle;
@@ -28,6 +31,10 @@ use std::alloc::{AllocError, Global};
 #[derive(Drop)]
 pub(crate) struct SalvageLoader<'d> {
     pub(crate) files: KeptFiles<'d>,
+    /// The graph of the files tells which file is wanted. It knows no further name after a file that
+    /// exceeded the budget; then `asker` tells.
+    pub(crate) asks: bool,
+    pub(crate) asker: Asker,
     pub(crate) progress: Progress<'d>,
 }
 
@@ -48,12 +55,23 @@ impl<'d> SalvageLoader<'d> {
             (record { name = None; bytes = Some «data».now } ∷ [])) }
     {
         let mut files = KeptFiles::new(alloc, budget);
+        let asker = Asker::new(budget, data.len() as u64);
         if exceeds(budget, data.len() as u64) {
             let progress = Progress::Found(found_too_long(alloc)?);
-            return Ok(SalvageLoader { files, progress });
+            return Ok(SalvageLoader {
+                files,
+                asks: false,
+                asker,
+                progress,
+            });
         }
-        let progress = files.read(None, data, bundle)?;
-        Ok(SalvageLoader { files, progress })
+        let progress = files.read(None, data, bundle, true)?;
+        Ok(SalvageLoader {
+            files,
+            asks: true,
+            asker,
+            progress,
+        })
     }
 
     /// The name of the wanted file; `None` if no further file is wanted.
@@ -68,7 +86,8 @@ impl<'d> SalvageLoader<'d> {
             → ReadsPast tables answers self.old → ReadsPast tables answers self.new }
     {
         if let Progress::Open = &self.progress {
-            let found = self.files.walk()?;
+            let found = further(&mut self.asker, &self.files)?;
+            self.asks = false;
             self.progress = found;
             return Ok(self.name());
         }
@@ -110,7 +129,7 @@ impl<'d> SalvageLoader<'d> {
             unreachable!();
         };
         let Unread { name, left } = *unread;
-        let progress = self.files.supply(name, left, bytes, bundle)?;
+        let progress = self.files.supply(name, left, bytes, bundle, self.asks)?;
         self.progress = progress;
         Ok(())
     }
@@ -121,7 +140,11 @@ impl<'d> SalvageLoader<'d> {
         requires settled { is_settled self ≡ true }
         ensures { IfOk result (IsSalvagedBy self.entry) }
     {
-        let SalvageLoader { files, progress } = self;
+        let SalvageLoader {
+            files,
+            progress,
+            ..
+        } = self;
         let Progress::Found(found) = progress else {
             unreachable!();
         };
@@ -132,6 +155,20 @@ impl<'d> SalvageLoader<'d> {
             faults,
         })
     }
+}
+
+/// The next name whose file is wanted, or, without one, what a walk finds.
+fn further<'d>(asker: &mut Asker, files: &KeptFiles<'d>) -> Result<Progress<'d>, AllocError>
+    requires kept { AreKept files.now }
+    requires begun { IsBegun files.now.load.table.graph }
+    requires top { IsReadAt files.now 0 }
+    ensures follows { IfOk result (Follows files.now) }
+    ensures walks { IfOk result (Walks files.now) }
+{
+    let Some(unread) = asker.next(files) else {
+        return files.walk();
+    };
+    Ok(Progress::Wanted(unread))
 }
 
 /// What is found of a top file that exceeds the budget: an empty layer, and this fault.

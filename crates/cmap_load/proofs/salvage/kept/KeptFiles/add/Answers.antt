@@ -13,3 +13,8 @@ pub returns-in_err-next-clause-stays : goal.returns-in_err-next-clause-stays
 returns-in_err-next-clause-stays c =
     let old = c.args.self.now in
     on_err c.from_residual-in_err-next.result (Stays-grown old (record old { load = c.add.new.self; stops = c.reserve.new.self }) c.requires.kept c.in_err-next.ensures.grown c.reserve.ensures.items (λ number. refl))
+
+pub returns-in_err-push-clause-stays : goal.returns-in_err-push-clause-stays
+returns-in_err-push-clause-stays c =
+    let old = c.args.self.now in
+    on_err c.from_residual-in_err-push.result (Stays-grown old (record old { load = c.push.new.self; stops = c.reserve.new.self }) c.requires.kept c.in_err-push.ensures.grown c.reserve.ensures.items (λ number. refl))

@@ -21,7 +21,7 @@ returns-in_err-progress-clause-same c = on_err c.from_residual.result (λ tables
 pub returns-clause-reads : goal.returns-clause-reads
 returns-clause-reads c =
     let tables = tables_given c.args.bundle in let given = option_copied c.args.bytes in let old = c.args.self.now in
-    let new : SalvageLoader = record { files = c.supply.new.self; progress = c.in_ok-progress.progress } in
+    let new : SalvageLoader = record old { files = c.supply.new.self; progress = c.in_ok-progress.progress } in
     subst (λ now. IfSome (wanted_by (texts_in old.files) now) (λ name. (answers : List Answer) → ReadsPast tables answers old → ReadsPast tables (answers ++ record { name = Some name; bytes = given } ∷ []) new)) (sym c.in-Wanted.is)
     (λ answers reads. record {
       top = reads.top;
