@@ -36,7 +36,7 @@ use std::collections::BTreeMap;
 pub(crate) enum Known {
     /// The file was read; this is its index.
     Read(usize),
-    /// The file has so many bytes that it exceeds the budget.
+    /// The file exceeds the budget; this is its length in bytes.
     TooLong(u64),
     /// No file has the name.
     Nothing,
