@@ -1,11 +1,10 @@
 //! Rows of bits for 64 codespace ranges: the ranges with codes of each length, and the ranges with each
 //! value at each place of their codes.
 
-ghost use Rattle.std.specs.Prelude.{◌≡◌, ◌↔◌, ℕ, ◌+◌, ◌*◌, ◌<◌, ◌≤◌, ◌⊎◌, get_or, length, replicate, IfOk};
-ghost use Rattle.std.specs.Int.{bit_at};
+ghost use Rattle.std.specs.Prelude.{◌≡◌, ◌↔◌, ℕ, ◌+◌, ◌*◌, ◌<◌, ◌≤◌, ◌⊎◌, length, replicate, IfOk};
 ghost use Rattle.cmap_values.specs.DeclarationsSeen.{codespace_seen};
 ghost use Rattle.cmap_codespaces.specs.CodesWithin.{byte_at};
-ghost use Rattle.cmap_codespaces.specs.SpaceBits.{HaveBits, InRow, row_count, row_of_length, row_of_value};
+ghost use Rattle.cmap_codespaces.specs.SpaceBits.{HaveBits, InRow, IsSet, row_count, row_of_length, row_of_value};
 
 use cmap_values::declarations::Codespace;
 use std::alloc::{AllocError, Global};
@@ -70,8 +69,8 @@ pub(crate) fn rows_of(
 fn add(rows: &mut [u64], space: &Codespace, bit: u32)
     requires size { length rows.old ≡ row_count }
     requires bit { bit < 64 }
-    ensures { (row i : ℕ) → row < row_count → (bit_at (get_or rows.new row 0) i ≡ 1)
-        ↔ ((bit_at (get_or rows.old row 0) i ≡ 1) ⊎ ((i ≡ bit) × InRow row (codespace_seen space.now))) }
+    ensures { (row i : ℕ) → row < row_count → IsSet rows.new i row
+        ↔ (IsSet rows.old i row ⊎ ((i ≡ bit) × InRow row (codespace_seen space.now))) }
 {
     let len = space.len.count();
     let of_length = row_of_length(len);
@@ -88,8 +87,8 @@ fn add(rows: &mut [u64], space: &Codespace, bit: u32)
 fn set_rows(rows: &mut [u64], low: usize, high: usize, bit: u32)
     requires within { high < length rows.old }
     requires bit { bit < 64 }
-    ensures { (row i : ℕ) → row < length rows.old → (bit_at (get_or rows.new row 0) i ≡ 1)
-        ↔ ((bit_at (get_or rows.old row 0) i ≡ 1) ⊎ ((i ≡ bit) × (low ≤ row) × (row ≤ high))) }
+    ensures { (row i : ℕ) → row < length rows.old → IsSet rows.new i row
+        ↔ (IsSet rows.old i row ⊎ ((i ≡ bit) × (low ≤ row) × (row ≤ high))) }
 {
     for row in low..high + 1 {
         rows[row] |= 1 << bit;

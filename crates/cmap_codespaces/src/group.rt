@@ -1,8 +1,7 @@
 //! Rows of bits for 64 blocks: in each row, the blocks that have a range in that row.
 
 ghost use Rattle.std.specs.Prelude.{◌≡◌, ◌≢◌, ◌↔◌, ℕ, ◌<◌, ◌≤◌, ◌⊎◌, get_or, length, IfOk};
-ghost use Rattle.std.specs.Int.{bit_at};
-ghost use Rattle.cmap_codespaces.specs.SpaceBits.{AreGroups, HasGroup, HaveRows, row_count};
+ghost use Rattle.cmap_codespaces.specs.SpaceBits.{AreGroups, HasGroup, HaveRows, IsSet, row_count};
 
 use crate::block::{BLOCK_LEN, ROW_COUNT, no_rows};
 use std::alloc::{AllocError, Global};
@@ -39,8 +38,8 @@ fn mark_rows(rows: &mut [u64], block: &[u64], bit: u32)
     requires rows { length rows.old ≡ row_count }
     requires block { length block.now ≡ row_count }
     requires bit { bit < 64 }
-    ensures { (row i : ℕ) → row < row_count → (bit_at (get_or rows.new row 0) i ≡ 1)
-        ↔ ((bit_at (get_or rows.old row 0) i ≡ 1) ⊎ ((i ≡ bit) × (get_or block.now row 0 ≢ 0))) }
+    ensures { (row i : ℕ) → row < row_count → IsSet rows.new i row
+        ↔ (IsSet rows.old i row ⊎ ((i ≡ bit) × (get_or block.now row 0 ≢ 0))) }
 {
     for row in 0..ROW_COUNT {
         if block[row] != 0 {

@@ -1,10 +1,9 @@
 //! The lengths of the codes that begin with a byte, or with two bytes.
 
 ghost use Rattle.std.specs.Prelude.{◌≡◌, ◌↔◌, ℕ, ◌+◌, ◌-◌, ◌*◌, ◌/◌, ◌%◌, ◌<◌, ◌≤◌, ◌⊎◌, get_or, length, replicate, IfOk};
-ghost use Rattle.std.specs.Int.{bit_at};
 ghost use Rattle.cmap_values.specs.CodeLengths.{length_of};
 ghost use Rattle.cmap_values.specs.DeclarationsSeen.{codespace_seen};
-ghost use Rattle.cmap_codespaces.specs.SpaceBits.{BeginsInRow, HaveLengths, MayBeAt, front_row_count, row_of_front};
+ghost use Rattle.cmap_codespaces.specs.SpaceBits.{BeginsInRow, HaveLengths, IsSet, MayBeAt, front_row_count, row_of_front};
 
 use crate::block::byte_at;
 use cmap_values::declarations::Codespace;
@@ -100,8 +99,8 @@ fn no_lengths(alloc: Global) -> Result<Vec<u8>, AllocError>
 /// Sets the bit of a range's length in each row with whose bytes a code of the range may begin.
 fn add_length(rows: &mut [u8], space: &Codespace)
     requires { length rows.old ≡ front_row_count }
-    ensures { (row i : ℕ) → row < front_row_count → (bit_at (get_or rows.new row 0) i ≡ 1)
-        ↔ ((bit_at (get_or rows.old row 0) i ≡ 1)
+    ensures { (row i : ℕ) → row < front_row_count → IsSet rows.new i row
+        ↔ (IsSet rows.old i row
         ⊎ ((i ≡ length_of space.now.len) × BeginsInRow row (codespace_seen space.now))) }
 {
     let len = space.len.count();
@@ -154,8 +153,8 @@ fn values_at(space: &Codespace, place: u8) -> Values
 fn set_lengths(rows: &mut [u8], low: usize, high: usize, len: u8)
     requires within { high < length rows.old }
     requires len { len < 8 }
-    ensures { (row i : ℕ) → row < length rows.old → (bit_at (get_or rows.new row 0) i ≡ 1)
-        ↔ ((bit_at (get_or rows.old row 0) i ≡ 1) ⊎ ((i ≡ len) × (low ≤ row) × (row ≤ high))) }
+    ensures { (row i : ℕ) → row < length rows.old → IsSet rows.new i row
+        ↔ (IsSet rows.old i row ⊎ ((i ≡ len) × (low ≤ row) × (row ≤ high))) }
 {
     for row in low..high + 1 {
         rows[row] |= 1 << len;

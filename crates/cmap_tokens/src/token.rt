@@ -212,7 +212,7 @@ impl<'a> Model for Scanner<'a> {
 
 impl<'a> Scanner<'a> {
     ghost use Rattle.cmap_tokens.specs.Ascii.{byte};
-    ghost use Rattle.std.specs.Prelude.{◌≡◌, ◌==◌, get_or, ℕ, ◌↔◌, ◌+◌, ◌*◌, ◌%◌, ◌<◌, ◌≤◌, ◌^◌, List, [], false, true, length, None, Some, Ok, pos, IfOk, IfSome, IsErr, MatchOption, MatchResult, OnErr};
+    ghost use Rattle.std.specs.Prelude.{◌≡◌, ℕ, ◌↔◌, ◌+◌, ◌*◌, ◌%◌, ◌<◌, ◌≤◌, ◌^◌, List, [], false, true, length, None, Some, Ok, pos, slice_get, IfOk, IfSome, IsErr, IsTrue, MatchOption, MatchResult, OnErr};
     ghost use Rattle.cmap_tokens.specs.Gaps.{IsBlank};
     ghost use Rattle.cmap_tokens.specs.Tokens.{HasNoFront, IsMalformed};
     ghost use Rattle.cmap_tokens.specs.Stops.{StopsAt};
@@ -277,7 +277,7 @@ impl<'a> Scanner<'a> {
     /// reads. Most files have such strings.
     #[inline(always)]
     pub fn may_have_two_bytes(&self) -> bool
-        ensures { result ≡ (get_or (rest_of self.now) 6 0 == byte ">") }
+        ensures { IsTrue result ↔ (slice_get (rest_of self.now) 6 ≡ Some (byte ">")) }
     {
         matches!(&self.source[self.offset..], [_, _, _, _, _, _, b'>', ..])
     }
