@@ -1,7 +1,7 @@
 //! The layers of a map, the top one first.
 
 ghost use Rattle.std.specs.Prelude.{◌≡◌, ◌<◌, ◌≤◌, IfOk, Some, length};
-ghost use Rattle.cmap_layers.specs.Layers.{top_metadata};
+ghost use Rattle.cmap_layers.specs.Layers.{most_layers, top_metadata};
 ghost use Rattle.cmap_layers.specs.LayersSeen.{layers_seen, metadata_seen};
 
 use crate::layer::Layer;
@@ -29,7 +29,7 @@ impl Drop for Layers {
 // Contracts see the list of layers.
 impl Model for Layers {
     ghost use Rattle.std.specs.Prelude.{List, ◌<◌, ◌≤◌, length};
-    ghost use Rattle.cmap_layers.specs.Layers.{Layer};
+    ghost use Rattle.cmap_layers.specs.Layers.{Layer, most_layers};
 
     ghost Value = { List Layer };
 
@@ -37,13 +37,14 @@ impl Model for Layers {
 
     ghost view = { λ layers. layers_seen layers.list.items };
 
-    ghost invariant = { λ layers. (0 < length layers.list.items) × (length layers.list.items ≤ 16) };
+    ghost invariant = { λ layers. (0 < length layers.list.items)
+        × (length layers.list.items ≤ most_layers) };
 }
 
 impl Layers {
     /// These layers, the top one first: at least one, and at most 16.
     pub fn of(list: Vec<Layer>) -> Layers
-        requires { (0 < length list.items) × (length list.items ≤ 16) }
+        requires { (0 < length list.items) × (length list.items ≤ most_layers) }
         ensures { result ≡ layers_seen list.items }
     {
         Layers { list }
@@ -53,7 +54,7 @@ impl Layers {
     #[inline(always)]
     pub fn as_slice(&self) -> &[Layer]
         ensures layers { layers_seen result.now ≡ self.now }
-        ensures few { (0 < length result.now) × (length result.now ≤ 16) }
+        ensures few { (0 < length result.now) × (length result.now ≤ most_layers) }
     {
         self.list.as_slice()
     }
@@ -61,7 +62,7 @@ impl Layers {
     /// The metadata that the file of the top layer states about itself.
     pub fn metadata(&self) -> &Metadata
         ensures top { top_metadata self.now ≡ Some (metadata_seen result.now) }
-        ensures few { length self.now ≤ 16 }
+        ensures few { length self.now ≤ most_layers }
     {
         self.as_slice()[0].metadata()
     }
