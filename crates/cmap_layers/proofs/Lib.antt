@@ -4,6 +4,7 @@ pub mod CodeRanges
 pub mod CodesInside
 pub mod CodesOfCids
 pub mod CodesOfTexts
+pub mod FirstDecided
 pub mod LastFound
 pub mod LayerStretches
 pub mod LayersSearched

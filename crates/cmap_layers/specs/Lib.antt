@@ -11,3 +11,4 @@ pub mod Rows
 pub mod RowsWritten
 pub mod CodeRanges
 pub mod CodeStretches
+pub mod FirstDecided

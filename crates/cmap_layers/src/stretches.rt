@@ -1,7 +1,7 @@
 //! The CIDs and the texts of codes in a row over all layers, by stretches of codes for which the same
 //! declarations decide. The codes of a CID are found by these stretches.
 
-ghost use Rattle.std.specs.Prelude.{◌≡◌, ◌⊎◌, ◌+◌, ◌-◌, ◌^◌, ◌<◌, ◌≤◌, ℕ, IfOk, IfSome, IsSomeAnd, Option, Some, map, option_map};
+ghost use Rattle.std.specs.Prelude.{◌≡◌, ◌⊎◌, ◌+◌, ◌-◌, ◌^◌, ◌<◌, ◌≤◌, ℕ, IfOk, IfSome, IsSomeAnd, Option, Some, map, option_map, unwrap_or};
 ghost use Rattle.std.specs.Option.{option_copied};
 ghost use Rattle.cmap_runs.specs.Stretches.{IsLongest, IsStretch};
 ghost use Rattle.cmap_tokens.specs.Texts.{only_character, text_at};
@@ -10,11 +10,12 @@ ghost use Rattle.cmap_values.specs.Files.{CidEntry, of_length};
 ghost use Rattle.cmap_values.specs.DeclarationsSeen.{bf_entry_seen, cid_entry_seen};
 ghost use Rattle.cmap_layers.specs.CodeStretches.{AreCodesAmong, AreCodesOfCid, AreDeclaredBy, Decides, DeclarationsEnd, EndsCids, EndsRow, Fits, IsCidStretch, IsLayerLongest, IsRowEnd, IsTextStretch, counted_on};
 ghost use Rattle.cmap_values.specs.UnitsSeen.{units_seen};
+ghost use Rattle.cmap_layers.specs.FirstDecided.{AreDecided, Decision, EndsInLayer, EndsInLayers, cid_decision, first_of};
 ghost use Rattle.cmap_layers.specs.LayersDecide.{layer_cid};
-ghost use Rattle.cmap_layers.specs.LayersSeen.{layer_seen};
+ghost use Rattle.cmap_layers.specs.LayersSeen.{layer_seen, layers_seen};
 ghost use Rattle.cmap_layers.specs.Lookups.{bf_at, bf_span, last_cid};
 ghost use Rattle.cmap_layers.specs.RowsWritten.{character_said};
-ghost use Rattle.cmap_layers.specs.declared.stretches.Cids.TheVariants.{Same};
+ghost use Rattle.cmap_layers.specs.declared.stretches.Cids.TheVariants.{Absent, Same};
 
 use crate::code_ranges::add_range;
 use crate::layer::Layer;
@@ -57,13 +58,73 @@ pub struct TextStretch<'l> {
     pub last: u32,
 }
 
-/// Codes in a row, and the decision of a layer by itself for each of them, if there is one.
+/// Codes in a row, and the decision of a layer by itself, or of layers, for each of them, if there is one.
 #[derive(Clone, Copy, Debug)]
 pub struct LayerStretch {
     /// The CIDs of the codes, if the layer decides.
     pub cids: Option<Cids>,
     /// The last of the codes.
     pub last: u32,
+}
+
+impl LayerStretch {
+    /// The codes with their CIDs. Without a decision, no code has a CID.
+    pub fn decided(self) -> CidStretch
+        ensures { result ≡ record { cids = unwrap_or self.cids Absent; last = self.last } }
+    {
+        CidStretch {
+            cids: self.cids.unwrap_or(Cids::Absent),
+            last: self.last,
+        }
+    }
+}
+
+/// How a layer by itself decides for codes in a row.
+pub trait Deciding {
+    /// The decision for a code.
+    ghost Answer: { Type 0 };
+
+    ghost decision: { Decision Answer };
+
+    /// The decision of a layer for codes from `first` on.
+    fn stretch(layer: &Layer, first: u32, len: CodeLength) -> LayerStretch
+        ensures decided { AreDecided decision
+            (λ code. decision.decided (layer_seen layer.now) code (length_of len)) first result }
+        ensures longest { EndsInLayer decision
+            (layer_seen layer.now) (length_of len) first result };
+}
+
+/// The decisions of `Layers::cid`.
+pub(crate) struct Answers;
+
+impl Deciding for Answers {
+    ghost Answer = { Option ℕ };
+
+    ghost decision = { cid_decision };
+
+    fn stretch(layer: &Layer, first: u32, len: CodeLength) -> LayerStretch {
+        stretch_in(layer, first, len)
+    }
+}
+
+/// The decision for codes from `first` on of the first layer that decides. The stretch ends before a code for
+/// which another declaration decides, in a layer that is searched for `first`, or with the last CID.
+pub fn first_stretch<D: Deciding>(layers: &[Layer], first: u32, len: CodeLength) -> LayerStretch
+    ensures decided { AreDecided D.decision (λ code. first_of
+        (λ layer. D.decision.decided layer code (length_of len)) (layers_seen layers.now))
+        first result }
+    ensures longest { EndsInLayers D.decision
+        (layers_seen layers.now) (length_of len) first result }
+{
+    let mut last = u32::MAX;
+    for layer in layers {
+        let stretch = D::stretch(layer, first, len);
+        last = last.min(stretch.last);
+        if stretch.cids.is_some() {
+            return LayerStretch { last, ..stretch };
+        }
+    }
+    LayerStretch { cids: None, last }
 }
 
 impl Layers {
@@ -75,19 +136,7 @@ impl Layers {
         ensures within { first ≤ result.last }
         ensures cids { IsCidStretch self.now (length_of len) first result }
     {
-        let layers = self.as_slice();
-        let mut last = u32::MAX;
-        for layer in layers {
-            let stretch = stretch_in(layer, first, len);
-            last = last.min(stretch.last);
-            if let Some(cids) = stretch.cids {
-                return CidStretch { cids, last };
-            }
-        }
-        CidStretch {
-            cids: Cids::Absent,
-            last,
-        }
+        first_stretch::<Answers>(self.as_slice(), first, len).decided()
     }
 
     /// The declaration, if there is one, that decides the texts of the codes from `first` on, as `text`

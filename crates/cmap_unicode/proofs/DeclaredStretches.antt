@@ -1,23 +1,26 @@
 -- The CIDs that layers declare for codes in a row.
-use Rattle.std.proofs.Common.{◌≡◌, ℕ, ◌+◌, ◌<◌, ◌≤◌, ◌^◌, List, [], ◌∷◌, Option, Some, None, map, refl, ap, ◌∙◌, ◌-◌, arith}
-use Rattle.std.specs.Prelude.{◌⊎◌, option_map, unwrap_or}
+use Rattle.std.proofs.Common.{◌≡◌, ℕ, ◌+◌, ◌<◌, ◌≤◌, ◌^◌, List, [], ◌∷◌, Option, Some, None, map, refl, ap, ◌∙◌, ◌-◌}
+use Rattle.std.specs.Prelude.{◌⊎◌, IfSome, option_map, unwrap_or}
 use Rattle.std.specs.Option.{option_or}
 use Rattle.cmap_values.specs.CodeLengths.{length_of}
 use Rattle.cmap_values.specs.Files.{CidEntry, of_length}
 use Rattle.cmap_values.specs.declared.code_length.CodeLength.{CodeLength}
 use Rattle.cmap_layers.specs.CodeStretches.{AreDeclaredBy, EndsCids, HoldsBelow, cid_after}
+use Rattle.cmap_layers.specs.FirstDecided.{first_of}
 use Rattle.cmap_layers.specs.Layers.{Layer}
 use Rattle.cmap_layers.specs.declared.stretches.CidStretch.{CidStretch}
 use Rattle.cmap_layers.specs.Lookups.{cid_at, cid_in, decided_cid, last_cid}
 use Rattle.cmap_layers.specs.declared.stretches.Cids.{Cids}
 use Rattle.cmap_layers.specs.declared.stretches.Cids.TheVariants.{Absent, Same, CountOn}
+use Rattle.cmap_layers.proofs.FirstDecided.{else_below}
 use Rattle.cmap_layers.proofs.LayerStretches.{has_code_length}
 use Rattle.cmap_unicode.specs.Cids.{declared_cid, without_texts}
 use Rattle.cmap_unicode.specs.Given.{AreDeclaredCids, DeclarationsEnd, DeclaresNone, Fits, Given, as_cid, as_notdef, cid_given, given, given_after, given_by, given_in, notdef_given}
 
--- what a layer declares, and else what those below it declare
-pub layer_gives : (layer : Layer) (below : List Layer) (code len : ℕ) (decision : Option (Option Given)) → given_in layer code len ≡ decision → given (layer ∷ below) code len ≡ unwrap_or decision (given below code len)
-layer_gives layer below code len decision is = ap (λ decision. unwrap_or decision (given below code len)) is
+-- what the first layer that declares anything says
+pub first_given : (layers : List Layer) (code len : ℕ) → given layers code len ≡ unwrap_or (first_of (λ layer. given_in layer code len) layers) None
+first_given [] code len = refl
+first_given (layer ∷ below) code len = else_below (given_in layer code len) _ _ (first_given below code len)
 
 -- a declaration gives what the CIDs of its layer say
 pub declared_gives : (cids : Option Cids) (k code : ℕ) (cid notdef : Option CidEntry) → AreDeclaredBy cids k code cid notdef → given_by code cid notdef ≡ option_map (λ these. given_after these k) cids
@@ -30,11 +33,10 @@ declared_gives (Some (Same same)) k code None (Some e) is = ap (option_map (λ c
 declared_gives (Some (Same same)) k code None None is = absurd cc
 declared_gives None k code cid notdef is = rw (is.0, is.1) refl
 
--- where CIDs fit, those of fewer codes do
-pub fewer_fit : (cids : Cids) (more fewer : ℕ) → fewer ≤ more → Fits cids more → Fits cids fewer
-fewer_fit Absent more fewer le fit = tt
-fewer_fit (Same cid) more fewer le fit = tt
-fewer_fit (CountOn cid) more fewer le fit = omega (arith, fit)
+-- where no layer declares anything, no CIDs are to fit
+pub absent_fit : (cids : Option Cids) (more : ℕ) → IfSome cids (λ these. Fits these more) → Fits (unwrap_or cids Absent) more
+absent_fit (Some these) more fit = fit
+absent_fit None more fit = tt
 
 -- ---- the CID, as whatever it is declared
 abbrev pub number : Option Given → Option ℕ

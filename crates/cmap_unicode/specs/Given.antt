@@ -3,6 +3,7 @@ use Rattle.std.specs.Prelude.{◌≡◌, ◌⊎◌, ℕ, ◌+◌, ◌-◌, ◌<�
 use Rattle.cmap_values.specs.Files.{CidEntry, of_length}
 use Rattle.cmap_layers.specs.CodeStretches.{EndsCids, HoldsBelow, cid_after}
 pub use Rattle.cmap_layers.specs.CodeStretches.{DeclarationsEnd, Fits}
+use Rattle.cmap_layers.specs.FirstDecided.{Decision}
 use Rattle.cmap_layers.specs.Layers.{Layer}
 use Rattle.cmap_layers.specs.Lookups.{cid_at, last_cid}
 use Rattle.cmap_layers.specs.declared.stretches.Cids.{Cids}
@@ -52,6 +53,9 @@ given_after (CountOn cid) k = Some (as_cid (cid + k))
 -- the layer declares nothing for the code
 abbrev pub DeclaresNone : ℕ → ℕ → Layer → Type 0
 DeclaresNone len code layer = given_in layer code len ≡ None
+
+abbrev pub declared_decision : Decision (Option Given)
+declared_decision = record { decided = given_in; said = given_after; Fits = Fits; Ends = DeclarationsEnd }
 
 -- the CIDs that layers declare for codes of len bytes from the first to the last one
 pub record AreDeclaredCids (layers : List Layer) (len first : ℕ) (stretch : CidStretch) : Type 0 where

@@ -1,6 +1,6 @@
 //! The CIDs that a map declares, without the texts.
 
-ghost use Rattle.std.specs.Prelude.{◌≡◌, ◌≤◌, option_map, IfSome};
+ghost use Rattle.std.specs.Prelude.{◌≡◌, ◌≤◌, Option, option_map, IfSome};
 ghost use Rattle.std.specs.Option.{option_copied};
 ghost use Rattle.cmap_values.specs.CodeLengths.{length_of};
 ghost use Rattle.cmap_values.specs.DeclarationsSeen.{cid_entry_seen, entries_seen};
@@ -8,11 +8,13 @@ ghost use Rattle.cmap_layers.specs.LayersSeen.{layer_seen, layers_seen};
 ghost use Rattle.cmap_layers.specs.Lookups.{last_cid};
 ghost use Rattle.cmap_unicode.specs.Cids.{declared_cid};
 ghost use Rattle.cmap_unicode.specs.LayersTried.{declared_in};
-ghost use Rattle.cmap_unicode.specs.Given.{AreDeclaredCids};
+ghost use Rattle.cmap_unicode.specs.Given.{AreDeclaredCids, Given, declared_decision};
 
 use cmap_layers::layer::Layer;
 use cmap_layers::layers::Layers;
-use cmap_layers::stretches::{CidStretch, Cids, declared_stretch_in};
+use cmap_layers::stretches::{
+    CidStretch, Deciding, LayerStretch, declared_stretch_in, first_stretch,
+};
 use cmap_runs::runs::{Looks, Table};
 use cmap_values::code_length::CodeLength;
 use cmap_values::declarations::CidRange;
@@ -71,16 +73,18 @@ pub fn declared_stretch(map: &Layers, first: u32, len: CodeLength) -> CidStretch
 pub fn stretch_of_layers(layers: &[Layer], first: u32, len: CodeLength) -> CidStretch
     ensures { AreDeclaredCids (layers_seen layers.now) (length_of len) first result }
 {
-    let mut last = u32::MAX;
-    for layer in layers {
-        let stretch = declared_stretch_in(layer, first, len);
-        last = last.min(stretch.last);
-        if let Some(cids) = stretch.cids {
-            return CidStretch { cids, last };
-        }
-    }
-    CidStretch {
-        cids: Cids::Absent,
-        last,
+    first_stretch::<Declared>(layers, first, len).decided()
+}
+
+/// The decisions of `declared_cid`.
+struct Declared;
+
+impl Deciding for Declared {
+    ghost Answer = { Option Given };
+
+    ghost decision = { declared_decision };
+
+    fn stretch(layer: &Layer, first: u32, len: CodeLength) -> LayerStretch {
+        declared_stretch_in(layer, first, len)
     }
 }
