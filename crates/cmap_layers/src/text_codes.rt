@@ -13,6 +13,7 @@ use crate::layers::Layers;
 use crate::stretches::TextStretch;
 use cmap_values::declarations::BfRange;
 use cmap_values::range::Range;
+use cmap_values::units::Units;
 use std::alloc::{AllocError, Global};
 
 /// The number of codes of 32 bits.
@@ -27,13 +28,14 @@ impl Layers {
         ensures { IfOk result
             (λ ranges. AreCodesOfText self.now (chars text.now) ranges.items) }
     {
-        let units = units_of(alloc, text)?;
+        let units = Units::from_text(alloc, text)?;
+        let units = units.as_slice();
         let mut ranges = Vec::new(alloc);
         let mut next = 0;
         while next < CODE_COUNT {
             let first = next as u32;
             let stretch = self.text_stretch(first);
-            if let Some(code) = code_among(stretch, first, &units) {
+            if let Some(code) = code_among(stretch, first, units) {
                 let (start, end) = (code, code);
                 add_range(&mut ranges, Range { start, end })?;
             }
@@ -41,25 +43,6 @@ impl Layers {
         }
         Ok(ranges)
     }
-}
-
-/// The units of a text in UTF-16.
-fn units_of(alloc: Global, text: &str) -> Result<Vec<u16>, AllocError>
-    ensures { IfOk result (λ units. AreUnitsOf (chars text.now) units.items) }
-{
-    let characters = characters_of(alloc, text)?;
-    let mut units = Vec::new(alloc);
-    for character in &characters {
-        units.extend_from_slice(character.encode_utf16(&mut [0; 2]))?;
-    }
-    Ok(units)
-}
-
-/// The characters of a text.
-fn characters_of(alloc: Global, text: &str) -> Result<Vec<char>, AllocError>
-    ensures { IfOk result (λ characters. characters.items ≡ chars text.now) }
-{
-    text.chars().collect(alloc)
 }
 
 /// The code from `first` on to which the declaration of a stretch gives the text of these units, if

@@ -241,7 +241,7 @@ fn add_texts(alloc: Global, declared: &mut Declared, line: &str) -> Result<(), F
     let Some(text) = unquoted(alloc, rest)? else {
         return Err(Fault::Refused(WrongLine::Text));
     };
-    let units = units_of(alloc, text.as_str())?;
+    let units = Units::from_text(alloc, text.as_str())?;
     let range = codes.range();
     declared.add_text_length(codes.first.len);
     declared.lists.add_bf(BfRange { range, units })?;
@@ -257,10 +257,4 @@ fn pair_and_rest(line: &str) -> Result<(CodePair, &str), Fault<WrongLine>> {
 fn cid_of(digits: &str) -> Result<u32, Fault<WrongLine>> {
     let number = decimal(digits).ok_or(Fault::Refused(WrongLine::Cid))?;
     u32::try_from(number).map_err(|_| Fault::Refused(WrongLine::Cid))
-}
-
-/// The UTF-16 units of a text.
-fn units_of(alloc: Global, text: &str) -> Result<Units, AllocError> {
-    let units: Vec<u16> = text.encode_utf16().collect(alloc)?;
-    Units::from_slice(alloc, &units)
 }

@@ -1,6 +1,8 @@
 //! The units of texts. Nearly every text has one or two units, and few texts have more than four.
 
-ghost use Rattle.std.specs.Prelude.{◌≡◌, ◌≤◌, IfOk, IsOk, length};
+ghost use Rattle.std.specs.Prelude.{◌≡◌, ◌≤◌, IfOk, IsOk, flat_map, length};
+ghost use Rattle.std.specs.Char.Escape.{encode_utf16};
+ghost use Rattle.std.specs.Str.{chars};
 ghost use Rattle.cmap_values.specs.UnitsSeen.{units_seen};
 
 use std::alloc::{AllocError, Global};
@@ -43,6 +45,19 @@ impl Units {
                 Ok(Units::More(Box::new(alloc, units)?))
             }
         }
+    }
+
+    /// The units of the characters of a text, one after another. The Unicode Standard, 3.9, D91.
+    ///
+    /// It fails only if memory runs out.
+    pub fn from_text(alloc: Global, text: &str) -> Result<Units, AllocError>
+        ensures { IfOk result (λ made. units_seen made ≡ flat_map encode_utf16 (chars text.now)) }
+    {
+        let mut units = Vec::new(alloc);
+        for character in text.chars() {
+            units.extend_from_slice(character.encode_utf16(&mut [0; 2]))?;
+        }
+        Units::from_slice(alloc, &units)
     }
 
     /// The units, in order.

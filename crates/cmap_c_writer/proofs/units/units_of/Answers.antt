@@ -11,6 +11,6 @@ returns-in_default c = (tt, units_not_utf8 c.args.text.now c.in_default.ensures.
 pub returns : goal.returns
 returns c =
     let text = c.args.text.now in (
-      units_of_utf8 text c.in-Ok.ensures.cases.1 (filled _ (sym c.is_empty.ensures ∙ c.if-is_empty.false)) ∙ ap Some (sym (c.in_ok-from_slice.ensures.units ∙ c.deref.ensures.value ∙ c.in_ok-units.ensures ∙ ap (λ characters. flat_map encode_utf16 (chars characters)) c.in-Ok.ensures.cases.0)),
+      units_of_utf8 text c.in-Ok.ensures.cases.1 (filled _ (sym c.is_empty.ensures ∙ c.if-is_empty.false)) ∙ ap Some (sym (c.in_ok-from_text.ensures ∙ ap (λ characters. flat_map encode_utf16 (chars characters)) c.in-Ok.ensures.cases.0)),
       tt,
     )
