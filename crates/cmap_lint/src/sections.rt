@@ -1,5 +1,8 @@
 //! The form of the sections of a text: the numbers before them, their lengths, and the names around them. Adobe
 //! Technical Note 5014.
+//!
+//! The tokens of entries are read again: `cmap_text` gives the codes and texts of an accepted file, and not the
+//! strings that spell them nor their offsets, which these warnings concern.
 
 ghost use Rattle.std.specs.Prelude.{◌<◌};
 
