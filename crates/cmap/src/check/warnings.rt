@@ -55,8 +55,26 @@ impl<'m, 'w> LintOptions<'m, 'w> {
     /// codes. With `to_unicode`, the warnings about this are printed only if `denied` has their names.
     fn prints(&self, warning: Warning) -> bool {
         match warning {
-            Warning::NameDiffers | Warning::NoMapping if self.to_unicode => self.names(warning),
-            _ => true,
+            Warning::NameDiffers | Warning::NoMapping => !self.to_unicode || self.names(warning),
+            Warning::NothingDeclared
+            | Warning::NoCodespace
+            | Warning::OutsideCodespace
+            | Warning::Overlap
+            | Warning::InvertedRange
+            | Warning::CrossesRow
+            | Warning::LastByte
+            | Warning::NoText
+            | Warning::PrivateUse
+            | Warning::Noncharacter
+            | Warning::ReplacementCharacter
+            | Warning::NullCharacter
+            | Warning::ModeDiffers
+            | Warning::CountDiffers
+            | Warning::LongSection
+            | Warning::NoEndcmap
+            | Warning::CodeLength
+            | Warning::OddDigits
+            | Warning::OddText => true,
         }
     }
 
