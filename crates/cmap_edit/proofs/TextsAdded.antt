@@ -1,17 +1,10 @@
 -- Declarations of texts that could be one.
 use Rattle.std.proofs.Common.{◌≡◌, ◌+◌, ◌-◌, refl, ap, ◌∙◌, arith}
 use Rattle.cmap_tokens.specs.Texts.{shifted}
-use Rattle.cmap_values.specs.Files.{BfEntry}
-use Rattle.cmap_layers.specs.Lookups.{bf_span}
-use Rattle.cmap_edit.specs.Tidy.{CouldBeOneText, IsTextRow, units_at}
+use Rattle.cmap_edit.specs.Consecutive.{IsLayout, text_layout}
 use Rattle.cmap_edit.proofs.TextUnits.{shifted_is, shifted_twice}
-use Rattle.cmap_edit.specs.TidyAdded.{AreMerged}
 
--- the one that two could be
-abbrev pub merge : BfEntry → BfEntry → BfEntry
-merge e later = record e { end = later.end }
-
-pub texts_merged : AreMerged bf_span units_at IsTextRow CouldBeOneText merge
+pub texts_merged : IsLayout text_layout
 texts_merged = record {
   filled = λ e row. row.0.0;
   meets = λ e later one. one.0.0;

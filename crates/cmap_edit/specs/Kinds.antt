@@ -5,7 +5,7 @@ use Rattle.cmap_values.specs.Files.{CidEntry}
 use Rattle.cmap_layers.specs.Lookups.{cid_at, cid_span}
 use Rattle.cmap_edit.specs.Tidied.{SaysTheSame}
 use Rattle.cmap_edit.specs.Tidy.{AreTidy, GoesOn, IsCidRow, IsCodeRow, IsNotdefRow, notdef_at, said}
-use Rattle.cmap_edit.specs.TidyAdded.{AddsRow, AreMerged}
+use Rattle.cmap_edit.specs.Consecutive.{IsLayout, Layout}
 
 -- what a declaration of the kind gives to its codes
 pub record Kind (X : Type 0) : Type 1 where
@@ -36,14 +36,14 @@ module _ {X : Type 0} (kind : Kind X) where
   abbrev pub CouldBeOneOf : CidEntry → CidEntry → Type 0
   CouldBeOneOf e later = GoesOn (cid_span e) (cid_span later) × (later.cid ≡ kind.moved e.cid (later.start - e.start))
 
+  abbrev pub layout_of : Layout CidEntry X
+  layout_of = record { span = cid_span; at = kind.at; IsRow = kind.IsRow; CouldBeOne = CouldBeOneOf; merge = merge }
+
   abbrev pub AreTidyOf : List CidEntry → Type 0
   AreTidyOf entries = AreTidy cid_span kind.IsRow CouldBeOneOf entries
 
   abbrev pub said_of : List CidEntry → ℕ → Option X
   said_of entries code = said cid_span kind.at entries code
-
-  abbrev pub AddsRowOf : List CidEntry → CidEntry → List CidEntry → Type 0
-  AddsRowOf old row new = AddsRow cid_span kind.at kind.IsRow CouldBeOneOf old row new
 
   -- the declaration gives the codes of the range the answers of these CIDs
   abbrev pub GivesOf : CidEntry → Range → ℕ → Type 0
@@ -64,7 +64,7 @@ module _ {X : Type 0} (kind : Kind X) where
 
   -- what the proofs for both kinds rest on
   pub record IsKind : Type 0 where
-    pub merged : AreMerged cid_span kind.at kind.IsRow CouldBeOneOf merge
+    pub merged : IsLayout layout_of
     pub row : (e : CidEntry) → IsCodeRow (cid_span e) → kind.moved e.cid (e.end - e.start) < 2 ^ 32 → kind.IsRow e
     pub twice : (cid a b : ℕ) → kind.moved (kind.moved cid a) b ≡ kind.moved cid (a + b)
     pub grows : (cid a b : ℕ) → a ≤ b → kind.moved cid a ≤ kind.moved cid b

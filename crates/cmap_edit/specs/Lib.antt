@@ -3,6 +3,7 @@ pub mod UnitsAlike
 pub mod Tidied
 pub mod Tidy
 pub mod TidyAdded
+pub mod Consecutive
 pub mod Kinds
 pub mod KindLaws
 pub mod Chosen

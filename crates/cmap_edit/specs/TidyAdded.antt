@@ -4,8 +4,7 @@ use Rattle.cmap_runs.specs.Ranges.{Span, contains}
 use Rattle.cmap_values.specs.declared.range.Range.{Range}
 use Rattle.cmap_tokens.specs.Texts.{shifted}
 use Rattle.cmap_values.specs.Files.{BfEntry}
-use Rattle.cmap_layers.specs.Lookups.{bf_span}
-use Rattle.cmap_edit.specs.Tidy.{AreTidy, AreTidyTexts, CouldBeOneText, IsTextRow, last_unit, said, said_with, units_at, units_said}
+use Rattle.cmap_edit.specs.Tidy.{AreTidy, AreTidyTexts, last_unit, said, said_with, units_at, units_said}
 pub use Rattle.cmap_edit.specs.Tidy.{IsSaidTo}
 
 -- the new list is tidy, gives the codes of the row the answers of the row, and gives other codes the answers of the old list
@@ -23,9 +22,6 @@ pub record AreMerged {E X : Type 0} (span : E → Span) (at : E → ℕ → X) (
   pub old : (e later : E) (code : ℕ) → at (merge e later) code ≡ at e code
   pub new : (e later : E) (code : ℕ) → IsRow e → IsRow later → CouldBeOne e later → (span later).start ≤ code → code ≤ (span later).end → at (merge e later) code ≡ at later code
   pub before : (x e later : E) → CouldBeOne x (merge e later) → CouldBeOne x e
-
-abbrev pub AddsTextRow : List BfEntry → BfEntry → List BfEntry → Type 0
-AddsTextRow old row new = AddsRow bf_span units_at IsTextRow CouldBeOneText old row new
 
 -- a tidy list for codes below `next`, which gives them the answers of another list
 pub record SaysSoFar {E X : Type 0} (span : E → Span) (at : E → ℕ → X) (list : List E) (next : ℕ) (new : List E) : Type 0 where

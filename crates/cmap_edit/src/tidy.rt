@@ -2,6 +2,7 @@
 
 mod cid_lists;
 mod cids;
+mod consecutive;
 mod copies;
 mod counting;
 mod file;

@@ -2,15 +2,18 @@
 
 ghost use Rattle.std.specs.Prelude.{◌≡◌, ◌↔◌, ℕ, ◌+◌, ◌-◌, ◌<◌, ◌≤◌, ◌^◌, All, IsTrue, OnErr, OnOk, Some};
 ghost use Rattle.cmap_values.specs.DeclarationsSeen.{cid_entry_seen, entries_seen};
-ghost use Rattle.cmap_edit.specs.Kinds.{AddsRowOf, AreTidyOf, CouldBeOneOf, said_of};
+ghost use Rattle.cmap_values.specs.Files.{CidEntry};
+ghost use Rattle.cmap_edit.specs.Kinds.{AreTidyOf, CouldBeOneOf, layout_of, said_of};
 ghost use Rattle.cmap_edit.specs.Tidy.{AreTidyCids, AreTidyNotdefs, IsSaidInPart, cid_said, notdef_said, said_with};
 
+use crate::tidy::consecutive::{Consecutive, push_rows};
 use crate::tidy::counting::{CountOn, Counting, Same};
 use crate::tidy::rows::row_end;
 use cmap_values::declarations::CidRange;
 use cmap_values::names::Cid;
 use cmap_values::range::Range;
 use std::alloc::AllocError;
+use std::marker::PhantomData;
 
 /// Adds codes, with CIDs that count on from `cid`, to a tidy list. All codes of the list come before the
 /// new codes.
@@ -79,39 +82,48 @@ pub(crate) fn push<K: Counting>(
         (said_of K.kind (entries_seen list.old.items))
         (said_of K.kind (entries_seen list.new.items))) }
 {
-    let end = u64::from(range.end);
-    let mut next = u64::from(range.start);
-    while next <= end {
-        let start = next as u32;
-        let row = Range {
-            start,
-            end: row_end(start, range.end),
-        };
-        next = u64::from(row.end) + 1;
-        let cid = cid + K::step(start - range.start);
-        add_row::<K>(list, CidRange { range: row, cid })?;
-    }
-    Ok(())
+    let kind = PhantomData;
+    push_rows(list, range, &CidsFrom::<K> { cid, kind })
 }
 
-/// Adds a declaration for codes of a row. Where it goes on from the last declaration, the two become
-/// one.
-fn add_row<K: Counting>(list: &mut Vec<CidRange>, row: CidRange) -> Result<(), AllocError>
-    requires tidy { AreTidyOf K.kind (entries_seen list.now.items) }
-    requires after { All (λ e. e.end < row.range.start) (entries_seen list.now.items) }
-    requires row { K.kind.IsRow (cid_entry_seen row) }
-    ensures added { OnOk result (AddsRowOf K.kind (entries_seen list.old.items) (cid_entry_seen row)
-        (entries_seen list.new.items)) }
-    ensures same { OnErr result (list.new.items ≡ list.old.items) }
-{
-    if let Some(last) = list.last_mut() {
-        if could_be_one::<K>(last, &row) {
-            last.range.end = row.range.end;
-            return Ok(());
-        }
+/// Codes in a row of which the first has this CID.
+#[derive(Drop)]
+struct CidsFrom<K> {
+    cid: Cid,
+    kind: PhantomData<K>,
+}
+
+impl<K: Counting> Consecutive for CidsFrom<K> {
+    type Entry = CidRange;
+
+    ghost Seen = { CidEntry };
+
+    ghost Answer = { K.Answer };
+
+    ghost layout = { layout_of K.kind };
+
+    ghost seen = { cid_entry_seen };
+
+    ghost here = { λ cids offset. K.kind.told (K.kind.moved cids.cid offset) };
+
+    ghost Fits = { λ cids offset. K.kind.moved cids.cid offset < 2 ^ 32 };
+
+    fn row(&self, offset: u32, start: u32, last: u32) -> Result<CidRange, AllocError> {
+        let range = Range {
+            start,
+            end: row_end(start, last),
+        };
+        let cid = self.cid + K::step(offset);
+        Ok(CidRange { range, cid })
     }
-    list.push(row)?;
-    Ok(())
+
+    fn join(entry: &mut CidRange, later: &CidRange) -> bool {
+        let is_one = could_be_one::<K>(entry, later);
+        if is_one {
+            entry.range.end = later.range.end;
+        }
+        is_one
+    }
 }
 
 /// Whether one declaration could replace two, the second of which comes later.

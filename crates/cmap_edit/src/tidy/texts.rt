@@ -1,12 +1,14 @@
 //! Texts of codes, added to tidy lists.
 
-ghost use Rattle.std.specs.Prelude.{◌≡◌, ◌↔◌, ℕ, ◌+◌, ◌-◌, ◌/◌, ◌<◌, ◌≤◌, ◌^◌, All, IfOk, IsTrue, OnErr, OnOk, Some, length, map};
+ghost use Rattle.std.specs.Prelude.{◌≡◌, ◌↔◌, ℕ, ◌+◌, ◌-◌, ◌/◌, ◌<◌, ◌≤◌, ◌^◌, All, IfOk, IsFalse, IsTrue, List, OnErr, OnOk, Option, Some, length, map};
 ghost use Rattle.cmap_tokens.specs.Texts.{shifted};
 ghost use Rattle.cmap_values.specs.DeclarationsSeen.{bf_entry_seen};
+ghost use Rattle.cmap_values.specs.Files.{BfEntry};
 ghost use Rattle.cmap_values.specs.UnitsSeen.{units_seen};
 ghost use Rattle.cmap_edit.specs.Tidy.{AreTidyTexts, CouldBeOneText, IsSaidInPart, IsTextRow, last_unit, said_with, units_said};
-ghost use Rattle.cmap_edit.specs.TidyAdded.{AddsTextRow};
+ghost use Rattle.cmap_edit.specs.Consecutive.{merged_text, text_layout};
 
+use crate::tidy::consecutive::{Consecutive, push_rows};
 use crate::tidy::rows::row_end;
 use cmap_values::declarations::BfRange;
 use cmap_values::range::Range;
@@ -42,19 +44,57 @@ pub fn push_texts(
         (units_said (map bf_entry_seen list.old.items))
         (units_said (map bf_entry_seen list.new.items))) }
 {
-    let end = u64::from(range.end);
-    let mut next = u64::from(range.start);
-    while next <= end {
-        let start = next as u32;
-        let units = counted_on(alloc, units, start - range.start)?;
-        let row = Range {
+    push_rows(list, range, &TextsFrom { alloc, units })
+}
+
+/// Codes in a row of which the first has the text of these units.
+#[derive(Clone, Copy)]
+struct TextsFrom<'u> {
+    alloc: Global,
+    units: &'u [u16],
+}
+
+impl<'u> Consecutive for TextsFrom<'u> {
+    type Entry = BfRange;
+
+    ghost Seen = { BfEntry };
+
+    ghost Answer = { Option (List ℕ) };
+
+    ghost layout = { text_layout };
+
+    ghost seen = { bf_entry_seen };
+
+    ghost here = { λ texts offset. shifted texts.units.now offset };
+
+    ghost Fits = { λ texts offset. (0 < length texts.units.now)
+        × (last_unit texts.units.now + offset < 2 ^ 16) };
+
+    fn row(&self, offset: u32, start: u32, last: u32) -> Result<BfRange, AllocError> {
+        let units = counted_on(self.alloc, self.units, offset)?;
+        let range = Range {
             start,
-            end: text_row_end(start, range.end, units.as_slice()),
+            end: text_row_end(start, last, units.as_slice()),
         };
-        next = u64::from(row.end) + 1;
-        add_row(list, BfRange { range: row, units })?;
+        Ok(BfRange { range, units })
     }
-    Ok(())
+
+    fn join(entry: &mut BfRange, later: &BfRange) -> bool
+        requires row { IsTextRow (bf_entry_seen entry.old) }
+        requires after { entry.old.range.end < later.now.range.start }
+        ensures joined { IsTrue result
+            → CouldBeOneText (bf_entry_seen entry.old) (bf_entry_seen later.now)
+            × (bf_entry_seen entry.new
+            ≡ merged_text (bf_entry_seen entry.old) (bf_entry_seen later.now)) }
+        ensures same { IsFalse result → (entry.new ≡ entry.old)
+            × (CouldBeOneText (bf_entry_seen entry.old) (bf_entry_seen later.now) → ⊥) }
+    {
+        let is_one = could_be_one(entry, later);
+        if is_one {
+            entry.range.end = later.range.end;
+        }
+        is_one
+    }
 }
 
 /// Whether there are units, and the last unit plus the offset fits in 16 bits.
@@ -95,25 +135,6 @@ fn text_row_end(first: u32, last: u32, units: &[u16]) -> u32
         Some(unit) => first + (end - first).min(u32::from(255 - unit % 256)),
         None => end,
     }
-}
-
-/// Adds a declaration for codes of a row. Where it goes on from the last declaration, the two become one.
-fn add_row(list: &mut Vec<BfRange>, row: BfRange) -> Result<(), AllocError>
-    requires tidy { AreTidyTexts (map bf_entry_seen list.now.items) }
-    requires after { All (λ e. e.end < row.range.start) (map bf_entry_seen list.now.items) }
-    requires row { IsTextRow (bf_entry_seen row) }
-    ensures added { OnOk result (AddsTextRow (map bf_entry_seen list.old.items) (bf_entry_seen row)
-        (map bf_entry_seen list.new.items)) }
-    ensures same { OnErr result (list.new.items ≡ list.old.items) }
-{
-    if let Some(last) = list.last_mut() {
-        if could_be_one(last, &row) {
-            last.range.end = row.range.end;
-            return Ok(());
-        }
-    }
-    list.push(row)?;
-    Ok(())
 }
 
 /// Whether one declaration could replace two, the second of which comes later.
