@@ -6,8 +6,7 @@ use Rattle.std.proofs.lemmas.List.Elements.{All-cons, All-head, All-nil, All-tai
 use Rattle.cmap_values.specs.Files.{File}
 use Rattle.cmap_layers.specs.Layers.{Layer, layer_of}
 use Rattle.cmap_load.specs.BytesSpent.{Leaves}
-use Rattle.cmap_load.specs.Kept.{IsAnswer, IsPast, Over, Stored, size}
-use Rattle.cmap_load.specs.declared.salvage.kept.KeptFiles.{KeptFiles}
+use Rattle.cmap_load.specs.Kept.{Files, IsAnswer, IsPast, Over, Stored, size}
 use Rattle.cmap_load.specs.Salvage.{Found, Opening, Reading, ReadsWithin, SalvagesEach, SalvagesNamed, SalvagesUse, no_layers}
 use Rattle.cmap_load.specs.SalvageSeen.{HasRoom, IsRead}
 use Rattle.cmap_load.specs.declared.refusal.Cause.{Cause}
@@ -120,7 +119,7 @@ module _ (longest : ℕ) (names others : List (List ℕ)) (first later : List �
             };
       })
 
-module _ (files : KeptFiles) where
+module _ (files : Files) where
   -- ---- the file of a name
   module _ (longest : ℕ) (names others : List (List ℕ)) (name : List ℕ) (now : Opening) (found : Found) (is_open : now.closed ≡ false) (read : All (IsRead longest) found.readings) where
     pub named_again : (most room : ℕ) → longest < length names + room

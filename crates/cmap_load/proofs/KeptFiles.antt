@@ -6,16 +6,20 @@ use Rattle.cmap_layers.specs.LayersSeen.{layer_seen, layers_seen}
 use Rattle.cmap_layers.specs.declared.layer.Layer as declared
 use Rattle.std.proofs.lemmas.Option.{slice_get_within}
 use Rattle.cmap_layers.specs.Layers.{layer_of}
-use Rattle.cmap_load.specs.Kept.{AreKept, IsReadAt, file_at, file_with, layer_in, layer_with, texts_in}
+use Rattle.cmap_load.specs.Kept.{AreKept, Files, IsKept, files_of, IsReadAt, file_at, file_with, layer_in, layer_with}
 use Rattle.cmap_load.specs.Numbers.{text_at}
 use Rattle.cmap_load.specs.declared.salvage.kept.KeptFiles.{KeptFiles}
 use Rattle.cmap_load.proofs.Numbered.{text_at-there}
 use Rattle.cmap_load.specs.declared.table.Contents.{Contents}
 
-pub there : (files : KeptFiles) (i : ℕ) → AreKept files → IsReadAt files i → i < length files.load.table.graph.nodes.items
-there files i kept (stops, is) = let within = slice_get_within files.stops.items i (Some stops) is in let long = kept.stops in omega (arith, within, long)
+-- the files of a list of names, as the walk sees them
+pub are_kept : {N : Type 0} (texts : N → List (List ℕ)) (are_numbered : N → Type 0) (kept : KeptFiles N) → IsKept texts are_numbered kept → AreKept (files_of texts kept)
+are_kept texts are_numbered kept is = record { table = is.set.table; texts_are = is.set.texts_are; stops = is.stops }
 
-pub there_read : (files : KeptFiles) (at : ℕ) (read : Option ℕ) → AreKept files → IsReadAt files at → IfSome read (λ i. i ≡ at) → IfSome read (λ i. i < length files.load.table.graph.nodes.items)
+pub there : (files : Files) (i : ℕ) → AreKept files → IsReadAt files i → i < length files.table.graph.nodes.items
+there files i kept (stops, is) = let within = slice_get_within files.stops i (Some stops) is in let long = kept.stops in omega (arith, within, long)
+
+pub there_read : (files : Files) (at : ℕ) (read : Option ℕ) → AreKept files → IsReadAt files at → IfSome read (λ i. i ≡ at) → IfSome read (λ i. i < length files.table.graph.nodes.items)
 there_read files at None kept is same = tt
 there_read files at (Some i) kept is same = let within = there files at kept is in omega (arith, within, same)
 
@@ -23,17 +27,17 @@ layer_got : (contents : Option Contents) (uses : List (List ℕ)) → layer_with
 layer_got None uses = refl
 layer_got (Some contents) uses = refl
 
-pub layer_read : (files : KeptFiles) (read : Option ℕ) → layer_in files.load.table.contents.items read ≡ layer_of (file_at files read)
+pub layer_read : (files : Files) (read : Option ℕ) → layer_in files.table.contents.items read ≡ layer_of (file_at files read)
 layer_read files None = refl
-layer_read files (Some i) = layer_got (slice_get files.load.table.contents.items i) _
+layer_read files (Some i) = layer_got (slice_get files.table.contents.items i) _
 
 pub none_mapped : {A B : Type 0} (f : A → B) (xs : List A) → length xs ≡ 0 → map f xs ≡ []
 none_mapped f [] none = refl
 none_mapped f (x ∷ xs) none = absurd (omega (arith, none))
 
 -- the text of the name of a number
-pub named_text : (files : KeptFiles) (number : ℕ) → AreKept files → number < length files.load.table.graph.found.items → slice_get (texts_in files) number ≡ Some (text_at (texts_in files) number)
-named_text files number kept lt = let long = kept.set.texts_are.long in text_at-there (texts_in files) number (omega (arith, lt, long))
+pub named_text : (files : Files) (number : ℕ) → AreKept files → number < length files.table.graph.found.items → slice_get files.texts number ≡ Some (text_at files.texts number)
+named_text files number kept lt = let long = kept.texts_are.long in text_at-there files.texts number (omega (arith, lt, long))
 
 -- ---- layers along a path
 -- the layer of an index that isn't on the path stays

@@ -1,8 +1,8 @@
 -- What is read past faults of sources is what is read of other sources that give the same files: of kept files, and of the bytes that were answered.
 use Rattle.std.proofs.Common.{◌≡◌, refl, sym, ap, subst, ◌∙◌, ℕ, zero, suc, ◌<◌, ◌≤◌, arith, List, [], ◌∷◌, ◌++◌, length, Option, Some, None, inl, inr}
-use Rattle.std.specs.Prelude.{IfSome, false}
+use Rattle.std.specs.Prelude.{IfSome, false, is_some, map, true}
 use Rattle.std.proofs.Math.ListN.{length-map}
-use Rattle.std.proofs.lemmas.List.Elements.{Contains-push_cases}
+use Rattle.std.proofs.lemmas.List.Elements.{All-nil, Contains-push_cases}
 use Rattle.cmap_values.specs.Files.{File}
 use Rattle.cmap_values.specs.ListsAppended.{no_file}
 use Rattle.cmap_values.specs.declared.fault.Stop.{Stop}
@@ -10,11 +10,11 @@ use Rattle.cmap_binary.specs.Bundles.{PrefixTables}
 use Rattle.cmap_layers.specs.Layers.{Layer, layer_of}
 use Rattle.cmap_load.specs.Budgets.{IsOver}
 use Rattle.cmap_load.specs.BytesSpent.{Leaves}
-use Rattle.cmap_load.specs.Kept.{IsAnswer, IsPast, IsSalvaged, Stored, file_at, layers_on, size}
+use Rattle.cmap_load.specs.Kept.{Files, IsAnswer, IsPast, IsSalvaged, Stored, file_at, layers_on, size}
 use Rattle.cmap_load.specs.Loading.{Agrees, Answer}
 use Rattle.cmap_load.specs.Salvage.{Found, IsReadPast, NamedFault, Opening, ReadsWithin, SalvagesEach, SalvagesMap, SalvagesNamed, SalvagesOver, SalvagesUse}
-use Rattle.cmap_load.specs.SalvageLoads.{AreOf, IsGiven, IsOf, IsReady, ReadsPast, Salvages, Walks, budget_in, is_found, wanted_name}
-use Rattle.cmap_load.specs.SalvageSeen.{faults_seen}
+use Rattle.cmap_load.specs.SalvageLoads.{AreFew, AreOf, Follows, IsGiven, IsOf, IsReady, ReadsPast, Salvages, Walks, budget_in, faults_by, is_found, wanted_by, wanted_name}
+use Rattle.cmap_load.specs.SalvageSeen.{fault_named}
 use Rattle.cmap_load.specs.declared.refusal.Cause.{Cause}
 use Rattle.cmap_load.specs.declared.refusal.Cause.TheVariants.{OverBudget}
 use Rattle.cmap_load.specs.declared.salvage.kept.Progress.{Progress}
@@ -22,7 +22,6 @@ use Rattle.cmap_load.specs.declared.salvage.kept.Progress.TheVariants as progres
 use Rattle.cmap_load.specs.declared.salvage.loader.SalvageLoader.{SalvageLoader}
 use Rattle.cmap_load.proofs.Growing.{bytes_at_front}
 use Rattle.cmap_load.proofs.SalvagedMaps.{salvages_fit}
-use Rattle.cmap_load.specs.declared.salvage.kept.KeptFiles.{KeptFiles}
 
 each_as : (R S : List ℕ → List Layer → Opening → Found → Type 0) → ((name : List ℕ) (base : List Layer) (opening : Opening) (found : Found) → R name base opening found → S name base opening found)
     → (names : List (List ℕ)) (base : List Layer) (opening : Opening) (found : Found) → SalvagesEach R names base opening found → SalvagesEach S names base opening found
@@ -57,7 +56,7 @@ module _ {A B : Type 0} (size : A → ℕ) (past : A → File → List Stop → 
       (file, causes, rest, below, within_as opening.left a b file causes rest is read, each_as (SalvagesUse answer (SalvagesOver size past answer most) most names) (SalvagesUse said (SalvagesOver long reads said most) most names) use_as file.uses [] _ below uses, found_is)
 
 -- ---- kept files
-module _ (tables : Option PrefixTables) (answers : List Answer) (top : List ℕ) (files : KeptFiles) (are : AreOf tables answers top files) where
+module _ (tables : Option PrefixTables) (answers : List Answer) (top : List ℕ) (files : Files) (are : AreOf tables answers top files) where
   record IsSource (stored : Stored) (bytes : List ℕ) : Type 0 where
     long : size files stored ≡ length bytes
     past : (file : File) (stops : List Stop) → IsPast files stored file stops → IsReadPast tables bytes file stops
@@ -94,7 +93,7 @@ map_agreed tables answer other bytes budget layers faults agrees (readings, afte
 )
 
 -- how many layers there are
-pub path_fits : (files : KeptFiles) (budget : Option ℕ) (path : List (Option ℕ)) (faults : List NamedFault) → IsSalvaged files budget (layers_on files path) faults → (0 < length path) × (length path ≤ 16)
+pub path_fits : (files : Files) (budget : Option ℕ) (path : List (Option ℕ)) (faults : List NamedFault) → IsSalvaged files budget (layers_on files path) faults → (0 < length path) × (length path ≤ 16)
 path_fits files budget path faults is =
     let fits = salvages_fit (size files) (IsPast files) (IsAnswer files) 16 [] (Stored.at 0) _ _ is.over in
     let same : length (layers_on files path) ≡ length path = simp length-map in
@@ -102,16 +101,28 @@ path_fits files budget path faults is =
 
 -- ---- loaders
 -- what comes next is no result yet
-pub ready_open : (tables : Option PrefixTables) (answers : List Answer) (top : List ℕ) (files : KeptFiles) (now : Progress) → is_found now ≡ false → AreOf tables answers top files → IsReady tables answers top files now
+pub ready_open : (tables : Option PrefixTables) (answers : List Answer) (top : List ℕ) (files : Files) (now : Progress) → is_found now ≡ false → AreOf tables answers top files → IsReady tables answers top files now
 ready_open tables answers top files (progress.Wanted unread) pending are = are
 ready_open tables answers top files progress.Open pending are = are
 ready_open tables answers top files (progress.Found found) pending are = absurd (cc)
 
 -- what a walk finds
-pub ready_walked : (tables : Option PrefixTables) (answers : List Answer) (top : List ℕ) (files : KeptFiles) (now : Progress) → Walks files now → AreOf tables answers top files → IsReady tables answers top files now
+pub ready_walked : (tables : Option PrefixTables) (answers : List Answer) (top : List ℕ) (files : Files) (now : Progress) → Walks files now → AreOf tables answers top files → IsReady tables answers top files now
 ready_walked tables answers top files (progress.Wanted unread) walks are = are
 ready_walked tables answers top files progress.Open walks are = absurd walks
-ready_walked tables answers top files (progress.Found found) walks are = map_of tables answers top files are files.load.table.graph.budget (layers_on files found.path.items) (faults_seen found.faults.items) walks
+ready_walked tables answers top files (progress.Found found) walks are = map_of tables answers top files are files.table.graph.budget (layers_on files found.path.items) (map (fault_named files.texts) found.faults.items) walks
+
+-- a walk ends unless a file is wanted
+pub walks_settled : (texts : List (List ℕ)) (files : Files) (now : Progress) → Walks files now → is_some (wanted_by texts now) ≡ false → is_found now ≡ true
+walks_settled texts files (progress.Wanted unread) walks none = absurd (cc)
+walks_settled texts files progress.Open walks none = absurd walks
+walks_settled texts files (progress.Found found) walks none = refl
+
+-- few names lead to each fault that is found, and they have numbers
+pub few_by : (files : Files) (now : Progress) → Follows files now → AreFew (faults_by now)
+few_by files (progress.Wanted unread) follows = All-nil (λ fault. length fault.names.items ≤ 16)
+few_by files progress.Open follows = All-nil (λ fault. length fault.names.items ≤ 16)
+few_by files (progress.Found found) (some, short, named, few) = few
 
 -- a top file that exceeds the budget
 pub map_too_long : (tables : Option PrefixTables) (answers : List Answer) (top : List ℕ) (budget : Option ℕ) → IsOver budget (length top) → SalvagesMap tables (IsGiven answers) top budget (layer_of no_file ∷ []) (record { names = []; cause = OverBudget } ∷ [])
@@ -120,33 +131,34 @@ map_too_long tables answers top budget over =
     (record { names = []; causes = OverBudget ∷ [] } ∷ [], now, (no_file, OverBudget ∷ [], budget, record { layers = []; readings = []; after = now }, inl (over, refl, refl, refl), refl, refl), refl)
 
 -- after each step
-pub Salvages-new : {tables : Option PrefixTables} {budget : Option ℕ} {answer : List ℕ → Option (List ℕ) → Type 0} {bytes : List ℕ} (loader : SalvageLoader) → budget_in loader ≡ budget → ReadsPast tables (record { name = None; bytes = Some bytes } ∷ []) loader → Salvages tables budget answer bytes loader
-Salvages-new loader within reads = record {
-  answers = _;
-  reads = reads;
-  within = within;
-  first = refl;
-  agrees = λ name given is. elim (Contains-push_cases [] _ (record { name = Some name; bytes = given }) is) [
-    | inl (k, lt, there) ↦ absurd (omega (arith, lt))
-    | inr same ↦ (let e : None ≡ Some name = ap (λ (a : Answer). a.name) same in absurd (cc))
-  ];
-}
+module _ {N : Type 0} (texts : N → List (List ℕ)) where
+  pub Salvages-new : {tables : Option PrefixTables} {budget : Option ℕ} {answer : List ℕ → Option (List ℕ) → Type 0} {bytes : List ℕ} (loader : SalvageLoader N) → budget_in loader ≡ budget → ReadsPast texts tables (record { name = None; bytes = Some bytes } ∷ []) loader → Salvages texts tables budget answer bytes loader
+  Salvages-new loader within reads = record {
+    answers = _;
+    reads = reads;
+    within = within;
+    first = refl;
+    agrees = λ name given is. elim (Contains-push_cases [] _ (record { name = Some name; bytes = given }) is) [
+      | inl (k, lt, there) ↦ absurd (omega (arith, lt))
+      | inr same ↦ (let e : None ≡ Some name = ap (λ (a : Answer). a.name) same in absurd (cc))
+    ];
+  }
 
-pub Salvages-wanted : {tables : Option PrefixTables} {budget : Option ℕ} {answer : List ℕ → Option (List ℕ) → Type 0} {bytes : List ℕ} (old new : SalvageLoader) → budget_in new ≡ budget_in old → ((answers : List Answer) → ReadsPast tables answers old → ReadsPast tables answers new) → Salvages tables budget answer bytes old → Salvages tables budget answer bytes new
-Salvages-wanted old new same reads was = record { answers = was.answers; reads = reads was.answers was.reads; within = same ∙ was.within; first = was.first; agrees = was.agrees }
+  pub Salvages-wanted : {tables : Option PrefixTables} {budget : Option ℕ} {answer : List ℕ → Option (List ℕ) → Type 0} {bytes : List ℕ} (old new : SalvageLoader N) → budget_in new ≡ budget_in old → ((answers : List Answer) → ReadsPast texts tables answers old → ReadsPast texts tables answers new) → Salvages texts tables budget answer bytes old → Salvages texts tables budget answer bytes new
+  Salvages-wanted old new same reads was = record { answers = was.answers; reads = reads was.answers was.reads; within = same ∙ was.within; first = was.first; agrees = was.agrees }
 
-pub Salvages-supplied : {tables : Option PrefixTables} {budget : Option ℕ} {answer : List ℕ → Option (List ℕ) → Type 0} {bytes : List ℕ} (old new : SalvageLoader) (name : List ℕ) (given : Option (List ℕ)) → wanted_name old ≡ Some name → budget_in new ≡ budget_in old
-    → IfSome (wanted_name old) (λ text. (answers : List Answer) → ReadsPast tables answers old → ReadsPast tables (answers ++ record { name = Some text; bytes = given } ∷ []) new) → answer name given → Salvages tables budget answer bytes old → Salvages tables budget answer bytes new
-Salvages-supplied {tables} {budget} {answer} old new name given wanted same reads said was = record {
-  answers = was.answers ++ record { name = Some name; bytes = given } ∷ [];
-  reads = rw wanted at reads was.answers was.reads;
-  within = same ∙ was.within;
-  first = bytes_at_front was.answers (record { name = Some name; bytes = given } ∷ []) 0 _ was.first;
-  agrees = λ other bytes is. elim (Contains-push_cases was.answers (record { name = Some name; bytes = given }) (record { name = Some other; bytes = bytes }) is) [
-    | inl before ↦ was.agrees other bytes before
-    | inr last ↦ (
-        let names : Some name ≡ Some other = ap (λ (a : Answer). a.name) last in
-        let same_name : name ≡ other = cc in
-        subst (λ n. answer n bytes) same_name (subst (answer name) (ap (λ (a : Answer). a.bytes) last) said))
-  ];
-}
+  pub Salvages-supplied : {tables : Option PrefixTables} {budget : Option ℕ} {answer : List ℕ → Option (List ℕ) → Type 0} {bytes : List ℕ} (old new : SalvageLoader N) (name : List ℕ) (given : Option (List ℕ)) → wanted_name texts old ≡ Some name → budget_in new ≡ budget_in old
+      → IfSome (wanted_name texts old) (λ text. (answers : List Answer) → ReadsPast texts tables answers old → ReadsPast texts tables (answers ++ record { name = Some text; bytes = given } ∷ []) new) → answer name given → Salvages texts tables budget answer bytes old → Salvages texts tables budget answer bytes new
+  Salvages-supplied {tables} {budget} {answer} old new name given wanted same reads said was = record {
+    answers = was.answers ++ record { name = Some name; bytes = given } ∷ [];
+    reads = rw wanted at reads was.answers was.reads;
+    within = same ∙ was.within;
+    first = bytes_at_front was.answers (record { name = Some name; bytes = given } ∷ []) 0 _ was.first;
+    agrees = λ other bytes is. elim (Contains-push_cases was.answers (record { name = Some name; bytes = given }) (record { name = Some other; bytes = bytes }) is) [
+      | inl before ↦ was.agrees other bytes before
+      | inr last ↦ (
+          let names : Some name ≡ Some other = ap (λ (a : Answer). a.name) last in
+          let same_name : name ≡ other = cc in
+          subst (λ n. answer n bytes) same_name (subst (answer name) (ap (λ (a : Answer). a.bytes) last) said))
+    ];
+  }

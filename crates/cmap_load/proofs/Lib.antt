@@ -29,6 +29,7 @@ pub mod GraphWalks
 pub mod CopiedNames
 pub mod Grown
 pub mod Numbered
+pub mod NumbersEqual
 pub mod TableGrowing
 pub mod Shown
 pub mod Meant

@@ -1,9 +1,8 @@
 -- The faults that are listed: those of each file once, where it is first opened.
-use Rattle.std.proofs.Common.{◌≡◌, ◌-◌, ℕ, zero, suc, arith, refl, sym, ap, subst, ◌∙◌, Bool, true, false, cond, List, [], ◌∷◌, ◌++◌, length, append-nil, append_assoc, Option, Some, None}
-use Rattle.std.specs.Prelude.{◌&&◌, ◌||◌, bytes_eq, map, slice_get}
+use Rattle.std.proofs.Common.{◌≡◌, ◌-◌, ◌<◌, ℕ, zero, suc, arith, inl, inr, refl, sym, ap, subst, ◌∙◌, Bool, true, false, cond, List, [], ◌∷◌, ◌++◌, length, append-nil, append_assoc, Option, Some, None}
+use Rattle.std.specs.Prelude.{◌==◌, ◌&&◌, ◌||◌, ◌⊎◌, IfSome, map, option_map, slice_get}
+use Rattle.std.proofs.lemmas.Bool.{cases_eq}
 use Rattle.std.specs.BTreeMap.{get_by}
-use Rattle.std.specs.Borrow.{Bor}
-use Rattle.std.specs.Cmp.Lexicographic.{slice_cmp}
 use Rattle.std.specs.List.{All, last_or, list_any}
 use Rattle.std.specs.Ordering.{nat_cmp}
 use Rattle.std.proofs.lemmas.List.{map-append}
@@ -12,13 +11,15 @@ use Rattle.std.proofs.lemmas.List.Folds.{list_any-append}
 use Rattle.std.proofs.lemmas.Slice.Eq.{bytes_eq-Decides}
 use Rattle.cmap_values.specs.declared.fault.Stop.{Stop}
 use Rattle.cmap_load.specs.Salvage.{NamedFault, Reading, faults_of, is_fault_of, is_listed, is_name, is_same_kind, list_causes, list_each}
-use Rattle.cmap_values.specs.NamesSeen.{names_seen}
-use Rattle.cmap_load.specs.SalvageSeen.{AddsNothing, AreMarked, Lists, ReadingAddsNothing, fault_seen, faults_seen, has_kind, has_kind_of, is_marked, listed}
+use Rattle.cmap_load.specs.Numbers.{AreDistinct, AreWithin, text_at}
+use Rattle.cmap_load.specs.SalvageSeen.{AddsFaults, AddsNothing, AreMarked, AreNamed, NumberedFault, ReadingAddsNothing, fault_named, fault_of, found_of, has_kind, has_kind_of, is_last, is_marked, is_marked_last, listed}
 use Rattle.cmap_load.specs.declared.faults.Faults.{Faults}
 use Rattle.cmap_load.specs.declared.faults.Kinds.{Kinds}
 use Rattle.cmap_load.specs.declared.refusal.Cause.{Cause}
 use Rattle.cmap_load.specs.declared.refusal.Cause.TheVariants.{Malformed, NoFile, ChainLength, OverBudget}
-use Rattle.cmap_load.specs.declared.refusal.Refusal.{Refusal}
+use Rattle.cmap_load.specs.declared.faults.FoundFault.{FoundFault}
+use Rattle.cmap_load.proofs.Numbered.{text_at-there}
+use Rattle.cmap_load.proofs.NumbersEqual.{equal-is, equal-not, same_text}
 
 -- ---- one after another
 pub list_each-append : (faults : List NamedFault) (first more : List Reading) → list_each faults (first ++ more) ≡ list_each (list_each faults first) more
@@ -189,20 +190,18 @@ any_stops name cause names stop (other ∷ stops) =
     or_self false = refl
 
 -- one more is marked
-pub marked_more : (key name : List ℕ) (kinds : Kinds) (old new : Faults) (cause other : Cause) (last : Option (List ℕ)) → last ≡ Some key
-    → get_by (λ k. slice_cmp nat_cmp name k.now) new.kinds ≡ cond (bytes_eq key name) (Some kinds) (get_by (λ k. slice_cmp nat_cmp name k.now) old.kinds)
-    → has_kind kinds other ≡ (is_same_kind other cause || is_marked old key other) → is_marked new name other ≡ (is_name name last && is_same_kind other cause || is_marked old name other)
-marked_more key name kinds old new cause other last is updates has = by (bytes_eq key name) refl
+pub marked_more : (key number : ℕ) (kinds : Kinds) (old new : Faults) (cause other : Cause) → get_by (λ k. nat_cmp number k) new.kinds ≡ cond (key == number) (Some kinds) (get_by (λ k. nat_cmp number k) old.kinds)
+    → has_kind kinds other ≡ (is_same_kind other cause || is_marked old key other) → is_marked new number other ≡ (is_last number (Some key) && is_same_kind other cause || is_marked old number other)
+marked_more key number kinds old new cause other updates has = by (cases_eq key number)
   where
-    by : (here : Bool) → bytes_eq key name ≡ here → is_marked new name other ≡ (is_name name last && is_same_kind other cause || is_marked old name other)
-    by true here =
-        let same : key ≡ name = (bytes_eq-Decides key name).0 here in
-        ap (λ k. has_kind_of k other) (updates ∙ ap (λ b. cond b (Some kinds) (get_by (λ k. slice_cmp nat_cmp name k.now) old.kinds)) here) ∙ has
+    by : (key ≡ number) ⊎ (key ≡ number → ⊥) → is_marked new number other ≡ (is_last number (Some key) && is_same_kind other cause || is_marked old number other)
+    by (inl same) =
+        ap (λ k. has_kind_of k other) (updates ∙ ap (λ b. cond b (Some kinds) (get_by (λ k. nat_cmp number k) old.kinds)) (equal-is key number same)) ∙ has
         ∙ ap (λ n. is_same_kind other cause || is_marked old n other) same
-        ∙ ap (λ b. b && is_same_kind other cause || is_marked old name other) (sym (ap (is_name name) is ∙ here))
-    by false here =
-        ap (λ k. has_kind_of k other) (updates ∙ ap (λ b. cond b (Some kinds) (get_by (λ k. slice_cmp nat_cmp name k.now) old.kinds)) here)
-        ∙ ap (λ b. b && is_same_kind other cause || is_marked old name other) (sym (ap (is_name name) is ∙ here))
+        ∙ ap (λ b. b && is_same_kind other cause || is_marked old number other) (sym (equal-is key number same))
+    by (inr differs) =
+        ap (λ k. has_kind_of k other) (updates ∙ ap (λ b. cond b (Some kinds) (get_by (λ k. nat_cmp number k) old.kinds)) (equal-not key number differs))
+        ∙ ap (λ b. b && is_same_kind other cause || is_marked old number other) (sym (equal-not key number differs))
 
 or_swap : (a b : Bool) → (a || b) ≡ (b || a)
 or_swap true true = refl
@@ -210,41 +209,120 @@ or_swap true false = refl
 or_swap false true = refl
 or_swap false false = refl
 
-module _ (old new : Faults) (names : List (List ℕ)) (cause : Cause) (more : List Cause) (marked : AreMarked old) where
-  -- such a fault is listed already
-  pub lists_same : is_listed (listed old) (last_or None names) cause ≡ true → Lists old old names (cause ∷ more)
-  lists_same is = record { all = ap (λ b. cond b (listed old) (listed old ++ faults_of names (cause ∷ more))) (sym is); marked = marked }
+-- the last of numbers, and the last of their names
+last_mapped : (texts : List (List ℕ)) (start : Option ℕ) (numbers : List ℕ) → last_or (option_map (text_at texts) start) (map (text_at texts) numbers) ≡ option_map (text_at texts) (last_or start numbers)
+last_mapped texts start [] = refl
+last_mapped texts start (number ∷ numbers) = last_mapped texts (Some number) numbers
 
-  -- none is
-  pub lists_new : is_listed (listed old) (last_or None names) cause ≡ false → listed new ≡ listed old ++ faults_of names (cause ∷ more)
-      → ((name : List ℕ) (kind : Cause) → list_any (is_fault_of name kind) (faults_of names (cause ∷ more)) ≡ (is_name name (last_or None names) && is_same_kind kind cause))
-      → ((name : List ℕ) (kind : Cause) → is_marked new name kind ≡ (is_name name (last_or None names) && is_same_kind kind cause || is_marked old name kind)) → Lists old new names (cause ∷ more)
-  lists_new is added found marks = record {
-    all = added ∙ ap (λ b. cond b (listed old) (listed old ++ faults_of names (cause ∷ more))) (sym is);
-    marked = λ name kind.
-        let here = is_name name (last_or None names) && is_same_kind kind cause in
-        let any = list_any (is_fault_of name kind) in
-        marks name kind ∙ ap (λ m. here || m) (marked name kind) ∙ or_swap here (any (listed old)) ∙ ap (λ m. any (listed old) || m) (sym (found name kind))
-        ∙ sym (list_any-append (is_fault_of name kind) (listed old) (faults_of names (cause ∷ more))) ∙ ap any (sym added);
+last_within : (texts : List (List ℕ)) (start : Option ℕ) (numbers : List ℕ) → IfSome start (λ number. number < length texts) → AreWithin texts numbers → IfSome (last_or start numbers) (λ number. number < length texts)
+last_within texts start [] within all = within
+last_within texts start (number ∷ numbers) within all = last_within texts (Some number) numbers (All-head (λ number. number < length texts) number numbers all) (All-tail (λ number. number < length texts) number numbers all)
+
+is_name_last : (texts : List (List ℕ)) (number : ℕ) (name : List ℕ) (last : Option ℕ) → AreDistinct texts → IfSome last (λ other. other < length texts) → slice_get texts number ≡ Some name → is_name name (option_map (text_at texts) last) ≡ is_last number last
+is_name_last texts number name None distinct within said = refl
+is_name_last texts number name (Some other) distinct within said = same_text texts number other name distinct within said
+
+pub found_all : (texts : List (List ℕ)) (faults : List FoundFault) → map (fault_named texts) faults ≡ map (fault_of texts) (map found_of faults)
+found_all texts [] = refl
+found_all texts (fault ∷ faults) = ap (λ l. fault_named texts fault ∷ l) (found_all texts faults)
+
+-- these faults of the file that the names of these numbers lead to
+abbrev pub numbered : List ℕ → List Cause → List NumberedFault
+numbered numbers causes = map (λ cause. record { names = numbers; cause = cause }) causes
+
+numbered_all : (texts : List (List ℕ)) (numbers : List ℕ) (causes : List Cause) → map (fault_of texts) (numbered numbers causes) ≡ faults_of (map (text_at texts) numbers) causes
+numbered_all texts numbers [] = refl
+numbered_all texts numbers (cause ∷ causes) = ap (λ l. record { names = map (text_at texts) numbers; cause = cause } ∷ l) (numbered_all texts numbers causes)
+
+names_within : (texts : List (List ℕ)) (faults : List FoundFault) (found : List NumberedFault) → map found_of faults ≡ found → All (λ fault. AreWithin texts fault.names) found → AreNamed texts faults
+names_within texts [] found are all = All-nil (λ fault. AreWithin texts fault.names.items)
+names_within texts (fault ∷ faults) found are all =
+    let within = subst (All (λ (f : NumberedFault). AreWithin texts f.names)) (sym are) all in
+    All-cons (λ (f : FoundFault). AreWithin texts f.names.items) fault faults (All-head (λ (f : NumberedFault). AreWithin texts f.names) (found_of fault) (map found_of faults) within)
+    (names_within texts faults (map found_of faults) refl (All-tail (λ (f : NumberedFault). AreWithin texts f.names) (found_of fault) (map found_of faults) within))
+
+names_found : (texts : List (List ℕ)) (faults : List FoundFault) → AreNamed texts faults → All (λ fault. AreWithin texts fault.names) (map found_of faults)
+names_found texts [] all = All-nil (λ fault. AreWithin texts fault.names)
+names_found texts (fault ∷ faults) all = All-cons (λ (f : NumberedFault). AreWithin texts f.names) (found_of fault) (map found_of faults) (All-head (λ (f : FoundFault). AreWithin texts f.names.items) fault faults all) (names_found texts faults (All-tail (λ (f : FoundFault). AreWithin texts f.names.items) fault faults all))
+
+numbered_within : (texts : List (List ℕ)) (numbers : List ℕ) (causes : List Cause) → AreWithin texts numbers → All (λ fault. AreWithin texts fault.names) (numbered numbers causes)
+numbered_within texts numbers [] within = All-nil (λ fault. AreWithin texts fault.names)
+numbered_within texts numbers (cause ∷ causes) within = All-cons (λ (f : NumberedFault). AreWithin texts f.names) (record { names = numbers; cause = cause }) (numbered numbers causes) within (numbered_within texts numbers causes within)
+
+module _ (old new : Faults) (numbers : List ℕ) (cause : Cause) (more : List Cause) where
+  -- such a fault is listed exactly if it is marked
+  listed_as : (texts : List (List ℕ)) → AreWithin texts numbers → AreMarked texts old → (last : Option ℕ) → last_or None numbers ≡ last → is_marked_last old last cause ≡ is_listed (listed texts old) (option_map (text_at texts) last) cause
+  listed_as texts within marked None is = refl
+  listed_as texts within marked (Some number) is =
+      let lt = subst (λ l. IfSome l (λ n. n < length texts)) is (last_within texts None numbers tt within) in
+      marked.marks number (text_at texts number) cause (text_at-there texts number lt)
+
+  listed_is : (texts : List (List ℕ)) → AreWithin texts numbers → AreMarked texts old → is_listed (listed texts old) (last_or None (map (text_at texts) numbers)) cause ≡ is_marked_last old (last_or None numbers) cause
+  listed_is texts within marked = ap (λ l. is_listed (listed texts old) l cause) (last_mapped texts None numbers) ∙ sym (listed_as texts within marked (last_or None numbers) refl)
+
+  -- such a fault is listed already
+  pub lists_same : is_marked_last old (last_or None numbers) cause ≡ true → AddsFaults old old numbers (cause ∷ more)
+  lists_same is = record {
+    over = λ texts distinct within marked.
+        let names = map (text_at texts) numbers in
+        record { all = ap (λ b. cond b (listed texts old) (listed texts old ++ faults_of names (cause ∷ more))) (sym (listed_is texts within marked ∙ is)); marked = marked };
   }
 
--- the last of the names of a slice
-pub last_at : (start : Option (List ℕ)) (names : List (Bor (List ℕ))) (name : Bor (List ℕ)) (n : ℕ) → length names ≡ suc n → Some name ≡ slice_get names n → last_or start (names_seen names) ≡ Some name.now
-last_at start [] name n long is = absurd (omega (arith, long))
-last_at start (first ∷ []) name zero long is = let same : name ≡ first = cc in ap (λ x. Some x.now) (sym same)
-last_at start (first ∷ []) name (suc n) long is = absurd (omega (arith, long))
-last_at start (first ∷ next ∷ names) name zero long is = absurd (omega (arith, long))
-last_at start (first ∷ next ∷ names) name (suc n) long is = last_at (Some first.now) (next ∷ names) name n (omega (arith, long)) is
+  -- none is
+  pub lists_new : is_marked_last old (last_or None numbers) cause ≡ false → map found_of new.list.items ≡ map found_of old.list.items ++ numbered numbers (cause ∷ more)
+      → ((names : List (List ℕ)) (name : List ℕ) (kind : Cause) → list_any (is_fault_of name kind) (faults_of names (cause ∷ more)) ≡ (is_name name (last_or None names) && is_same_kind kind cause))
+      → ((number : ℕ) (kind : Cause) → is_marked new number kind ≡ (is_last number (last_or None numbers) && is_same_kind kind cause || is_marked old number kind)) → AddsFaults old new numbers (cause ∷ more)
+  lists_new is added found marks = record {
+    over = λ texts distinct within marked.
+        let names = map (text_at texts) numbers in
+        let all : listed texts new ≡ listed texts old ++ faults_of names (cause ∷ more) =
+        found_all texts new.list.items ∙ ap (map (fault_of texts)) added ∙ map-append (fault_of texts) (map found_of old.list.items) (numbered numbers (cause ∷ more))
+        ∙ ap (λ l. l ++ map (fault_of texts) (numbered numbers (cause ∷ more))) (sym (found_all texts old.list.items)) ∙ ap (λ l. listed texts old ++ l) (numbered_all texts numbers (cause ∷ more)) in
+        record {
+          all = all ∙ ap (λ b. cond b (listed texts old) (listed texts old ++ faults_of names (cause ∷ more))) (sym (listed_is texts within marked ∙ is));
+          marked = record {
+            marks = λ number name kind said.
+                let any = list_any (is_fault_of name kind) in
+                let here = is_name name (last_or None names) && is_same_kind kind cause in
+                let last : is_last number (last_or None numbers) ≡ is_name name (last_or None names) =
+                sym (ap (is_name name) (last_mapped texts None numbers) ∙ is_name_last texts number name (last_or None numbers) distinct (last_within texts None numbers tt within) said) in
+                marks number kind ∙ ap (λ b. b && is_same_kind kind cause || is_marked old number kind) last
+                ∙ ap (λ m. here || m) (marked.marks number name kind said) ∙ or_swap here (any (listed texts old)) ∙ ap (λ m. any (listed texts old) || m) (sym (found names name kind))
+                ∙ sym (list_any-append (is_fault_of name kind) (listed texts old) (faults_of names (cause ∷ more))) ∙ ap any (sym all);
+            named = names_within texts new.list.items _ added (All-append (λ (f : NumberedFault). AreWithin texts f.names) (map found_of old.list.items) (numbered numbers (cause ∷ more)) (names_found texts old.list.items marked.named) (numbered_within texts numbers (cause ∷ more) within));
+          };
+        };
+  }
 
-pub last_named : (names : List (Bor (List ℕ))) (name : Bor (List ℕ)) → Some name ≡ slice_get names (length names - 1) → last_or None (names_seen names) ≡ Some name.now
-last_named [] name is = absurd (cc)
-last_named (first ∷ names) name is = last_at None (first ∷ names) name (length names) (omega arith) (is ∙ ap (slice_get (first ∷ names)) (omega arith))
+-- without names nothing more is listed
+pub lists_none : (faults : Faults) (numbers : List ℕ) → AddsFaults faults faults numbers []
+lists_none faults numbers = record { over = λ texts distinct within marked. record { all = refl; marked = marked } }
 
--- a fault is put after those that there are
-pub fault_put : (old new : List Refusal) (refusal : Refusal) (names : List (List ℕ)) (cause : Cause) → new ≡ old ++ refusal ∷ [] → names_seen refusal.names.items ≡ names → refusal.cause ≡ cause → faults_seen new ≡ faults_seen old ++ faults_of names (cause ∷ [])
-fault_put old new refusal names cause is same same_cause =
-    ap faults_seen is ∙ map-append fault_seen old (refusal ∷ []) ∙ ap (λ n. faults_seen old ++ record { names = n; cause = refusal.cause } ∷ []) same ∙ ap (λ k. faults_seen old ++ record { names = names; cause = k } ∷ []) same_cause
+-- the last of the numbers of a slice
+pub last_at : (start : Option ℕ) (numbers : List ℕ) (number n : ℕ) → length numbers ≡ suc n → Some number ≡ slice_get numbers n → last_or start numbers ≡ Some number
+last_at start [] number n long is = absurd (omega (arith, long))
+last_at start (first ∷ []) number zero long is = sym is
+last_at start (first ∷ []) number (suc n) long is = absurd (omega (arith, long))
+last_at start (first ∷ next ∷ numbers) number zero long is = absurd (omega (arith, long))
+last_at start (first ∷ next ∷ numbers) number (suc n) long is = last_at (Some first) (next ∷ numbers) number n (omega (arith, long)) is
+
+pub last_numbered : (numbers : List ℕ) (number : ℕ) → Some number ≡ slice_get numbers (length numbers - 1) → last_or None numbers ≡ Some number
+last_numbered [] number is = absurd (cc)
+last_numbered (first ∷ numbers) number is = last_at None (first ∷ numbers) number (length numbers) (omega arith) (is ∙ ap (slice_get (first ∷ numbers)) (omega arith))
 
 pub begins_with : (stops : List Stop) (first : Stop) → Some first ≡ slice_get stops 0 → (more : List Stop) × (stops ≡ first ∷ more)
 begins_with [] first is = absurd (cc)
 begins_with (stop ∷ stops) first is = let same : first ≡ stop = cc in (stops, ap (λ s. s ∷ stops) (sym same))
+
+-- a fault is put after the others
+pub fault_put : (old new : List FoundFault) (fault : FoundFault) (numbers : List ℕ) (cause : Cause) → new ≡ old ++ fault ∷ [] → fault.names.items ≡ numbers → fault.cause ≡ cause → map found_of new ≡ map found_of old ++ numbered numbers (cause ∷ [])
+fault_put old new fault numbers cause is same same_cause =
+    ap (map found_of) is ∙ map-append found_of old (fault ∷ []) ∙ ap (λ n. map found_of old ++ record { names = n; cause = fault.cause } ∷ []) same ∙ ap (λ k. map found_of old ++ record { names = numbers; cause = k } ∷ []) same_cause
+
+pub numbered_stops : (numbers : List ℕ) (stops : List Stop) → map (λ stop. record { names = numbers; cause = Malformed stop }) stops ≡ numbered numbers (map Malformed stops)
+numbered_stops numbers [] = refl
+numbered_stops numbers (stop ∷ stops) = ap (λ l. record { names = numbers; cause = Malformed stop } ∷ l) (numbered_stops numbers stops)
+
+pub none_first : (stops : List Stop) → None ≡ slice_get stops 0 → stops ≡ []
+none_first [] none = refl
+none_first (stop ∷ stops) none = absurd (cc)

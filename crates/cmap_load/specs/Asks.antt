@@ -2,9 +2,9 @@
 use Rattle.cmap_load.specs.Kept.{IsWanted}
 use Rattle.cmap_load.specs.declared.salvage.asker.Asked.{Asked}
 use Rattle.cmap_load.specs.declared.salvage.asker.Asked.TheVariants as asked
-use Rattle.cmap_load.specs.declared.salvage.kept.KeptFiles.{KeptFiles}
+use Rattle.cmap_load.specs.declared.graph.Graph.{Graph}
 
-abbrev pub IsAsked : KeptFiles → Asked → Type 0
-IsAsked files asked.Further = Unit {0}
-IsAsked files (asked.Wanted unread) = IsWanted files unread
-IsAsked files asked.Nothing = Unit {0}
+abbrev pub IsAsked : Graph → Asked → Type 0
+IsAsked graph asked.Further = Unit {0}
+IsAsked graph (asked.Wanted unread) = IsWanted graph unread
+IsAsked graph asked.Nothing = Unit {0}

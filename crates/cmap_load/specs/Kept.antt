@@ -9,12 +9,13 @@ use Rattle.cmap_values.specs.declared.fault.Stop.{Stop}
 use Rattle.cmap_layers.specs.Layers.{Layer, layer_of}
 use Rattle.cmap_load.specs.Budgets.{IsOver}
 use Rattle.cmap_load.specs.Graphs.{IsFileOf}
+use Rattle.cmap_load.specs.declared.graph.Graph.{Graph}
+use Rattle.cmap_load.specs.declared.table.Table.{Table}
 use Rattle.cmap_load.specs.Loads.{IsSet}
 use Rattle.cmap_load.specs.Maps.{most_files}
-use Rattle.cmap_load.specs.NameLists.{AreNumbered, texts_of}
 use Rattle.cmap_load.specs.Numbers.{text_at}
 use Rattle.cmap_load.specs.Salvage.{Found, NamedFault, Opening, Reading, SalvagesOver, list_each}
-use Rattle.cmap_load.specs.Tables.{contents_layer, file_of}
+use Rattle.cmap_load.specs.Tables.{HasTexts, IsTable, contents_layer, file_of}
 use Rattle.cmap_load.specs.declared.graph.Node.{Node}
 use Rattle.cmap_load.specs.declared.salvage.kept.KeptFiles.{KeptFiles}
 use Rattle.cmap_load.specs.declared.salvage.kept.Known.{Known}
@@ -28,8 +29,15 @@ pub data Stored : Type 0 where
   too_long : ℕ → Stored
 
 -- ---- the files
-abbrev pub texts_in : KeptFiles → List (List ℕ)
-texts_in files = texts_of files.load.list
+-- the texts of the names, the files, the faults of each file, and the lengths of the files that exceed the budget, by the numbers of their names
+pub record Files : Type 0 where
+  pub texts : List (List ℕ)
+  pub table : Table
+  pub stops : List (Option (Vec Stop))
+  pub long_at : ℕ → Option ℕ
+
+abbrev pub files_of : {N : Type 0} → (N → List (List ℕ)) → KeptFiles N → Files
+files_of texts kept = record { texts = texts kept.load.list; table = kept.load.table; stops = kept.stops.items; long_at = λ name. get_by (λ other. nat_cmp name other) kept.too_long }
 
 abbrev pub length_of : Option Node → ℕ
 length_of None = 0
@@ -52,51 +60,45 @@ abbrev pub layer_in : List Contents → Option ℕ → Layer
 layer_in contents None = layer_of no_file
 layer_in contents (Some i) = layer_with (slice_get contents i)
 
-module _ (files : KeptFiles) where
-  -- the length of a file that exceeds the budget
-  abbrev pub long_at : ℕ → Option ℕ
-  long_at name = get_by (λ other. nat_cmp name other) files.too_long
-
+module _ (files : Files) where
   -- a file was read at this index
   abbrev pub IsReadAt : ℕ → Type 0
-  IsReadAt i = (stops : Vec Stop) × (slice_get files.stops.items i ≡ Some (Some stops))
+  IsReadAt i = (stops : Vec Stop) × (slice_get files.stops i ≡ Some (Some stops))
 
   -- the file at an index; without an index, an empty file
   abbrev pub file_at : Option ℕ → File
   file_at None = no_file
-  file_at (Some i) = file_with (slice_get files.load.table.contents.items i) (uses_in (texts_in files) (slice_get files.load.table.graph.nodes.items i))
+  file_at (Some i) = file_with (slice_get files.table.contents.items i) (uses_in files.texts (slice_get files.table.graph.nodes.items i))
 
   abbrev pub layers_on : List (Option ℕ) → List Layer
-  layers_on path = map (layer_in files.load.table.contents.items) path
+  layers_on path = map (layer_in files.table.contents.items) path
 
   -- the names, the files and their faults are right
   pub record AreKept : Type 0 where
-    pub set : IsSet texts_of AreNumbered files.load
-    pub stops : length files.stops.items ≡ length files.load.table.graph.nodes.items
+    pub table : IsTable files.table
+    pub texts_are : HasTexts files.texts files.table.graph
+    pub stops : length files.stops ≡ length files.table.graph.nodes.items
 
   -- ---- names
-  abbrev pub IsWanted : Unread → Type 0
-  IsWanted unread = slice_get files.load.table.graph.found.items unread.name ≡ Some None
-
   abbrev pub IsFound : ℕ → Option ℕ → Known → Type 0
-  IsFound name left (known.Read i) = IsFileOf files.load.table.graph name i × IsReadAt i
-  IsFound name left (known.TooLong count) = (long_at name ≡ Some count) × IsOver left count
-  IsFound name left known.Nothing = (i : ℕ) × IsFileOf files.load.table.graph name i × (slice_get files.stops.items i ≡ Some None)
-  IsFound name left known.Wanted = slice_get files.load.table.graph.found.items name ≡ Some None
+  IsFound name left (known.Read i) = IsFileOf files.table.graph name i × IsReadAt i
+  IsFound name left (known.TooLong count) = (files.long_at name ≡ Some count) × IsOver left count
+  IsFound name left known.Nothing = (i : ℕ) × IsFileOf files.table.graph name i × (slice_get files.stops i ≡ Some None)
+  IsFound name left known.Wanted = slice_get files.table.graph.found.items name ≡ Some None
 
   -- ---- a walk
   abbrev pub size : Stored → ℕ
-  size (at i) = length_of (slice_get files.load.table.graph.nodes.items i)
+  size (at i) = length_of (slice_get files.table.graph.nodes.items i)
   size (too_long count) = count
 
   abbrev pub IsPast : Stored → File → List Stop → Type 0
-  IsPast (at i) file stops = (listed : Vec Stop) × (slice_get files.stops.items i ≡ Some (Some listed)) × (file ≡ file_at (Some i)) × (stops ≡ listed.items)
+  IsPast (at i) file stops = (listed : Vec Stop) × (slice_get files.stops i ≡ Some (Some listed)) × (file ≡ file_at (Some i)) × (stops ≡ listed.items)
   IsPast (too_long count) file stops = ⊥
 
   abbrev pub IsAnswer : List ℕ → Option Stored → Type 0
-  IsAnswer name None = (number i : ℕ) × (slice_get (texts_in files) number ≡ Some name) × IsFileOf files.load.table.graph number i × (slice_get files.stops.items i ≡ Some None)
-  IsAnswer name (Some (at i)) = (number : ℕ) × (slice_get (texts_in files) number ≡ Some name) × IsFileOf files.load.table.graph number i × IsReadAt i
-  IsAnswer name (Some (too_long count)) = (number : ℕ) × (slice_get (texts_in files) number ≡ Some name) × (long_at number ≡ Some count)
+  IsAnswer name None = (number i : ℕ) × (slice_get files.texts number ≡ Some name) × IsFileOf files.table.graph number i × (slice_get files.stops i ≡ Some None)
+  IsAnswer name (Some (at i)) = (number : ℕ) × (slice_get files.texts number ≡ Some name) × IsFileOf files.table.graph number i × IsReadAt i
+  IsAnswer name (Some (too_long count)) = (number : ℕ) × (slice_get files.texts number ≡ Some name) × (files.long_at number ≡ Some count)
 
   -- the files are the sources, and give the answers
   abbrev pub Over : ℕ → List (List ℕ) → Stored → Opening → Found → Type 0
@@ -108,3 +110,12 @@ module _ (files : KeptFiles) where
     pub after : Opening
     pub over : Over most_files [] (at 0) (record { left = budget; closed = false }) (record { layers = layers; readings = readings; after = after })
     pub listed : faults ≡ list_each [] readings
+
+-- the file of a name is wanted
+abbrev pub IsWanted : Graph → Unread → Type 0
+IsWanted graph unread = slice_get graph.found.items unread.name ≡ Some None
+
+-- the names, the files and their faults are right, and each name is found
+pub record IsKept {N : Type 0} (texts : N → List (List ℕ)) (are_numbered : N → Type 0) (kept : KeptFiles N) : Type 0 where
+  pub set : IsSet texts are_numbered kept.load
+  pub stops : length kept.stops.items ≡ length kept.load.table.graph.nodes.items

@@ -1,8 +1,5 @@
--- Private aid: files that were read, by their names, and the bytes that a further use of a file spends.
-use Rattle.std.specs.Prelude.{◌≡◌, ℕ, ◌+◌, List, Option, Some, None}
-use Rattle.std.specs.Ordering.{nat_cmp}
-use Rattle.std.specs.Cmp.Lexicographic.{slice_cmp}
-use Rattle.std.specs.BTreeMap.{get_by}
+-- Private aid: files that were read, by the numbers of their names, and the bytes that a further use of a file spends.
+use Rattle.std.specs.Prelude.{◌≡◌, ℕ, ◌+◌, Option, Some, None, length, slice_get}
 use Rattle.cmap_load.specs.BytesSpent.{Leaves}
 use Rattle.cmap_load.specs.declared.known.KnownFile.{KnownFile}
 use Rattle.cmap_load.specs.declared.known.KnownFiles.{KnownFiles}
@@ -19,6 +16,14 @@ SpendsAgain spent None left = left ≡ None
 SpendsAgain None (Some budget) left = ⊥
 SpendsAgain (Some spent) (Some budget) left = Leaves (Some budget) spent left
 
--- the file that is known by a name
-abbrev pub file_known : KnownFiles → List ℕ → Option KnownFile
-file_known known name = get_by (λ other. slice_cmp nat_cmp name other.now) known.files
+-- the number of names
+abbrev pub names_in : KnownFiles → ℕ
+names_in known = length known.files.items
+
+abbrev pub known_at : Option (Option KnownFile) → Option KnownFile
+known_at None = None
+known_at (Some file) = file
+
+-- the file that is known by the number of a name
+abbrev pub file_known : KnownFiles → ℕ → Option KnownFile
+file_known known name = known_at (slice_get known.files.items name)

@@ -1,14 +1,13 @@
 //! A list of faults, in which the faults of each file stand once.
 
-ghost use Rattle.std.specs.Prelude.{◌≡◌, ◌∷◌, ◌++◌, ◌&&◌, ◌||◌, ℕ, List, None, [], OnOk, map};
+ghost use Rattle.std.specs.Prelude.{◌≡◌, ◌∷◌, ◌++◌, ◌&&◌, ◌||◌, ℕ, IfOk, None, [], OnOk, false, map};
 ghost use Rattle.std.specs.List.{last_or};
-ghost use Rattle.cmap_values.specs.NamesSeen.{names_seen};
-ghost use Rattle.cmap_load.specs.Salvage.{faults_of, is_listed, is_name, is_same_kind};
-ghost use Rattle.cmap_load.specs.SalvageSeen.{AreMarked, Lists, has_kind, is_marked, listed};
+ghost use Rattle.cmap_load.specs.Salvage.{is_same_kind};
+ghost use Rattle.cmap_load.specs.SalvageSeen.{AddsFaults, found_of, has_kind, is_last, is_marked, is_marked_last};
 ghost use Rattle.cmap_load.specs.declared.refusal.Cause.{Cause};
 ghost use Rattle.cmap_load.specs.declared.refusal.Cause.TheVariants.{Malformed};
 
-use crate::refusal::{Cause, Refusal};
+use crate::refusal::Cause;
 use cmap_layers::lists::put_last;
 use cmap_values::fault::Stop;
 use std::alloc::{AllocError, Global};
@@ -56,19 +55,35 @@ impl Kinds {
     }
 }
 
-/// The faults of files, each with the names that lead to its file.
+/// A fault: the numbers of the names that lead to its file, and the cause.
 #[derive(Drop)]
-pub(crate) struct Faults<'a> {
-    pub(crate) list: Vec<Refusal<'a>>,
-    /// The kinds of the listed faults, by the last of the names. The top file has no name, and is
-    /// read once.
-    pub(crate) kinds: BTreeMap<&'a [u8], Kinds>,
+pub(crate) struct FoundFault {
+    pub(crate) names: Vec<usize>,
+    pub(crate) cause: Cause,
 }
 
-impl<'a> Faults<'a> {
+impl FoundFault {
+    pub(crate) fn new(alloc: Global, names: &[usize], cause: Cause) -> Result<Self, AllocError>
+        ensures { IfOk result (λ fault. (fault.names.items ≡ names.now) × (fault.cause ≡ cause)) }
+    {
+        let names = Vec::from_slice(alloc, names)?;
+        Ok(FoundFault { names, cause })
+    }
+}
+
+/// The faults of files.
+#[derive(Drop)]
+pub(crate) struct Faults {
+    pub(crate) list: Vec<FoundFault>,
+    /// The kinds of the listed faults, by the last of the names. The top file has no name, and is
+    /// read once.
+    pub(crate) kinds: BTreeMap<usize, Kinds>,
+}
+
+impl Faults {
     pub(crate) fn new(alloc: Global) -> Self
         ensures none { result.list.items ≡ [] }
-        ensures marked { AreMarked result }
+        ensures marked { (number : ℕ) (cause : Cause) → is_marked result number cause ≡ false }
     {
         Faults {
             list: Vec::new(alloc),
@@ -81,16 +96,15 @@ impl<'a> Faults<'a> {
     pub(crate) fn add(
         &mut self,
         alloc: Global,
-        names: &[&'a [u8]],
+        names: &[usize],
         cause: Cause,
     ) -> Result<(), AllocError>
-        requires { AreMarked self.old }
-        ensures { OnOk result (Lists self.old self.new (names_seen names.now) (cause ∷ [])) }
+        ensures { OnOk result (AddsFaults self.old self.new names.now (cause ∷ [])) }
     {
         if self.has(names, cause) {
             return Ok(());
         }
-        put_last(Refusal::new(alloc, names, cause), &mut self.list)?;
+        put_last(FoundFault::new(alloc, names, cause), &mut self.list)?;
         self.mark(names, cause)
     }
 
@@ -98,12 +112,10 @@ impl<'a> Faults<'a> {
     pub(crate) fn add_stops(
         &mut self,
         alloc: Global,
-        names: &[&'a [u8]],
+        names: &[usize],
         stops: &[Stop],
     ) -> Result<(), AllocError>
-        requires { AreMarked self.old }
-        ensures { OnOk result
-            (Lists self.old self.new (names_seen names.now) (map Malformed stops.now)) }
+        ensures { OnOk result (AddsFaults self.old self.new names.now (map Malformed stops.now)) }
     {
         let Some(first) = stops.first() else {
             return Ok(());
@@ -119,24 +131,24 @@ impl<'a> Faults<'a> {
     fn put_stops(
         &mut self,
         alloc: Global,
-        names: &[&'a [u8]],
+        names: &[usize],
         stops: &[Stop],
     ) -> Result<(), AllocError>
-        ensures added { OnOk result (listed self.new
-            ≡ listed self.old ++ faults_of (names_seen names.now) (map Malformed stops.now)) }
+        ensures added { OnOk result (map found_of self.new.list.items
+            ≡ map found_of self.old.list.items
+            ++ map (λ stop. record { names = names.now; cause = Malformed stop }) stops.now) }
         ensures same { OnOk result (self.new.kinds ≡ self.old.kinds) }
     {
         for stop in stops {
-            let fault = Refusal::new(alloc, names, Cause::Malformed(*stop));
+            let fault = FoundFault::new(alloc, names, Cause::Malformed(*stop));
             put_last(fault, &mut self.list)?;
         }
         Ok(())
     }
 
     /// Whether the file that the names lead to has a fault of this kind.
-    fn has(&self, names: &[&'a [u8]], cause: Cause) -> bool
-        requires { AreMarked self.now }
-        ensures { result ≡ is_listed (listed self.now) (last_or None (names_seen names.now)) cause }
+    fn has(&self, names: &[usize], cause: Cause) -> bool
+        ensures { result ≡ is_marked_last self.now (last_or None names.now) cause }
     {
         match names.last() {
             Some(name) => self.kinds_of(*name).has(cause),
@@ -144,10 +156,10 @@ impl<'a> Faults<'a> {
         }
     }
 
-    fn mark(&mut self, names: &[&'a [u8]], cause: Cause) -> Result<(), AllocError>
-        ensures marked { OnOk result ((name : List ℕ) (other : Cause) → is_marked self.new name other
-            ≡ (is_name name (last_or None (names_seen names.now)) && is_same_kind other cause
-            || is_marked self.old name other)) }
+    fn mark(&mut self, names: &[usize], cause: Cause) -> Result<(), AllocError>
+        ensures marked { OnOk result ((number : ℕ) (other : Cause) → is_marked self.new number other
+            ≡ (is_last number (last_or None names.now) && is_same_kind other cause
+            || is_marked self.old number other)) }
         ensures same { self.new.list ≡ self.old.list }
     {
         let Some(name) = names.last() else {
@@ -161,10 +173,10 @@ impl<'a> Faults<'a> {
         }
     }
 
-    fn kinds_of(&self, name: &[u8]) -> Kinds
-        ensures { (cause : Cause) → has_kind result cause ≡ is_marked self.now name.now cause }
+    fn kinds_of(&self, name: usize) -> Kinds
+        ensures { (cause : Cause) → has_kind result cause ≡ is_marked self.now name cause }
     {
-        match self.kinds.get(name) {
+        match self.kinds.get(&name) {
             Some(kinds) => *kinds,
             None => NO_KINDS,
         }

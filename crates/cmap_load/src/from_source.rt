@@ -10,9 +10,9 @@ ghost use Rattle.cmap_binary.specs.BundleSeen.{tables_given};
 ghost use Rattle.cmap_values.specs.NamesSeen.{names_seen};
 
 use crate::identity::identity_named;
-use crate::loader::{Loader, RefusedFile};
+use crate::loader::Loader;
 use crate::names::NameSlices;
-use crate::refusal::Refusal;
+use crate::refusal::{Cause, Refusal};
 use crate::source::Source;
 use cmap_binary::Bundle;
 use cmap_layers::layers::Layers;
@@ -39,7 +39,8 @@ pub fn read_layers<'a, S: Source>(
     match load.finish() {
         Ok(layers) => Ok(layers),
         Err(Fault::Refused(refused)) => {
-            let refusal = refusal_of(alloc, &refused)?;
+            let names = refused.names.as_slice();
+            let refusal = refusal_of(alloc, &refused.list, names, refused.cause)?;
             Err(Fault::Refused(refusal))
         }
         Err(Fault::Memory) => Err(Fault::Memory),
@@ -98,21 +99,20 @@ fn supply_all<'a, S: Source>(
 }
 
 /// A refusal with the names themselves.
-fn refusal_of<'a>(
+pub(crate) fn refusal_of<'a>(
     alloc: Global,
-    refused: &RefusedFile<NameSlices<'a>>,
+    list: &NameSlices<'a>,
+    numbers: &[usize],
+    cause: Cause,
 ) -> Result<Refusal<'a>, AllocError>
-    requires { AreWithin (texts_of refused.now.list) refused.now.names.items }
+    requires { AreWithin (texts_of list.now) numbers.now }
     ensures names { IfOk result (λ refusal. names_seen refusal.names.items
-        ≡ map (text_at (texts_of refused.now.list)) refused.now.names.items) }
-    ensures cause { IfOk result (λ refusal. refusal.cause ≡ refused.now.cause) }
+        ≡ map (text_at (texts_of list.now)) numbers.now) }
+    ensures cause { IfOk result (λ refusal. refusal.cause ≡ cause) }
 {
     let mut names = Vec::new(alloc);
-    for name in refused.names.as_slice() {
-        names.push(refused.list.texts[*name])?;
+    for number in numbers {
+        names.push(list.texts[*number])?;
     }
-    Ok(Refusal {
-        names,
-        cause: refused.cause,
-    })
+    Ok(Refusal { names, cause })
 }

@@ -1,10 +1,9 @@
 //! Files that were read, and that a further use need not read again.
 
-ghost use Rattle.std.specs.Prelude.{◌≡◌, ℕ, List, IfSome, None, OnOk, Some, bytes_eq, if◌then◌else◌};
-ghost use Rattle.cmap_load.specs.KnownFiles.{IsSpent, file_known};
+ghost use Rattle.std.specs.Prelude.{◌≡◌, ◌==◌, ◌<◌, ℕ, IfOk, IfSome, None, Some, if◌then◌else◌};
+ghost use Rattle.cmap_load.specs.KnownFiles.{IsSpent, file_known, names_in};
 
 use std::alloc::{AllocError, Global};
-use std::collections::BTreeMap;
 
 /// What is known of a file.
 #[derive(Clone, Copy)]
@@ -36,34 +35,38 @@ fn spent_between(before: Option<u64>, after: Option<u64>) -> Option<u64>
     before?.checked_sub(after?)
 }
 
-/// The files that are known, by their names.
+/// The files that are known, by the numbers of their names.
 #[derive(Drop)]
-pub(crate) struct KnownFiles<'a> {
-    files: BTreeMap<&'a [u8], KnownFile>,
+pub(crate) struct KnownFiles {
+    files: Vec<Option<KnownFile>>,
 }
 
-impl<'a> KnownFiles<'a> {
-    pub(crate) fn new(alloc: Global) -> Self
-        ensures { (name : List ℕ) → file_known result name ≡ None }
+impl KnownFiles {
+    /// No known file of so many names.
+    pub(crate) fn new(alloc: Global, names: usize) -> Result<Self, AllocError>
+        ensures known { IfOk result (λ known. (name : ℕ) → file_known known name ≡ None) }
+        ensures names { IfOk result (λ known. names_in known ≡ names) }
     {
-        KnownFiles {
-            files: BTreeMap::new(alloc),
+        let mut files = Vec::new(alloc);
+        files.resize(names, None)?;
+        Ok(KnownFiles { files })
+    }
+
+    pub(crate) fn find(&self, name: usize) -> Option<KnownFile>
+        ensures { result ≡ file_known self.now name }
+    {
+        match self.files.get(name) {
+            Some(file) => *file,
+            None => None,
         }
     }
 
-    pub(crate) fn find(&self, name: &[u8]) -> Option<KnownFile>
-        ensures { result ≡ file_known self.now name.now }
+    pub(crate) fn insert(&mut self, name: usize, file: KnownFile)
+        requires { name < names_in self.old }
+        ensures known { (other : ℕ) → file_known self.new other
+            ≡ (if name == other then Some file else file_known self.old other) }
+        ensures names { names_in self.new ≡ names_in self.old }
     {
-        self.files.get(name).copied()
-    }
-
-    pub(crate) fn insert(&mut self, name: &'a [u8], file: KnownFile) -> Result<(), AllocError>
-        ensures { OnOk result ((other : List ℕ) → file_known self.new other
-            ≡ (if bytes_eq name.now other then Some file else file_known self.old other)) }
-    {
-        match self.files.insert(name, file) {
-            Ok(_) => Ok(()),
-            Err(_) => Err(AllocError),
-        }
+        self.files[name] = Some(file);
     }
 }

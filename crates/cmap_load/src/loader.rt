@@ -16,7 +16,7 @@ ghost use Rattle.cmap_values.specs.Outcomes.{Outcome, RefusesWith};
 use crate::budget::spend;
 use crate::chain::read_file;
 use crate::graph::{Next, Node, Trail, Wanted};
-use crate::names::Names;
+use crate::names::{Names, Texts};
 use crate::refusal::{Cause, Refusal};
 use crate::table::{Contents, Table};
 use arrayvec::ArrayVec;
@@ -70,7 +70,7 @@ pub struct RefusedFile<N> {
     pub cause: Cause,
 }
 
-impl<'d, N: Names<'d>> RefusedFile<N> {
+impl<N: Texts> RefusedFile<N> {
     /// The refusal, with the names themselves.
     pub fn refusal(&self, alloc: Global) -> Result<Refusal<'_>, AllocError>
         requires { AreWithin (N.texts self.now.list) self.now.names.items }
@@ -78,7 +78,7 @@ impl<'d, N: Names<'d>> RefusedFile<N> {
             ≡ map (text_at (N.texts self.now.list)) self.now.names.items) }
         ensures cause { IfOk result (λ refusal. refusal.cause ≡ self.now.cause) }
     {
-        refusal(alloc, &self.list, &self.names, self.cause)
+        refusal(alloc, &self.list, self.names.as_slice(), self.cause)
     }
 }
 
@@ -216,7 +216,7 @@ impl<'d, N: Names<'d>> Loader<N> {
     {
         match &self.state {
             State::Refused(FaultyFile { names, cause }) => {
-                Ok(Some(refusal(alloc, &self.list, names, *cause)?))
+                Ok(Some(refusal(alloc, &self.list, names.as_slice(), *cause)?))
             }
             _ => Ok(None),
         }
@@ -368,19 +368,20 @@ impl<'d, N: Names<'d>> Loader<N> {
 
 /// The refusal of a file: the names of these numbers, which lead to the file at fault, and the
 /// cause.
-fn refusal<'n, 'd, N: Names<'d>>(
+pub(crate) fn refusal<'n, N: Texts>(
     alloc: Global,
     list: &'n N,
-    numbers: &Trail,
+    numbers: &[usize],
     cause: Cause,
 ) -> Result<Refusal<'n>, AllocError>
-    requires { AreWithin (N.texts list.now) numbers.now.items }
-    ensures refused { IfOk result (λ refusal. refused_of refusal
-        ≡ record { names = map (text_at (N.texts list.now)) numbers.now.items; cause = cause }) }
-    ensures few { IfOk result (λ refusal. length refusal.names.items ≤ 16) }
+    requires { AreWithin (N.texts list.now) numbers.now }
+    ensures names { IfOk result (λ refusal. names_seen refusal.names.items
+        ≡ map (text_at (N.texts list.now)) numbers.now) }
+    ensures cause { IfOk result (λ refusal. refusal.cause ≡ cause) }
+    ensures many { IfOk result (λ refusal. length refusal.names.items ≡ length numbers.now) }
 {
     let mut names = Vec::new(alloc);
-    for number in numbers.as_slice() {
+    for number in numbers {
         names.push(list.text(*number))?;
     }
     Ok(Refusal { names, cause })

@@ -7,32 +7,35 @@ use cmap_values::memory::both;
 use std::alloc::{AllocError, Global};
 use std::collections::BTreeMap;
 
-/// A list of names. The number of a name is its index. A name is a slice of bytes that live for
-/// `'d`; a list keeps the slice, or copies the bytes.
-pub trait Names<'d>: Sized + Drop {
+/// A list of names. The number of a name is its index.
+pub trait Texts {
     /// The texts of the names.
     ghost texts: { Self → List (List ℕ) };
 
+    /// The name of a number.
+    fn text(&self, number: usize) -> &[u8]
+        requires { number < length (texts self.now) }
+        ensures { result.now ≡ text_at (texts self.now) number };
+}
+
+/// A list to which names are added. A name is a slice of bytes that live for `'d`; a list keeps the
+/// slice, or copies the bytes.
+pub trait Names<'d>: Texts + Sized + Drop {
     /// The number of each name is found.
     ghost are_numbered: { Self → Type 0 };
 
     /// No names.
     fn new(alloc: Global) -> Self
         ensures numbered { are_numbered result }
-        ensures texts { texts result ≡ [] };
+        ensures texts { Self.texts result ≡ [] };
 
     /// The number of a name. A new name is added to the list.
     fn number(&mut self, name: &'d [u8]) -> Result<usize, AllocError>
         requires { are_numbered self.old }
         ensures numbered { are_numbered self.new }
-        ensures distinct { AreDistinct (texts self.old) → AreDistinct (texts self.new) }
-        ensures number { IfOk result (IsNumbered (texts self.old) (texts self.new) name.now) }
-        ensures same { OnErr result (texts self.new ≡ texts self.old) };
-
-    /// The name of a number.
-    fn text(&self, number: usize) -> &[u8]
-        requires { number < length (texts self.now) }
-        ensures { result.now ≡ text_at (texts self.now) number };
+        ensures distinct { AreDistinct (Self.texts self.old) → AreDistinct (Self.texts self.new) }
+        ensures number { IfOk result (IsNumbered (Self.texts self.old) (Self.texts self.new) name.now) }
+        ensures same { OnErr result (Self.texts self.new ≡ Self.texts self.old) };
 }
 
 /// Names as slices.
@@ -82,10 +85,18 @@ impl<'a> NameSlices<'a> {
     }
 }
 
-impl<'a> Names<'a> for NameSlices<'a> {
-    ghost use Rattle.cmap_load.specs.NameLists.{AreNumbered, texts_of};
+impl<'a> Texts for NameSlices<'a> {
+    ghost use Rattle.cmap_load.specs.NameLists.{texts_of};
 
     ghost texts = { texts_of };
+
+    fn text(&self, number: usize) -> &[u8] {
+        self.texts[number]
+    }
+}
+
+impl<'a> Names<'a> for NameSlices<'a> {
+    ghost use Rattle.cmap_load.specs.NameLists.{AreNumbered, texts_of};
 
     ghost are_numbered = { AreNumbered };
 
@@ -103,10 +114,6 @@ impl<'a> Names<'a> for NameSlices<'a> {
         let number = self.texts.len();
         self.add(name)?;
         Ok(number)
-    }
-
-    fn text(&self, number: usize) -> &[u8] {
-        self.texts[number]
     }
 }
 
@@ -160,10 +167,18 @@ impl NameCopies {
     }
 }
 
-impl<'d> Names<'d> for NameCopies {
-    ghost use Rattle.cmap_load.specs.NameCopies.{AreNumbered, texts_of};
+impl Texts for NameCopies {
+    ghost use Rattle.cmap_load.specs.NameCopies.{texts_of};
 
     ghost texts = { texts_of };
+
+    fn text(&self, number: usize) -> &[u8] {
+        &self.texts[number]
+    }
+}
+
+impl<'d> Names<'d> for NameCopies {
+    ghost use Rattle.cmap_load.specs.NameCopies.{AreNumbered, texts_of};
 
     ghost are_numbered = { AreNumbered };
 
@@ -182,9 +197,5 @@ impl<'d> Names<'d> for NameCopies {
         let number = self.texts.len();
         self.add(name)?;
         Ok(number)
-    }
-
-    fn text(&self, number: usize) -> &[u8] {
-        &self.texts[number]
     }
 }

@@ -1,9 +1,6 @@
 //! Why a file gives no map.
 
-ghost use Rattle.std.specs.Prelude.{◌≡◌, IfOk};
-
 use cmap_values::fault::Stop;
-use std::alloc::{AllocError, Global};
 use std::fmt::{self, Display, Formatter, Write};
 
 /// Why a file gives no map.
@@ -40,15 +37,4 @@ pub struct Refusal<'a> {
     /// name, and each named file uses the next name. The top file itself has no name.
     pub names: Vec<&'a [u8]>,
     pub cause: Cause,
-}
-
-impl<'a> Refusal<'a> {
-    /// The file that the names lead to, and why it is at fault.
-    pub(crate) fn new(alloc: Global, names: &[&'a [u8]], cause: Cause) -> Result<Self, AllocError>
-        ensures { IfOk result
-            (λ refusal. (refusal.names.items ≡ names.now) × (refusal.cause ≡ cause)) }
-    {
-        let names = Vec::from_slice(alloc, names)?;
-        Ok(Refusal { names, cause })
-    }
 }

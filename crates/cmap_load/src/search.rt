@@ -1,44 +1,46 @@
 //! The state of a search for layers.
 
-ghost use Rattle.std.specs.Prelude.{◌≡◌, ℕ, List, [], MatchOption, None};
-ghost use Rattle.cmap_load.specs.KnownFiles.{file_known};
+ghost use Rattle.std.specs.Prelude.{◌≡◌, ℕ, [], IfOk, MatchOption, None};
+ghost use Rattle.cmap_load.specs.KnownFiles.{file_known, names_in};
 ghost use Rattle.cmap_load.specs.Searches.{PassesOver};
 
 use crate::budget::spend_again;
 use crate::known::KnownFiles;
-use std::alloc::Global;
+use std::alloc::{AllocError, Global};
 
 /// The state of a search for layers.
 #[derive(Drop)]
-pub(crate) struct Search<'a> {
-    /// The names that lead to the file that is being read.
-    pub(crate) names: Vec<&'a [u8]>,
+pub(crate) struct Search {
+    /// The numbers of the names that lead to the file that is being read.
+    pub(crate) names: Vec<usize>,
     /// The rest of the budget, if there is one.
     pub(crate) left: Option<u64>,
     /// The files that need not be read again.
-    pub(crate) known: KnownFiles<'a>,
+    pub(crate) known: KnownFiles,
 }
 
-impl<'a> Search<'a> {
-    /// The state before the first file.
-    pub(crate) fn new(alloc: Global, budget: Option<u64>) -> Self
-        ensures names { result.names.items ≡ [] }
-        ensures left { result.left ≡ budget }
-        ensures known { (name : List ℕ) → file_known result.known name ≡ None }
+impl Search {
+    /// The state before the first file, where there are so many names.
+    pub(crate) fn new(alloc: Global, budget: Option<u64>, names: usize) -> Result<Self, AllocError>
+        ensures names { IfOk result (λ search. search.names.items ≡ []) }
+        ensures left { IfOk result (λ search. search.left ≡ budget) }
+        ensures known { IfOk result (λ search. (name : ℕ) → file_known search.known name ≡ None) }
+        ensures all { IfOk result (λ search. names_in search.known ≡ names) }
     {
-        Search {
+        let known = KnownFiles::new(alloc, names)?;
+        Ok(Search {
             names: Vec::new(alloc),
             left: budget,
-            known: KnownFiles::new(alloc),
-        }
+            known,
+        })
     }
 
     /// Passes over a use of a known file, if at most `below` files stand in the longest chain of
     /// the file, and the budget suffices. Returns the number of files in this chain; `None` if the
     /// use isn't passed over.
-    pub(crate) fn pass_over(&mut self, name: &[u8], below: u8) -> Option<u8>
+    pub(crate) fn pass_over(&mut self, name: usize, below: u8) -> Option<u8>
         ensures { MatchOption result (self.new ≡ self.old)
-            (PassesOver name.now below self.old self.new) }
+            (PassesOver name below self.old self.new) }
     {
         let file = self.known.find(name)?;
         if file.height <= below && spend_again(&mut self.left, file.spent) {

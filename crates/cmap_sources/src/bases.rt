@@ -10,7 +10,7 @@ use cmap_io::folders::{files_in, is_folder, name_of, why_no_folder};
 use cmap_io::inputs::{read, report_unreadable, unreadable};
 use cmap_io::path_text::path_bytes;
 use cmap_io::status::{ACCEPTED, FAILED};
-use hayro_cmap::{Bundle, BundleFiles, NamedFile, NamedFiles, Source, identity_text};
+use hayro_cmap::{Bundle, BundleFiles, NamedFile, NamedFiles, identity_text};
 use std::alloc::{AllocError, Global};
 use std::collections::BTreeMap;
 use std::io;
@@ -38,28 +38,6 @@ impl<'b> NamedFile for Base<'b> {
 
 /// The bases that were read.
 pub type Files<'f> = NamedFiles<'f, Base<'f>, Bundle<'f>>;
-
-/// The bases that were read, as the source of a parse. A base that isn't read yet is missing, even Identity-H.
-#[derive(Drop)]
-pub struct ReadBases<'f> {
-    pub files: Files<'f>,
-}
-
-impl<'f> Source for ReadBases<'f> {
-    ghost use Rattle.std.specs.Prelude.{◌≡◌, ⊤};
-    ghost use Rattle.cmap_binary.specs.BundleSeen.{bundle_seen};
-    ghost use Rattle.hayro_cmap.specs.NamedFiles.{file_named};
-
-    ghost can_ask = { λ bases. ⊤ };
-
-    ghost answers = { λ bases name answer. answer
-        ≡ file_named (λ base. base.name.items) (λ base. bytes_seen base.bytes) bundle_seen
-        bases.files.files.now bases.files.bundle name };
-
-    fn file(&self, name: &[u8]) -> Option<&[u8]> {
-        self.files.find(name)
-    }
-}
 
 /// A file that can't be read.
 #[derive(Drop)]
@@ -144,16 +122,8 @@ impl<'b> Bases<'b> {
         }
     }
 
-    /// The bases that were read, without the bundle. A file of the bundle is added to the bases when it is used, so
-    /// that a base of the same name comes first.
-    pub fn read_files(&self) -> ReadBases<'_> {
-        ReadBases {
-            files: NamedFiles::alone(self.read.as_slice()),
-        }
-    }
-
     /// Whether a file that isn't read yet may have this name.
-    pub fn has_unread(&self, name: &[u8]) -> bool {
+    fn has_unread(&self, name: &[u8]) -> bool {
         if self.base(name).is_some() {
             return false;
         }
@@ -170,14 +140,6 @@ impl<'b> Bases<'b> {
 
     fn bundle_file(&self, name: &[u8]) -> Option<&'b [u8]> {
         self.bundle?.file_of(name)
-    }
-
-    /// Reads the files of these names, except for files that were read before.
-    pub fn read_all(&mut self, rt: &HostRuntime, names: &[Vec<u8>]) -> Result<(), Failure> {
-        for name in names {
-            self.read(rt, name)?;
-        }
-        Ok(())
     }
 
     /// Reads the file of this name, unless it was read before. A base that can't be read is kept for the report, and

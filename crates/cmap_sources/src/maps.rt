@@ -8,12 +8,12 @@ use cmap_io::file_bytes::FileBytes;
 use cmap_io::folders::{is_file, is_folder, why_no_file};
 use cmap_io::inputs::{STANDARD_INPUT, needed, unreadable};
 use cmap_io::path_text::path_bytes;
-use hayro_cmap::{CMap, Fault, identity_text};
+use hayro_cmap::CMap;
 
 /// A file that is read, with its map.
 #[derive(Drop)]
 pub struct Opened<'b> {
-    /// The bytes of the file. A predefined CMap without a file has no bytes.
+    /// The bytes of the file.
     pub bytes: FileBytes<'b>,
     pub map: CMap,
 }
@@ -28,7 +28,7 @@ pub fn open<'b>(
 ) -> Result<Opened<'b>, Failure> {
     match bytes_of(rt, argument, bases)? {
         Some(bytes) => open_bytes(rt, argument, bytes, manner, bases),
-        None => open_predefined(rt, argument, bases),
+        None => Err(missing(rt, argument, bases)),
     }
 }
 
@@ -51,28 +51,9 @@ pub fn bytes_needed<'b>(
     argument: &str,
     bases: &mut Bases<'b>,
 ) -> Result<FileBytes<'b>, Failure> {
-    if let Some(bytes) = bytes_of(rt, argument, bases)? {
-        return Ok(bytes);
-    }
-    match identity_text(argument.as_bytes()) {
-        Some(text) => Ok(FileBytes::Lent(text)),
+    match bytes_of(rt, argument, bases)? {
+        Some(bytes) => Ok(bytes),
         None => Err(missing(rt, argument, bases)),
-    }
-}
-
-/// A predefined CMap that has no file.
-fn open_predefined<'b>(
-    rt: &HostRuntime,
-    name: &str,
-    bases: &Bases<'b>,
-) -> Result<Opened<'b>, Failure> {
-    match CMap::open(rt.alloc(), None, name.as_bytes(), None, &bases.read_files()) {
-        Ok(Some(map)) => Ok(Opened {
-            bytes: FileBytes::Lent(&[]),
-            map,
-        }),
-        Ok(None) | Err(Fault::Refused(_)) => Err(missing(rt, name, bases)),
-        Err(Fault::Memory) => Err(Failure::Memory),
     }
 }
 

@@ -1,14 +1,13 @@
-//! A file is read over the files that it uses: over each file once, up to a fault. A file with faults is then read past
-//! them, over the files that were read; if a file is missing, it is read, and the file with faults is read again.
+//! A file is read over the files that it uses, each of them once: up to a fault, or past all faults.
 
-ghost use Rattle.std.specs.Prelude.{◌≡◌, IfOk, None};
-ghost use Rattle.hayro_cmap.specs.Loaders.{AreNumbered, IsLoading, texts_of, wanted_of};
+ghost use Rattle.std.specs.Prelude.{◌≡◌, IfOk, None, true};
+ghost use Rattle.hayro_cmap.specs.Loaders.{AreNumbered, IsLoading, IsSalvaging, is_settled, texts_of, wanted_of};
 
 use crate::bases::{Bases, Files};
 use crate::fault_line::LineCounter;
 use crate::refused::{more_json, more_line, push_refusal_json, push_refusal_line};
 use cmap_io::failure::Failure;
-use hayro_cmap::{CMap, Cause, Fault, Loader, NameCopies, Refusal, SalvagedMap};
+use hayro_cmap::{CMap, Fault, Loader, NameCopies, Refusal, SalvageLoader, SalvagedMap};
 use std::alloc::{AllocError, Global};
 
 /// A file to be parsed.
@@ -25,14 +24,6 @@ pub struct Reading {
     pub map: Option<CMap>,
     /// A line for each fault, without its line end.
     pub faults: Vec<String>,
-}
-
-/// The result of reading a file past its faults, over the bases that were read.
-#[derive(Drop)]
-struct Pass {
-    reading: Reading,
-    /// The names of missing bases that can be read. If there are any, the file is read again.
-    missing: Vec<Vec<u8>>,
 }
 
 /// Which faults of a file are looked for.
@@ -65,11 +56,6 @@ pub struct Manner {
 /// The most faults of a file that are printed, if no option says otherwise.
 pub const MOST_FAULTS: u64 = 100;
 
-/// The most times that a file is read past its faults. The loop ends because each pass but the last misses a name that
-/// wasn't looked up before, and files use a limited number of names. No clause states that number, so the loop has this
-/// bound, which no run reaches.
-const MOST_PASSES: u32 = u32::MAX;
-
 /// Reads a file over the files that it uses. A file that is refused gives the refusal alone, or is read past all faults.
 pub fn read_over(
     rt: &HostRuntime,
@@ -77,19 +63,31 @@ pub fn read_over(
     manner: Manner,
     bases: &mut Bases<'_>,
 ) -> Result<Reading, Failure> {
+    match manner.faults {
+        Faults::First => read_strictly(rt, input, manner, bases),
+        Faults::All => read_past(rt, input, manner, bases),
+    }
+}
+
+/// Reads a file over the files that it uses. A file that is refused gives the refusal alone.
+fn read_strictly(
+    rt: &HostRuntime,
+    input: Input<'_>,
+    manner: Manner,
+    bases: &mut Bases<'_>,
+) -> Result<Reading, Failure> {
     let load = load(rt, input.bytes, manner.budget, bases)?;
-    match (load.finish(), manner.faults) {
-        (Ok(layers), _) => Ok(Reading {
+    match load.finish() {
+        Ok(layers) => Ok(Reading {
             map: Some(CMap::of(layers)),
             faults: Vec::new(rt.alloc()),
         }),
-        (Err(Fault::Refused(refused)), Faults::First) => {
+        Err(Fault::Refused(refused)) => {
             let refusal = refused.refusal(rt.alloc())?;
             let faults = lines_of(rt.alloc(), input, manner, bases, &[refusal])?;
             Ok(Reading { map: None, faults })
         }
-        (Err(Fault::Refused(_)), Faults::All) => read_past(rt, input, manner, bases),
-        (Err(Fault::Memory), _) => Err(Failure::Memory),
+        Err(Fault::Memory) => Err(Failure::Memory),
     }
 }
 
@@ -112,41 +110,37 @@ fn load(
     Ok(load)
 }
 
-/// Reads a file past its faults, until no base that can be read is missing.
+/// Reads a file over the files that it uses past their faults.
 fn read_past(
     rt: &HostRuntime,
     input: Input<'_>,
     manner: Manner,
     bases: &mut Bases<'_>,
 ) -> Result<Reading, Failure> {
-    let mut last = read_once(rt.alloc(), input, manner, bases)?;
-    for _ in 0..MOST_PASSES {
-        if last.missing.is_empty() {
-            break;
-        }
-        bases.read_all(rt, &last.missing)?;
-        last = read_once(rt.alloc(), input, manner, bases)?;
-    }
-    Ok(last.reading)
+    let load = load_past_faults(rt, input.bytes, manner.budget, bases)?;
+    let faults = lines_of_all(rt.alloc(), input, manner, bases, &load)?;
+    let map = Some(CMap::of(load.finish()?));
+    Ok(Reading { map, faults })
 }
 
-/// Reads a file past its faults, over the bases that were read.
-fn read_once(
-    alloc: Global,
-    input: Input<'_>,
-    manner: Manner,
-    bases: &Bases<'_>,
-) -> Result<Pass, AllocError> {
-    let files = bases.read_files();
-    let read = CMap::salvage(alloc, manner.budget, input.bytes, bases.bundle, &files)?;
-    let SalvagedMap { map, faults } = read;
-    let missing = missing_names(alloc, bases, &faults)?;
-    let faults = lines_of(alloc, input, manner, bases, &faults)?;
-    let map = Some(map);
-    Ok(Pass {
-        reading: Reading { map, faults },
-        missing,
-    })
+/// Supplies a loader that reads past faults with each file that it wants, so that each is read and parsed once.
+fn load_past_faults(
+    rt: &HostRuntime,
+    bytes: &[u8],
+    budget: Option<u64>,
+    bases: &mut Bases<'_>,
+) -> Result<SalvageLoader<NameCopies>, Failure>
+    ensures loading { IfOk result (IsSalvaging texts_of AreNumbered) }
+    ensures all { IfOk result (λ load. is_settled load ≡ true) }
+{
+    let mut load = SalvageLoader::<NameCopies>::new(rt.alloc(), budget, bytes, bases.bundle)?;
+    while load.wants()? {
+        let name = load.name();
+        bases.read(rt, name)?;
+        let file = bases.bytes_of(name);
+        load.supply(file, bases.bundle)?;
+    }
+    Ok(load)
 }
 
 /// The faults of a file that is read over these files past its faults. With `Faults::First`, there are none.
@@ -166,29 +160,19 @@ pub fn faults_of<'f>(
     }
 }
 
-/// The names of bases that are missing and aren't read yet.
-fn missing_names(
+/// The lines of the faults that a loader found.
+fn lines_of_all(
     alloc: Global,
+    input: Input<'_>,
+    manner: Manner,
     bases: &Bases<'_>,
-    faults: &[Refusal<'_>],
-) -> Result<Vec<Vec<u8>>, AllocError> {
-    let mut names = Vec::new(alloc);
-    for fault in faults {
-        if let Some(name) = missing_name(fault) {
-            if bases.has_unread(name) {
-                names.push(Vec::from_slice(alloc, name)?)?;
-            }
-        }
-    }
-    Ok(names)
-}
-
-/// The name of a missing base.
-fn missing_name<'n>(fault: &Refusal<'n>) -> Option<&'n [u8]> {
-    match fault.cause {
-        Cause::NoFile => fault.names.last().copied(),
-        _ => None,
-    }
+    load: &SalvageLoader<NameCopies>,
+) -> Result<Vec<String>, AllocError>
+    requires loading { IsSalvaging texts_of AreNumbered load.now }
+    requires all { is_settled load.now ≡ true }
+{
+    let faults = load.faults(alloc)?;
+    lines_of(alloc, input, manner, bases, &faults)
 }
 
 /// The lines of the printed faults, and a line with the number of the other faults.

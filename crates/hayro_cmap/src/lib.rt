@@ -15,7 +15,8 @@ pub use cmap_layers::stretches::{CidStretch, Cids, TextStretch};
 pub use cmap_layers::string_codes::StringCode;
 pub use cmap_load::named_files::{BundleFiles, NamedFile, NamedFiles};
 pub use cmap_load::{
-    Cause, Loader, NameCopies, NameSlices, Names, Refusal, RefusedFile, Source, identity_text,
+    Cause, Loader, NameCopies, NameSlices, Names, Refusal, RefusedFile, SalvageLoader, Source,
+    Texts, identity_text,
 };
 pub use cmap_runs::runs;
 pub use cmap_tokens::token;

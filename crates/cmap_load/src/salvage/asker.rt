@@ -6,9 +6,10 @@ ghost use Rattle.cmap_load.specs.Kept.{IsWanted};
 
 use crate::budget::spend;
 use crate::graph::Graph;
-use crate::salvage::kept::{KeptFiles, exceeds};
+use crate::salvage::kept::exceeds;
 use crate::salvage::walk::Unread;
 use arrayvec::ArrayVec;
+use std::collections::BTreeMap;
 
 /// The most uses that are looked at, which no run reaches.
 const MOST_STEPS: u64 = u64::MAX;
@@ -52,11 +53,11 @@ impl Asker {
     }
 
     /// The next name whose file is wanted; `None` if no further file is opened.
-    pub(crate) fn next(&mut self, files: &KeptFiles<'_>) -> Option<Unread>
-        ensures { IfSome result (IsWanted files.now) }
+    pub(crate) fn next(&mut self, graph: &Graph, too_long: &BTreeMap<usize, u64>) -> Option<Unread>
+        ensures { IfSome result (IsWanted graph.now) }
     {
         for _ in 0..MOST_STEPS {
-            match self.look(files) {
+            match self.look(graph, too_long) {
                 Asked::Further => {}
                 Asked::Wanted(unread) => return Some(unread),
                 Asked::Nothing => return None,
@@ -66,13 +67,13 @@ impl Asker {
     }
 
     /// Looks at the next use. After the last use of a file, the file that uses it goes on.
-    fn look(&mut self, files: &KeptFiles<'_>) -> Asked
-        ensures { IsAsked files.now result }
+    fn look(&mut self, graph: &Graph, too_long: &BTreeMap<usize, u64>) -> Asked
+        ensures { IsAsked graph.now result }
     {
         let Some(frame) = self.frames.pop() else {
             return Asked::Nothing;
         };
-        let Some(node) = files.load.table.graph.nodes.get(frame.at) else {
+        let Some(node) = graph.nodes.get(frame.at) else {
             return Asked::Nothing;
         };
         let Some(name) = node.uses.get(frame.looked) else {
@@ -83,25 +84,31 @@ impl Asker {
             self.frames.clear();
             return Asked::Nothing;
         }
-        let Some(found) = files.load.table.graph.found.get(*name) else {
+        let Some(found) = graph.found.get(*name) else {
             return Asked::Nothing;
         };
         let Some(at) = *found else {
-            return self.look_at_missing(*name, frame, files);
+            return self.look_at_missing(*name, frame, graph, too_long);
         };
-        self.open(at, frame, &files.load.table.graph);
+        self.open(at, frame, graph);
         Asked::Further
     }
 
     /// Passes over a use of a name without a file if the file exceeds the budget; else the file is
     /// wanted.
-    fn look_at_missing(&mut self, name: usize, frame: Frame, files: &KeptFiles<'_>) -> Asked
-        requires missing { slice_get files.now.load.table.graph.found.items name ≡ Some None }
+    fn look_at_missing(
+        &mut self,
+        name: usize,
+        frame: Frame,
+        graph: &Graph,
+        too_long: &BTreeMap<usize, u64>,
+    ) -> Asked
+        requires missing { slice_get graph.now.found.items name ≡ Some None }
         requires room { length self.old.frames.items < 15 }
-        ensures { IsAsked files.now result }
+        ensures { IsAsked graph.now result }
     {
         let left = self.left;
-        match files.too_long.get(&name) {
+        match too_long.get(&name) {
             Some(length) if exceeds(left, *length) => {
                 self.go_on(frame);
                 Asked::Further

@@ -5,27 +5,22 @@ ghost use Rattle.std.specs.Bool.{OnFalse, OnTrue};
 ghost use Rattle.std.specs.Option.{option_copied};
 ghost use Rattle.cmap_binary.specs.BundleSeen.{tables_given};
 ghost use Rattle.cmap_binary.specs.Bundles.{PrefixTables};
-ghost use Rattle.cmap_layers.specs.LayersSeen.{layers_seen};
 ghost use Rattle.cmap_load.specs.Budgets.{IsOver};
 ghost use Rattle.cmap_load.specs.Graphs.{AreNamed, IsBegun, IsNext};
-ghost use Rattle.cmap_load.specs.Kept.{AreKept, IsFound, IsReadAt, file_at, layers_on, texts_in};
+ghost use Rattle.cmap_load.specs.Kept.{AreKept, IsFound, IsKept, IsReadAt, file_at, files_of, layers_on};
 ghost use Rattle.cmap_load.specs.Numbers.{text_at};
 ghost use Rattle.cmap_load.specs.SalvageLoads.{Adds, AddsAnswer, Follows, HasNoFiles, IsKeptMore, Stays, Walks, is_found};
 ghost use Rattle.cmap_load.specs.Tables.{IsNew};
 
 use crate::budget::spend;
 use crate::chain::MOST_FILES;
-use crate::faults::Faults;
+use crate::faults::{Faults, FoundFault};
 use crate::graph::{Next, Wanted};
 use crate::loader::Loader;
-use crate::names::NameSlices;
-use crate::refusal::Refusal;
-use crate::salvage::path::layers_along;
+use crate::names::{Names, Texts};
 use crate::salvage::reading::read_past;
 use crate::salvage::walk::{Chain, Unread, Walk, walk_file};
-use crate::table::Table;
 use cmap_binary::Bundle;
-use cmap_layers::layer::Layer;
 use cmap_values::fault::{Fault, Stop};
 use cmap_values::file::{File, Salvaged};
 use std::alloc::{AllocError, Global};
@@ -47,79 +42,39 @@ pub(crate) enum Known {
 /// What was found of the top file: the indices of the files that give its layers, as in a `Chain`,
 /// and the faults.
 #[derive(Drop)]
-pub(crate) struct FoundFiles<'d> {
+pub(crate) struct FoundFiles {
     pub(crate) path: Vec<Option<usize>>,
-    pub(crate) faults: Vec<Refusal<'d>>,
+    pub(crate) faults: Vec<FoundFault>,
 }
 
 /// A file is wanted, or a walk has to tell what comes next, or the top file is found.
 #[derive(Drop)]
-pub(crate) enum Progress<'d> {
+pub(crate) enum Progress {
     Wanted(Unread),
     Open,
-    Found(FoundFiles<'d>),
+    Found(FoundFiles),
 }
 
 /// Files that were read past their faults.
 #[derive(Drop)]
-pub(crate) struct KeptFiles<'d> {
+pub(crate) struct KeptFiles<N> {
     /// The names and the files. A file that exceeds the budget is an empty file without a name.
-    pub(crate) load: Loader<NameSlices<'d>>,
+    pub(crate) load: Loader<N>,
     /// The faults of each file; `None` if there is no file, or if it wasn't read.
     pub(crate) stops: Vec<Option<Vec<Stop>>>,
     /// The lengths of the files that exceed the budget, by the numbers of their names.
     pub(crate) too_long: BTreeMap<usize, u64>,
 }
 
-impl<'d> KeptFiles<'d> {
+impl<'d, N: Names<'d>> KeptFiles<N> {
     /// No files.
     pub(crate) fn new(alloc: Global, budget: Option<u64>) -> Self
-        ensures { HasNoFiles budget result }
+        ensures { HasNoFiles N.texts N.are_numbered budget result }
     {
         KeptFiles {
             load: Loader::without_files(alloc, budget),
             stops: Vec::new(alloc),
             too_long: BTreeMap::new(alloc),
-        }
-    }
-
-    /// The text of the name of this number.
-    pub(crate) fn text(&self, name: usize) -> &'d [u8]
-        requires kept { AreKept self.now }
-        requires name { name < length self.now.load.table.graph.found.items }
-        ensures { result.now ≡ text_at (texts_in self.now) name }
-    {
-        self.load.list.texts[name]
-    }
-
-    /// The numbers of the names that a file uses; an empty file, `None`, uses nothing.
-    pub(crate) fn uses_of(&self, read: Option<usize>) -> &[usize]
-        requires kept { AreKept self.now }
-        requires there { IfSome read (λ at. at < length self.now.load.table.graph.nodes.items) }
-        ensures named { AreNamed self.now.load.table.graph result.now }
-        ensures uses { map (text_at (texts_in self.now)) result.now ≡ (file_at self.now read).uses }
-    {
-        match read {
-            Some(at) => &self.load.table.graph.nodes[at].uses,
-            None => &[],
-        }
-    }
-
-    /// What is known of the file of a name, where this is left of the budget.
-    pub(crate) fn find(&self, name: usize, left: Option<u64>) -> Known
-        requires kept { AreKept self.now }
-        requires name { name < length self.now.load.table.graph.found.items }
-        ensures { IsFound self.now name left result }
-    {
-        match self.load.table.graph.found[name] {
-            Some(i) => match &self.stops[i] {
-                Some(_) => Known::Read(i),
-                None => Known::Nothing,
-            },
-            None => match self.too_long.get(&name) {
-                Some(length) if exceeds(left, *length) => Known::TooLong(*length),
-                _ => Known::Wanted,
-            },
         }
     }
 
@@ -132,16 +87,17 @@ impl<'d> KeptFiles<'d> {
         bytes: Option<&'d [u8]>,
         bundle: Option<&Bundle<'_>>,
         asks: bool,
-    ) -> Result<Progress<'d>, AllocError>
-        requires kept { AreKept self.old }
+    ) -> Result<Progress, AllocError>
+        requires kept { IsKept N.texts N.are_numbered self.old }
         requires new { IsNew self.old.load.table.graph (Some name) }
         requires begun { IsBegun self.old.load.table.graph }
-        requires top { IsReadAt self.old 0 }
-        ensures kept { AreKept self.new }
-        ensures stays { OnErr result (Stays self.old self.new) }
-        ensures follows { IfOk result (Follows self.new) }
+        requires top { IsReadAt (files_of N.texts self.old) 0 }
+        ensures kept { IsKept N.texts N.are_numbered self.new }
+        ensures stays { OnErr result (Stays (files_of N.texts self.old) (files_of N.texts self.new)) }
+        ensures follows { IfOk result (Follows (files_of N.texts self.new)) }
         ensures open { IfOk result (λ progress. is_found progress ≡ false) }
-        ensures adds { OnOk result (AddsAnswer (tables_given bundle.entry) self.old self.new name
+        ensures adds { OnOk result (AddsAnswer (tables_given bundle.entry) (files_of N.texts self.old)
+            (files_of N.texts self.new) name
             (option_copied bytes.entry)) }
     {
         let Some(bytes) = bytes else {
@@ -160,16 +116,17 @@ impl<'d> KeptFiles<'d> {
         bytes: &'d [u8],
         bundle: Option<&Bundle<'_>>,
         asks: bool,
-    ) -> Result<Progress<'d>, AllocError>
-        requires kept { AreKept self.old }
+    ) -> Result<Progress, AllocError>
+        requires kept { IsKept N.texts N.are_numbered self.old }
         requires new { IsNew self.old.load.table.graph name }
         requires begun { (self.old.load.table.graph.nodes.items ≡ [])
-            ⊎ (IsBegun self.old.load.table.graph × IsReadAt self.old 0) }
-        ensures kept { AreKept self.new }
-        ensures stays { OnErr result (Stays self.old self.new) }
-        ensures follows { IfOk result (Follows self.new) }
+            ⊎ (IsBegun self.old.load.table.graph × IsReadAt (files_of N.texts self.old) 0) }
+        ensures kept { IsKept N.texts N.are_numbered self.new }
+        ensures stays { OnErr result (Stays (files_of N.texts self.old) (files_of N.texts self.new)) }
+        ensures follows { IfOk result (Follows (files_of N.texts self.new)) }
         ensures open { IfOk result (λ progress. is_found progress ≡ false) }
-        ensures adds { OnOk result (Adds (tables_given bundle.entry) self.old self.new name (Some bytes.now)) }
+        ensures adds { OnOk result (Adds (tables_given bundle.entry) (files_of N.texts self.old)
+            (files_of N.texts self.new) name (Some bytes.now)) }
     {
         let length = bytes.len() as u64;
         let Salvaged { file, faults } = read_past(self.load.alloc, bytes, bundle)?;
@@ -178,34 +135,36 @@ impl<'d> KeptFiles<'d> {
     }
 
     /// Notes that no file has a name, and goes on.
-    fn add_nothing(&mut self, name: usize, asks: bool) -> Result<Progress<'d>, AllocError>
-        requires kept { AreKept self.old }
+    fn add_nothing(&mut self, name: usize, asks: bool) -> Result<Progress, AllocError>
+        requires kept { IsKept N.texts N.are_numbered self.old }
         requires new { IsNew self.old.load.table.graph (Some name) }
         requires begun { IsBegun self.old.load.table.graph }
-        requires top { IsReadAt self.old 0 }
-        ensures kept { AreKept self.new }
-        ensures stays { OnErr result (Stays self.old self.new) }
-        ensures follows { IfOk result (Follows self.new) }
+        requires top { IsReadAt (files_of N.texts self.old) 0 }
+        ensures kept { IsKept N.texts N.are_numbered self.new }
+        ensures stays { OnErr result (Stays (files_of N.texts self.old) (files_of N.texts self.new)) }
+        ensures follows { IfOk result (Follows (files_of N.texts self.new)) }
         ensures open { IfOk result (λ progress. is_found progress ≡ false) }
         ensures adds { OnOk result ((tables : Option PrefixTables)
-            → AddsAnswer tables self.old self.new name None) }
+            → AddsAnswer tables (files_of N.texts self.old)
+            (files_of N.texts self.new) name None) }
     {
         let next = self.add(Some(name), 0, File::new(self.load.alloc), None, asks)?;
         Ok(self.progress(next))
     }
 
     /// Notes that the file of a name exceeds the budget.
-    fn add_too_long(&mut self, name: usize, bytes: &[u8]) -> Result<Progress<'d>, AllocError>
-        requires kept { AreKept self.old }
+    fn add_too_long(&mut self, name: usize, bytes: &[u8]) -> Result<Progress, AllocError>
+        requires kept { IsKept N.texts N.are_numbered self.old }
         requires new { IsNew self.old.load.table.graph (Some name) }
         requires begun { IsBegun self.old.load.table.graph }
-        requires top { IsReadAt self.old 0 }
-        ensures kept { AreKept self.new }
-        ensures stays { OnErr result (Stays self.old self.new) }
-        ensures follows { IfOk result (Follows self.new) }
+        requires top { IsReadAt (files_of N.texts self.old) 0 }
+        ensures kept { IsKept N.texts N.are_numbered self.new }
+        ensures stays { OnErr result (Stays (files_of N.texts self.old) (files_of N.texts self.new)) }
+        ensures follows { IfOk result (Follows (files_of N.texts self.new)) }
         ensures open { IfOk result (λ progress. is_found progress ≡ false) }
         ensures adds { OnOk result ((tables : Option PrefixTables)
-            → AddsAnswer tables self.old self.new name (Some bytes.now)) }
+            → AddsAnswer tables (files_of N.texts self.old)
+            (files_of N.texts self.new) name (Some bytes.now)) }
     {
         self.add(None, 0, File::new(self.load.alloc), None, false)?;
         match self.too_long.insert(name, bytes.len() as u64) {
@@ -224,13 +183,14 @@ impl<'d> KeptFiles<'d> {
         stops: Option<Vec<Stop>>,
         asks: bool,
     ) -> Result<Option<Next>, AllocError>
-        requires kept { AreKept self.old }
+        requires kept { IsKept N.texts N.are_numbered self.old }
         requires new { IsNew self.old.load.table.graph name }
         requires begun { (self.old.load.table.graph.nodes.items ≡ []) ⊎ IsBegun self.old.load.table.graph }
-        ensures kept { AreKept self.new }
-        ensures stays { OnErr result (Stays self.old self.new) }
+        ensures kept { IsKept N.texts N.are_numbered self.new }
+        ensures stays { OnErr result (Stays (files_of N.texts self.old) (files_of N.texts self.new)) }
         ensures begun { OnOk result (IsBegun self.new.load.table.graph) }
-        ensures added { OnOk result (IsKeptMore self.old self.new name length file.entry stops) }
+        ensures added { OnOk result (IsKeptMore (files_of N.texts self.old)
+            (files_of N.texts self.new) name length file.entry stops) }
         ensures next { IfOk result (λ next. IfSome next (IsNext self.new.load.table.graph)) }
     {
         self.stops.reserve(1)?;
@@ -243,13 +203,46 @@ impl<'d> KeptFiles<'d> {
         self.stops.push_reserved(stops);
         Ok(Some(next))
     }
+}
+
+impl<N: Texts> KeptFiles<N> {
+    /// The numbers of the names that a file uses; an empty file, `None`, uses nothing.
+    pub(crate) fn uses_of(&self, read: Option<usize>) -> &[usize]
+        requires kept { AreKept (files_of N.texts self.now) }
+        requires there { IfSome read (λ at. at < length self.now.load.table.graph.nodes.items) }
+        ensures named { AreNamed self.now.load.table.graph result.now }
+        ensures uses { map (text_at (N.texts self.now.load.list)) result.now ≡ (file_at (files_of N.texts self.now) read).uses }
+    {
+        match read {
+            Some(at) => &self.load.table.graph.nodes[at].uses,
+            None => &[],
+        }
+    }
+
+    /// What is known of the file of a name, where this is left of the budget.
+    pub(crate) fn find(&self, name: usize, left: Option<u64>) -> Known
+        requires kept { AreKept (files_of N.texts self.now) }
+        requires name { name < length self.now.load.table.graph.found.items }
+        ensures { IsFound (files_of N.texts self.now) name left result }
+    {
+        match self.load.table.graph.found[name] {
+            Some(i) => match &self.stops[i] {
+                Some(_) => Known::Read(i),
+                None => Known::Nothing,
+            },
+            None => match self.too_long.get(&name) {
+                Some(length) if exceeds(left, *length) => Known::TooLong(*length),
+                _ => Known::Wanted,
+            },
+        }
+    }
 
     /// What comes next. A file that exceeded the budget where it was first used isn't wanted again.
-    fn progress(&self, next: Option<Next>) -> Progress<'d>
+    fn progress(&self, next: Option<Next>) -> Progress
         requires begun { IsBegun self.now.load.table.graph }
-        requires top { IsReadAt self.now 0 }
+        requires top { IsReadAt (files_of N.texts self.now) 0 }
         requires next { IfSome next (IsNext self.now.load.table.graph) }
-        ensures follows { Follows self.now result }
+        ensures follows { Follows (files_of N.texts self.now) result }
         ensures open { is_found result ≡ false }
     {
         match next {
@@ -270,38 +263,28 @@ impl<'d> KeptFiles<'d> {
     }
 
     /// Walks through the files from the top file on.
-    pub(crate) fn walk(&self) -> Result<Progress<'d>, AllocError>
-        requires kept { AreKept self.now }
+    pub(crate) fn walk(&self) -> Result<Progress, AllocError>
+        requires kept { AreKept (files_of N.texts self.now) }
         requires begun { IsBegun self.now.load.table.graph }
-        requires top { IsReadAt self.now 0 }
-        ensures follows { IfOk result (Follows self.now) }
-        ensures walks { IfOk result (Walks self.now) }
+        requires top { IsReadAt (files_of N.texts self.now) 0 }
+        ensures follows { IfOk result (Follows (files_of N.texts self.now)) }
+        ensures walks { IfOk result (Walks (files_of N.texts self.now)) }
     {
         let alloc = self.load.alloc;
-        let mut walk = Walk::new(alloc, self.load.table.graph.budget);
+        let graph = &self.load.table.graph;
+        let mut walk = Walk::new(alloc, graph.budget, graph.found.len())?;
         match walk_file(alloc, 0, self, MOST_FILES - 1, true, &mut walk) {
             Ok(chain) => Ok(Progress::Found(found_files(chain, walk))),
             Err(Fault::Refused(unread)) => Ok(Progress::Wanted(unread)),
             Err(Fault::Memory) => Err(AllocError),
         }
     }
-
-    /// The layers of the files at these indices. The lists of each file are moved into its layer.
-    pub(crate) fn into_layers(self, path: &[Option<usize>]) -> Result<Vec<Layer>, AllocError>
-        ensures { IfOk result (λ layers. layers_seen layers.items ≡ layers_on self.entry path.now) }
-    {
-        let KeptFiles { load, .. } = self;
-        let Loader { alloc, table, .. } = load;
-        let Table { contents, .. } = table;
-        let mut contents = contents;
-        layers_along(alloc, path, &mut contents)
-    }
 }
 
 /// The result of a walk through the top file.
-fn found_files<'d>(chain: Chain, walk: Walk<'d>) -> FoundFiles<'d>
+fn found_files(chain: Chain, walk: Walk) -> FoundFiles
     ensures path { result.path ≡ chain.path }
-    ensures faults { result.faults ≡ walk.entry.faults.list }
+    ensures faults { result.faults ≡ walk.faults.list }
 {
     let Chain { path, .. } = chain;
     let Walk { faults, .. } = walk;

@@ -1,20 +1,19 @@
 //! A walk through files that were read past their faults.
 
 ghost use Rattle.std.specs.Prelude.{◌≡◌, ◌≤◌, ◌<◌, ◌∷◌, [], ℕ, Err, IfErr, IfOk, IfSome, List, MatchOption, None, Ok, OnOk, Some, false, length, map, true};
-ghost use Rattle.cmap_values.specs.NamesSeen.{names_seen};
 ghost use Rattle.cmap_values.specs.Outcomes.{RefusesWith};
 ghost use Rattle.cmap_load.specs.Graphs.{AreNamed};
-ghost use Rattle.cmap_load.specs.Kept.{AreKept, IsReadAt, IsWanted, Stored, file_at, layers_on, texts_in};
+ghost use Rattle.cmap_load.specs.Kept.{AreKept, IsReadAt, IsWanted, Stored, file_at, files_of, layers_on};
 ghost use Rattle.cmap_load.specs.declared.refusal.Cause.TheVariants.{OverBudget};
 ghost use Rattle.cmap_values.specs.declared.fault.Fault.TheVariants.{Refused};
-ghost use Rattle.cmap_load.specs.KnownFiles.{file_known};
 ghost use Rattle.cmap_load.specs.Numbers.{text_at};
-ghost use Rattle.cmap_load.specs.SalvageSeen.{AreMarked, Knows, Lists, ReadsOn, WalksFile, WalksNamed, WalksOpen, WalksUse, WalksUses, opening_seen};
+ghost use Rattle.cmap_load.specs.SalvageSeen.{AddsFaults, IsAtStart, Knows, ReadsOn, WalksFile, WalksNamed, WalksOpen, WalksUse, WalksUses};
 ghost use Rattle.cmap_load.specs.Searches.{PassesOver};
 
 use crate::budget::spend;
 use crate::faults::Faults;
 use crate::known::KnownFile;
+use crate::names::Texts;
 use crate::refusal::Cause;
 use crate::salvage::kept::{KeptFiles, Known};
 use crate::search::Search;
@@ -33,9 +32,9 @@ pub(crate) struct Unread {
 
 /// The state of a walk.
 #[derive(Drop)]
-pub(crate) struct Walk<'d> {
-    pub(crate) search: Search<'d>,
-    pub(crate) faults: Faults<'d>,
+pub(crate) struct Walk {
+    pub(crate) search: Search,
+    pub(crate) faults: Faults,
     /// A chain was too long, so that no further file is opened.
     pub(crate) is_closed: bool,
     /// A chain was too long, or a file would have passed the budget, so that no further file becomes
@@ -66,28 +65,24 @@ impl Chain {
     }
 }
 
-impl<'d> Walk<'d> {
-    /// The state before the first file.
-    pub(crate) fn new(alloc: Global, budget: Option<u64>) -> Self
-        ensures names { result.search.names.items ≡ [] }
-        ensures faults { result.faults.list.items ≡ [] }
-        ensures marked { AreMarked result.faults }
-        ensures known { (name : List ℕ) → file_known result.search.known name ≡ None }
-        ensures opening { opening_seen result ≡ record { left = budget; closed = false } }
+impl Walk {
+    /// The state before the first file, where there are so many names.
+    pub(crate) fn new(alloc: Global, budget: Option<u64>, names: usize) -> Result<Self, AllocError>
+        ensures { IfOk result (IsAtStart budget names) }
     {
-        Walk {
-            search: Search::new(alloc, budget),
+        let search = Search::new(alloc, budget, names)?;
+        Ok(Walk {
+            search,
             faults: Faults::new(alloc),
             is_closed: false,
             is_cut: false,
-        }
+        })
     }
 
     /// Adds a fault of the file that the names lead to.
     fn add_fault(&mut self, alloc: Global, cause: Cause) -> Result<(), AllocError>
-        requires { AreMarked self.old.faults }
-        ensures listed { OnOk result (Lists self.old.faults self.new.faults
-            (names_seen self.old.search.names.items) (cause ∷ [])) }
+        ensures listed { OnOk result (AddsFaults self.old.faults self.new.faults
+            self.old.search.names.items (cause ∷ [])) }
         ensures same { self.new ≡ record self.old { faults = self.new.faults } }
     {
         self.faults.add(alloc, &self.search.names, cause)
@@ -95,9 +90,9 @@ impl<'d> Walk<'d> {
 
     /// Passes over a use of a known file, if its layers aren't wanted. Returns the number of files
     /// in the longest chain of the file; `None` if the use isn't passed over.
-    fn pass_over(&mut self, name: &[u8], below: u8, wanted: bool) -> Option<u8>
+    fn pass_over(&mut self, name: usize, below: u8, wanted: bool) -> Option<u8>
         ensures { MatchOption result (self.new ≡ self.old) (λ height.
-            PassesOver name.now below self.old.search self.new.search height
+            PassesOver name below self.old.search self.new.search height
             × (wanted ≡ false) × (self.new ≡ record self.old { search = self.new.search })) }
     {
         if wanted {
@@ -112,19 +107,19 @@ impl<'d> Walk<'d> {
 /// chain; the height is the number of files under it in the longest chain. The caller wants the
 /// layers, or the faults alone.
 #[cycle(walk)]
-pub(crate) fn walk_file<'d>(
+pub(crate) fn walk_file<N: Texts>(
     alloc: Global,
     at: usize,
-    files: &KeptFiles<'d>,
+    files: &KeptFiles<N>,
     below: u8,
     wanted: bool,
-    walk: &mut Walk<'d>,
+    walk: &mut Walk,
 ) -> Result<Chain, Fault<Unread>>
-    requires kept { AreKept files.now }
-    requires read { IsReadAt files.now at }
-    requires known { Knows files.now walk.old }
-    ensures walks { IfOk result (WalksFile files.now below (Stored.at at) wanted walk.old walk.new) }
-    ensures unread { IfErr result (RefusesWith (IsWanted files.now)) }
+    requires kept { AreKept (files_of N.texts files.now) }
+    requires read { IsReadAt (files_of N.texts files.now) at }
+    requires known { Knows (files_of N.texts files.now) walk.old }
+    ensures walks { IfOk result (WalksFile (files_of N.texts files.now) below (Stored.at at) wanted walk.old walk.new) }
+    ensures unread { IfErr result (RefusesWith (IsWanted files.now.load.table.graph)) }
 {
     let read = read_within(alloc, at, files, walk)?;
     let uses = files.uses_of(read);
@@ -134,20 +129,20 @@ pub(crate) fn walk_file<'d>(
 
 /// Walks through the files of uses, one after another. The last use gives the layers.
 #[cycle(walk)]
-fn walk_uses<'d>(
+fn walk_uses<N: Texts>(
     alloc: Global,
     uses: &[usize],
-    files: &KeptFiles<'d>,
+    files: &KeptFiles<N>,
     below: u8,
     wanted: bool,
-    walk: &mut Walk<'d>,
+    walk: &mut Walk,
 ) -> Result<Chain, Fault<Unread>>
-    requires kept { AreKept files.now }
+    requires kept { AreKept (files_of N.texts files.now) }
     requires named { AreNamed files.now.load.table.graph uses.now }
-    requires known { Knows files.now walk.old }
-    ensures walks { IfOk result (WalksUses files.now below
-        (map (text_at (texts_in files.now)) uses.now) wanted walk.old walk.new) }
-    ensures unread { IfErr result (RefusesWith (IsWanted files.now)) }
+    requires known { Knows (files_of N.texts files.now) walk.old }
+    ensures walks { IfOk result (WalksUses (files_of N.texts files.now) below
+        (map (text_at (N.texts files.now.load.list)) uses.now) wanted walk.old walk.new) }
+    ensures unread { IfErr result (RefusesWith (IsWanted files.now.load.table.graph)) }
 {
     let mut base = Chain::new(alloc, 0);
     let Some((last, others)) = uses.split_last() else {
@@ -162,22 +157,22 @@ fn walk_uses<'d>(
 /// Walks through the file of a use, after the files of other uses. Once a chain was too long, the
 /// file isn't opened, and the layers of the other uses stay.
 #[cycle(walk)]
-fn walk_use<'d>(
+fn walk_use<N: Texts>(
     alloc: Global,
     name: usize,
     others: Chain,
-    files: &KeptFiles<'d>,
+    files: &KeptFiles<N>,
     below: u8,
     wanted: bool,
-    walk: &mut Walk<'d>,
+    walk: &mut Walk,
 ) -> Result<Chain, Fault<Unread>>
-    requires kept { AreKept files.now }
+    requires kept { AreKept (files_of N.texts files.now) }
     requires named { name < length files.now.load.table.graph.found.items }
-    requires known { Knows files.now walk.old }
+    requires known { Knows (files_of N.texts files.now) walk.old }
     ensures walks { IfOk result (λ chain. others.height ≤ below → (others.height ≤ chain.height)
-        × WalksUse files.now below (text_at (texts_in files.now) name)
-        (layers_on files.now others.path.items) wanted walk.old walk.new chain) }
-    ensures unread { IfErr result (RefusesWith (IsWanted files.now)) }
+        × WalksUse (files_of N.texts files.now) below (text_at (N.texts files.now.load.list) name)
+        (layers_on (files_of N.texts files.now) others.path.items) wanted walk.old walk.new chain) }
+    ensures unread { IfErr result (RefusesWith (IsWanted files.now.load.table.graph)) }
 {
     if walk.is_closed {
         return Ok(others);
@@ -192,22 +187,22 @@ fn walk_use<'d>(
 /// Walks through the file of a use. A known file is passed over if its layers aren't wanted, and if
 /// it exceeds neither the limit of the chain nor the budget.
 #[cycle(walk)]
-fn open_use<'d>(
+fn open_use<N: Texts>(
     alloc: Global,
     name: usize,
-    files: &KeptFiles<'d>,
+    files: &KeptFiles<N>,
     below: u8,
     wanted: bool,
-    walk: &mut Walk<'d>,
+    walk: &mut Walk,
 ) -> Result<Chain, Fault<Unread>>
-    requires kept { AreKept files.now }
+    requires kept { AreKept (files_of N.texts files.now) }
     requires named { name < length files.now.load.table.graph.found.items }
-    requires known { Knows files.now walk.old }
-    ensures walks { IfOk result (WalksOpen files.now below (text_at (texts_in files.now) name)
+    requires known { Knows (files_of N.texts files.now) walk.old }
+    ensures walks { IfOk result (WalksOpen (files_of N.texts files.now) below (text_at (N.texts files.now.load.list) name)
         wanted walk.old walk.new) }
-    ensures unread { IfErr result (RefusesWith (IsWanted files.now)) }
+    ensures unread { IfErr result (RefusesWith (IsWanted files.now.load.table.graph)) }
 {
-    match walk.pass_over(files.text(name), below, wanted) {
+    match walk.pass_over(name, below, wanted) {
         Some(height) => Ok(Chain::new(alloc, height)),
         None => walk_unknown(alloc, name, files, below, wanted, walk),
     }
@@ -215,29 +210,28 @@ fn open_use<'d>(
 
 /// Walks through the file of a use, and notes the file as known, unless the walk is cut.
 #[cycle(walk)]
-fn walk_unknown<'d>(
+fn walk_unknown<N: Texts>(
     alloc: Global,
     name: usize,
-    files: &KeptFiles<'d>,
+    files: &KeptFiles<N>,
     below: u8,
     wanted: bool,
-    walk: &mut Walk<'d>,
+    walk: &mut Walk,
 ) -> Result<Chain, Fault<Unread>>
-    requires kept { AreKept files.now }
+    requires kept { AreKept (files_of N.texts files.now) }
     requires named { name < length files.now.load.table.graph.found.items }
-    requires known { Knows files.now walk.old }
-    ensures walks { IfOk result (WalksOpen files.now below (text_at (texts_in files.now) name)
+    requires known { Knows (files_of N.texts files.now) walk.old }
+    ensures walks { IfOk result (WalksOpen (files_of N.texts files.now) below (text_at (N.texts files.now.load.list) name)
         wanted walk.old walk.new) }
-    ensures unread { IfErr result (RefusesWith (IsWanted files.now)) }
+    ensures unread { IfErr result (RefusesWith (IsWanted files.now.load.table.graph)) }
 {
-    let text = files.text(name);
     let before = walk.search.left;
-    walk.search.names.push(text)?;
+    walk.search.names.push(name)?;
     let used = walk_named(alloc, name, files, below, wanted, walk)?;
     walk.search.names.pop();
     if !walk.is_cut {
         let file = KnownFile::new(used.height, before, walk.search.left);
-        walk.search.known.insert(text, file)?;
+        walk.search.known.insert(name, file);
     }
     Ok(used)
 }
@@ -245,20 +239,20 @@ fn walk_unknown<'d>(
 /// Walks through the file of the last name. The answer has no layers if the chain would be too
 /// long, or if no file has the name.
 #[cycle(walk)]
-fn walk_named<'d>(
+fn walk_named<N: Texts>(
     alloc: Global,
     name: usize,
-    files: &KeptFiles<'d>,
+    files: &KeptFiles<N>,
     below: u8,
     wanted: bool,
-    walk: &mut Walk<'d>,
+    walk: &mut Walk,
 ) -> Result<Chain, Fault<Unread>>
-    requires kept { AreKept files.now }
+    requires kept { AreKept (files_of N.texts files.now) }
     requires named { name < length files.now.load.table.graph.found.items }
-    requires known { Knows files.now walk.old }
-    ensures walks { IfOk result (WalksNamed files.now below (text_at (texts_in files.now) name)
+    requires known { Knows (files_of N.texts files.now) walk.old }
+    ensures walks { IfOk result (WalksNamed (files_of N.texts files.now) below (text_at (N.texts files.now.load.list) name)
         wanted walk.old walk.new) }
-    ensures unread { IfErr result (RefusesWith (IsWanted files.now)) }
+    ensures unread { IfErr result (RefusesWith (IsWanted files.now.load.table.graph)) }
 {
     if below == 0 {
         walk.is_closed = true;
@@ -293,11 +287,10 @@ fn without_file(
     alloc: Global,
     cause: Cause,
     height: u8,
-    walk: &mut Walk<'_>,
+    walk: &mut Walk,
 ) -> Result<Chain, AllocError>
-    requires { AreMarked walk.old.faults }
     ensures none { IfOk result (λ chain. (chain.path.items ≡ []) × (chain.height ≡ height)
-        × Lists walk.old.faults walk.new.faults (names_seen walk.old.search.names.items) (cause ∷ [])) }
+        × AddsFaults walk.old.faults walk.new.faults walk.old.search.names.items (cause ∷ [])) }
     ensures same { walk.new ≡ record walk.old { faults = walk.new.faults } }
 {
     walk.add_fault(alloc, cause)?;
@@ -306,10 +299,9 @@ fn without_file(
 
 /// Adds the fault of the file that the names lead to, which exceeds the budget. The answer is an
 /// empty layer.
-fn with_empty_layer(alloc: Global, walk: &mut Walk<'_>) -> Result<Chain, AllocError>
-    requires { AreMarked walk.old.faults }
+fn with_empty_layer(alloc: Global, walk: &mut Walk) -> Result<Chain, AllocError>
     ensures one { IfOk result (λ chain. (chain.path.items ≡ None ∷ []) × (chain.height ≡ 1)
-        × Lists walk.old.faults walk.new.faults (names_seen walk.old.search.names.items)
+        × AddsFaults walk.old.faults walk.new.faults walk.old.search.names.items
         (OverBudget ∷ [])) }
     ensures same { walk.new ≡ record walk.old { faults = walk.new.faults } }
 {
@@ -340,17 +332,17 @@ fn put_over(
 
 /// Reads the file at an index within the budget, and lists its faults. Returns the index; `None` if
 /// the file exceeds the budget.
-fn read_within<'d>(
+fn read_within<N: Texts>(
     alloc: Global,
     at: usize,
-    files: &KeptFiles<'d>,
-    walk: &mut Walk<'d>,
+    files: &KeptFiles<N>,
+    walk: &mut Walk,
 ) -> Result<Option<usize>, AllocError>
-    requires kept { AreKept files.now }
-    requires read { IsReadAt files.now at }
-    requires marked { AreMarked walk.old.faults }
-    ensures reads { IfOk result (λ read. ReadsOn files.now (Stored.at at)
-        walk.old walk.new (file_at files.now read)) }
+    requires kept { AreKept (files_of N.texts files.now) }
+    requires read { IsReadAt (files_of N.texts files.now) at }
+    requires known { Knows (files_of N.texts files.now) walk.old }
+    ensures reads { IfOk result (λ read. ReadsOn (files_of N.texts files.now) (Stored.at at)
+        walk.old walk.new (file_at (files_of N.texts files.now) read)) }
     ensures same { IfOk result (λ read. IfSome read (λ i. i ≡ at)) }
 {
     if !spend(

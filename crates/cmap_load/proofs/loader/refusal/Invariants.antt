@@ -5,5 +5,5 @@ use Rattle.cmap_load.proofs.loader.refusal.Given as goal
 
 abbrev pub invariant-loop-number : goal.invariant-loop-number
 invariant-loop-number g l = record {
-  names : names_seen l.names.items ≡ map (text_at (g.N.Names.texts l.list)) (take l.number-index l.numbers.items);
+  names : names_seen l.names.items ≡ map (text_at (g.N.Texts.texts l.list)) (take l.number-index l.numbers);
 }

@@ -26,10 +26,10 @@ returns-in_err-next-clause-set g c =
     record {
       numbered = numbered.set.numbered;
       table = c.take.ensures.table;
-      texts_are = HasTexts-same (g.N.Names.texts mid.list) mid.table.graph c.take.new.self.graph (ap (λ v. v.items) c.in_err-next.ensures.same) numbered.set.texts_are;
+      texts_are = HasTexts-same (g.N.Texts.texts mid.list) mid.table.graph c.take.new.self.graph (ap (λ v. v.items) c.in_err-next.ensures.same) numbered.set.texts_are;
     }
 
 pub returns-in_err-next-clause-grown : goal.returns-in_err-next-clause-grown
 returns-in_err-next-clause-grown g c =
-    let texts = g.N.Names.texts in let mid = c.numbers.new.self in
+    let texts = g.N.Texts.texts in let mid = c.numbers.new.self in
     on_err c.from_residual-in_err-next.result (HasGrown-more texts c.args.self.now mid (record mid { table = c.take.new.self }) c.in_ok-uses.ensures.grown (record { grows = c.in_err-next.ensures.grows; more = IsMore-none (texts mid.list) }))

@@ -6,7 +6,7 @@ use Rattle.cmap_load.proofs.loader.Loader.finish.Goals as goal
 
 pub returns-in-Ok-clause-loads : goal.returns-in-Ok-clause-loads
 returns-in-Ok-clause-loads g c =
-    let load = c.args.self in let texts = g.N.Names.texts load.list in let graph = load.table.graph in
+    let load = c.args.self in let texts = g.N.Texts.texts load.list in let graph = load.table.graph in
     let within = rw c.in-Whole.is at c.requires.loading.follows in
     record {
       by = λ tables answers reads.
@@ -17,7 +17,7 @@ returns-in-Ok-clause-loads g c =
 
 pub returns-in-Ok-clause-within : goal.returns-in-Ok-clause-within
 returns-in-Ok-clause-within g c =
-    let load = c.args.self in let texts = g.N.Names.texts load.list in let graph = load.table.graph in
+    let load = c.args.self in let texts = g.N.Texts.texts load.list in let graph = load.table.graph in
     let within = rw c.in-Whole.is at c.requires.loading.follows in
     record {
       by = λ tables answers reads.

@@ -16,7 +16,7 @@ returns-in-Ok-clause-loading g c =
 
 pub returns-in-Ok-clause-reads : goal.returns-in-Ok-clause-reads
 returns-in-Ok-clause-reads g c =
-    let texts = g.N.Names.texts in let list = c.new.result in let table = c.new-2.result in let new = c.take.new.self in
+    let texts = g.N.Texts.texts in let list = c.new.result in let table = c.new-2.result in let new = c.take.new.self in
     let tables = tables_given c.args.bundle in let bytes = c.args.«data».now in let read = c.in-Ok.ensures.read in
     let leads = leads_top c.args.budget (texts list) c.new.ensures.texts table c.new-2.ensures tables [] bytes refl in
     let has = HasTexts-none c.args.budget (texts list) c.new.ensures.texts table c.new-2.ensures in
@@ -28,7 +28,7 @@ returns-in-Ok-clause-reads g c =
 
 pub returns-in-Err-Refused-clause-reads : goal.returns-in-Err-Refused-clause-reads
 returns-in-Err-Refused-clause-reads g c =
-    let texts = g.N.Names.texts in let list = c.new.result in let table = c.new-2.result in
+    let texts = g.N.Texts.texts in let list = c.new.result in let table = c.new-2.result in
     let tables = tables_given c.args.bundle in let bytes = c.args.«data».now in
     let (same, fails) = rw c.in-Err-Refused.field-0-is at c.in-Err-Refused.ensures.fails in
     let names = c.new-names.result.items in

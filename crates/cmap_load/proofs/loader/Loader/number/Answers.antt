@@ -12,7 +12,7 @@ returns-in_err-reserve_name-clause-set g c =
     record {
       numbered = c.requires.numbered;
       table = IsTable-kept old.table mid (record { graph = c.reserve_name.ensures.kept; contents = refl }) c.requires.table;
-      texts_are = HasTexts-same (g.N.Names.texts old.list) old.table.graph mid.graph c.reserve_name.ensures.found c.requires.texts_are;
+      texts_are = HasTexts-same (g.N.Texts.texts old.list) old.table.graph mid.graph c.reserve_name.ensures.found c.requires.texts_are;
     }
 
 pub returns-in_err-number-clause-set : goal.returns-in_err-number-clause-set
@@ -21,12 +21,12 @@ returns-in_err-number-clause-set g c =
     record {
       numbered = c.number.ensures.numbered;
       table = IsTable-kept old.table mid (record { graph = c.reserve_name.ensures.kept; contents = refl }) c.requires.table;
-      texts_are = subst (λ texts. HasTexts texts mid.graph) (sym c.in_err-number.ensures.same) (HasTexts-same (g.N.Names.texts old.list) old.table.graph mid.graph c.reserve_name.ensures.found c.requires.texts_are);
+      texts_are = subst (λ texts. HasTexts texts mid.graph) (sym c.in_err-number.ensures.same) (HasTexts-same (g.N.Texts.texts old.list) old.table.graph mid.graph c.reserve_name.ensures.found c.requires.texts_are);
     }
 
 pub returns-then-number-len-clause-set : goal.returns-then-number-len-clause-set
 returns-then-number-len-clause-set g c =
-    let old = c.args.self.now in let before = g.N.Names.texts old.list in let after = g.N.Names.texts c.number.new.self in
+    let old = c.args.self.now in let before = g.N.Texts.texts old.list in let after = g.N.Texts.texts c.number.new.self in
     let mid : Table = record { graph = c.reserve_name.new.self; contents = old.table.contents } in
     let new : Table = record { graph = c.add_name.new.self; contents = old.table.contents } in
     record {
@@ -36,11 +36,11 @@ returns-then-number-len-clause-set g c =
     }
 
 pub returns-then-number-len-clause-number : goal.returns-then-number-len-clause-number
-returns-then-number-len-clause-number g c = there_numbered (g.N.Names.texts c.args.self.now.list) (g.N.Names.texts c.number.new.self) c.args.name.now c.in_ok-number.number c.in_ok-number.ensures.number
+returns-then-number-len-clause-number g c = there_numbered (g.N.Texts.texts c.args.self.now.list) (g.N.Texts.texts c.number.new.self) c.args.name.now c.in_ok-number.number c.in_ok-number.ensures.number
 
 pub returns-else-number-len-clause-set : goal.returns-else-number-len-clause-set
 returns-else-number-len-clause-set g c =
-    let old = c.args.self.now in let before = g.N.Names.texts old.list in let after = g.N.Names.texts c.number.new.self in
+    let old = c.args.self.now in let before = g.N.Texts.texts old.list in let after = g.N.Texts.texts c.number.new.self in
     let mid : Table = record { graph = c.reserve_name.new.self; contents = old.table.contents } in
     record {
       numbered = c.number.ensures.numbered;

@@ -9,16 +9,16 @@ use Rattle.cmap_load.proofs.loader.Loader.numbers.Goals as goal
 pub loop-name-init : goal.loop-name-init
 loop-name-init g c = record {
   set = record { numbered = c.requires.numbered; table = c.requires.table; texts_are = c.requires.texts_are };
-  grown = HasGrown-none g.N.Names.texts c.args.self.now;
+  grown = HasGrown-none g.N.Texts.texts c.args.self.now;
   named = subst (AreNamed c.args.self.now.table.graph) (sym c.new-numbers.ensures.items) (All-nil (λ name. name < length c.args.self.now.table.graph.found.items));
-  numbers = ap (map (text_at (g.N.Names.texts c.args.self.now.list))) c.new-numbers.ensures.items;
+  numbers = ap (map (text_at (g.N.Texts.texts c.args.self.now.list))) c.new-numbers.ensures.items;
 }
 
 pub loop-name-preserved : goal.loop-name-preserved
 loop-name-preserved g c =
     let so_far = c.loop-name.invariant in let mid = c.loop-name.self in let new = c.number.new.self in
     let added = c.in_ok-number.ensures in let number = c.in_ok-number.number in
-    let texts = g.N.Names.texts in
+    let texts = g.N.Texts.texts in
     record {
       set = added.set;
       grown = HasGrown-more texts c.args.self.now mid new so_far.grown added.grown;
@@ -27,7 +27,7 @@ loop-name-preserved g c =
     }
 
 pub returns-in_err-number-clause-grown : goal.returns-in_err-number-clause-grown
-returns-in_err-number-clause-grown g c = HasGrown-more g.N.Names.texts c.args.self.now c.loop-name.self c.number.new.self c.loop-name.invariant.grown c.number.ensures.grown
+returns-in_err-number-clause-grown g c = HasGrown-more g.N.Texts.texts c.args.self.now c.loop-name.self c.number.new.self c.loop-name.invariant.grown c.number.ensures.grown
 
 pub returns-in_err-push-clause-grown : goal.returns-in_err-push-clause-grown
-returns-in_err-push-clause-grown g c = HasGrown-more g.N.Names.texts c.args.self.now c.loop-name.self c.number.new.self c.loop-name.invariant.grown c.number.ensures.grown
+returns-in_err-push-clause-grown g c = HasGrown-more g.N.Texts.texts c.args.self.now c.loop-name.self c.number.new.self c.loop-name.invariant.grown c.number.ensures.grown

@@ -7,8 +7,8 @@ use Rattle.cmap_load.proofs.loader.Loader.numbers.Given as goal
 
 abbrev pub invariant-loop-name : goal.invariant-loop-name
 invariant-loop-name g l = record {
-  set : IsSet g.N.Names.texts g.N.Names.are_numbered l.self;
-  grown : HasGrown g.N.Names.texts l.initial.self l.self;
+  set : IsSet g.N.Texts.texts g.N.Names.are_numbered l.self;
+  grown : HasGrown g.N.Texts.texts l.initial.self l.self;
   named : AreNamed l.self.table.graph l.numbers.items;
-  numbers : map (text_at (g.N.Names.texts l.self.list)) l.numbers.items ≡ take l.name-index (names_seen l.uses);
+  numbers : map (text_at (g.N.Texts.texts l.self.list)) l.numbers.items ≡ take l.name-index (names_seen l.uses);
 }

@@ -32,7 +32,7 @@ returns-in-Ok-clause-loading g c =
 
 pub returns-in-Ok-clause-reads : goal.returns-in-Ok-clause-reads
 returns-in-Ok-clause-reads g c =
-    let texts = g.N.Names.texts in let load = c.args.self.now in let wanted = c.in-Wanted.wanted in let new = c.take.new.self in
+    let texts = g.N.Texts.texts in let load = c.args.self.now in let wanted = c.in-Wanted.wanted in let new = c.take.new.self in
     let tables = tables_given c.args.bundle in let bytes = option_copied c.args.bytes in let set = c.requires.loading.set in let read = c.in-Ok.ensures.read in
     let is = sym c.replace.ensures.value ∙ c.in-Wanted.is in
     let (begun, awaits) = rw is at c.requires.loading.follows in
@@ -57,7 +57,7 @@ returns-in-Err-Refused-clause-loading g c =
 
 pub returns-in-Err-Refused-clause-reads : goal.returns-in-Err-Refused-clause-reads
 returns-in-Err-Refused-clause-reads g c =
-    let texts = g.N.Names.texts in let load = c.args.self.now in let wanted = c.in-Wanted.wanted in let new = c.take.new.self in
+    let texts = g.N.Texts.texts in let load = c.args.self.now in let wanted = c.in-Wanted.wanted in let new = c.take.new.self in
     let tables = tables_given c.args.bundle in let bytes = option_copied c.args.bytes in let set = c.requires.loading.set in
     let is = sym c.replace.ensures.value ∙ c.in-Wanted.is in
     let (same, fails) = rw c.in-Err-Refused.field-0-is at c.in-Err-Refused.ensures.fails in
@@ -74,7 +74,7 @@ returns-in-Err-Refused-clause-reads g c =
 
 pub returns-in-Err-Memory-clause-loading : goal.returns-in-Err-Memory-clause-loading
 returns-in-Err-Memory-clause-loading g c =
-    let texts = g.N.Names.texts in let load = c.args.self.now in let wanted = c.in-Wanted.wanted in let new = c.take.new.self in
+    let texts = g.N.Texts.texts in let load = c.args.self.now in let wanted = c.in-Wanted.wanted in let new = c.take.new.self in
     let was = c.requires.loading.set in let set = c.take.ensures.set in let grown = c.in-Err-Memory.ensures.grown in
     let (begun, awaits) = rw (sym c.replace.ensures.value ∙ c.in-Wanted.is) at c.requires.loading.follows in
     record {
@@ -84,7 +84,7 @@ returns-in-Err-Memory-clause-loading g c =
 
 pub returns-in-Err-Memory-clause-unchanged : goal.returns-in-Err-Memory-clause-unchanged
 returns-in-Err-Memory-clause-unchanged g c =
-    let texts = g.N.Names.texts in let load = c.args.self.now in let wanted = c.in-Wanted.wanted in let new = c.take.new.self in
+    let texts = g.N.Texts.texts in let load = c.args.self.now in let wanted = c.in-Wanted.wanted in let new = c.take.new.self in
     let was = c.requires.loading.set in let set = c.take.ensures.set in let grown = c.in-Err-Memory.ensures.grown in
     let is = sym c.replace.ensures.value ∙ c.in-Wanted.is in
     let (begun, awaits) = rw is at c.requires.loading.follows in

@@ -8,4 +8,4 @@ returns-in-Wanted-clause-new g c = λ tables answers reads.
     let load = c.args.self.now in
     let (begun, awaits) = rw c.in-Wanted.is at c.requires.follows in
     let shows = rw c.in-Wanted.is at reads.ready in
-    subst (IsWanted tables answers) (sym c.text.ensures) (wanted_new tables answers (g.N.Names.texts load.list) load.table c.requires.set.table shows c.in-Wanted.wanted begun.some awaits)
+    subst (IsWanted tables answers) (sym c.text.ensures) (wanted_new tables answers (g.N.Texts.texts load.list) load.table c.requires.set.table shows c.in-Wanted.wanted begun.some awaits)

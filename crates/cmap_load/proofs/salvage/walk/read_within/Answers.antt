@@ -1,14 +1,15 @@
 use Rattle.std.proofs.Common.{◌≡◌, ◌∙◌, ◌∷◌, [], List, ap, arith, inl, inr, refl, sym, subst}
 use Rattle.std.specs.Prelude.{map, Some, None}
 use Rattle.std.proofs.lemmas.Option.{slice_get_read}
-use Rattle.cmap_values.specs.NamesSeen.{names_seen}
 use Rattle.cmap_values.specs.declared.fault.Stop.{Stop}
 use Rattle.cmap_load.specs.Budgets.{IsOver}
 use Rattle.cmap_load.specs.BytesSpent.{Leaves}
-use Rattle.cmap_load.specs.Kept.{length_of}
+use Rattle.cmap_load.specs.Kept.{files_of, length_of}
 use Rattle.cmap_load.specs.SalvageSeen.{HasRoom}
 use Rattle.cmap_load.specs.declared.refusal.Cause.TheVariants.{Malformed, OverBudget}
+use Rattle.cmap_load.specs.declared.salvage.walk.Walk.{Walk}
 use Rattle.cmap_load.proofs.KeptFiles.{there}
+use Rattle.cmap_load.proofs.Walked.{listed_on}
 use Rattle.cmap_load.proofs.salvage.walk.read_within.Goals as goal
 
 room : (stops : List Stop) → HasRoom (map Malformed stops)
@@ -16,17 +17,17 @@ room [] = tt
 room (stop ∷ stops) = tt
 
 pub returns-then-not-spend : goal.returns-then-not-spend
-returns-then-not-spend c =
-    let files = c.args.files.now in
+returns-then-not-spend g c =
+    let files = files_of g.N.Texts.texts c.args.files.now in
     let (over, left) = rw c.if-not-spend.true at c.spend.ensures.over in
-    let lists = c.in_ok-add_fault.ensures.listed in
+    let lists = listed_on files c.args.walk.now c.add_fault.new.self (OverBudget ∷ []) c.requires.kept c.requires.known c.in_ok-add_fault.ensures.listed in
     let after = c.add_fault.ensures.same in
-    let node = slice_get_read files.load.table.graph.nodes.items _ c.args.at c.index.result.now refl (there files c.args.at c.requires.kept c.requires.read) c.index.ensures in
+    let node = slice_get_read files.table.graph.nodes.items _ c.args.at c.index.result.now refl (there files c.args.at c.requires.kept c.requires.read) c.index.ensures in
     record {
       reads = record {
         causes = OverBudget ∷ [];
         reads = inl (subst (IsOver c.args.walk.now.search.left) (sym (ap length_of node)) over, refl, refl, ap (λ w. w.search.left) after ∙ left);
-        on = record { names = ap (λ w. names_seen w.search.names.items) after; all = lists.all };
+        on = record { names = ap (λ w. w.search.names.items) after; all = lists.all };
         marked = lists.marked;
         known = ap (λ w. w.search.known) after;
         read = λ whole. absurd (let cut = ap (λ w. w.is_cut) after in cc);
@@ -36,16 +37,16 @@ returns-then-not-spend c =
     }
 
 pub index-requires-2 : goal.index-requires-2
-index-requires-2 c =
-    let files = c.args.files.now in
+index-requires-2 g c =
+    let files = files_of g.N.Texts.texts c.args.files.now in
     let lt = there files c.args.at c.requires.kept c.requires.read in let long = c.requires.kept.stops in
-    omega (arith, lt, long, files.stops.ok.0)
+    omega (arith, lt, long, c.args.files.now.stops.ok.0)
 
 pub unreachable-requires : goal.unreachable-requires
-unreachable-requires c =
-    let files = c.args.files.now in
+unreachable-requires g c =
+    let files = files_of g.N.Texts.texts c.args.files.now in
     let lt = there files c.args.at c.requires.kept c.requires.read in let long = c.requires.kept.stops in
-    let at = slice_get_read files.stops.items _ c.args.at c.index-2.result.now refl (omega (arith, lt, long)) c.index-2.ensures in
+    let at = slice_get_read files.stops _ c.args.at c.index-2.result.now refl (omega (arith, lt, long)) c.index-2.ensures in
     let (stops, is) = c.requires.read in
     let both : Some c.index-2.result.now ≡ Some (Some stops) = sym at ∙ is in
     let none = c.in_default.is in
@@ -54,12 +55,14 @@ unreachable-requires c =
     absurd (cc)
 
 pub returns : goal.returns
-returns c =
-    let files = c.args.files.now in
-    let lists = rw (c.deref-2.ensures.value, c.deref.ensures.value) at c.in_ok-add_stops.ensures in
+returns g c =
+    let files = files_of g.N.Texts.texts c.args.files.now in
+    let adds = rw (c.deref-2.ensures.value, c.deref.ensures.value) at c.in_ok-add_stops.ensures in
+    let after : Walk = record c.args.walk.now { faults = c.add_stops.new.self } in
+    let lists = listed_on files c.args.walk.now after (map Malformed c.in-Some.stops.items) c.requires.kept c.requires.known adds in
     let lt = there files c.args.at c.requires.kept c.requires.read in let long = c.requires.kept.stops in
-    let node = slice_get_read files.load.table.graph.nodes.items _ c.args.at c.index.result.now refl lt c.index.ensures in
-    let at = slice_get_read files.stops.items _ c.args.at c.index-2.result.now refl (omega (arith, lt, long)) c.index-2.ensures in
+    let node = slice_get_read files.table.graph.nodes.items _ c.args.at c.index.result.now refl lt c.index.ensures in
+    let at = slice_get_read files.stops _ c.args.at c.index-2.result.now refl (omega (arith, lt, long)) c.index-2.ensures in
     let stops = c.in-Some.stops in
     record {
       reads = record {
