@@ -34,9 +34,9 @@
  *   Each pointer points to as many items as its length, aligned as their type requires; together they
  *   have at most PTRDIFF_MAX bytes.
  * - A buffer, and the target of a pointer to which a call only writes (`cid`, `supplement`, `needed`,
- *   `offset`, `made`, `taken`, `found` of hayro_cmap_salvage, `names`, `extracted`, and `fault` of
- *   hayro_cmap_explain and hayro_cmap_finish), may hold anything, such as an uninitialised variable or a fresh
- *   block of malloc: no answer depends on it.
+ *   `offset`, `made`, `taken`, `found` of hayro_cmap_salvage and hayro_cmap_found_faults, `names`,
+ *   `extracted`, and `fault` of hayro_cmap_explain and hayro_cmap_finish), may hold anything, such as an
+ *   uninitialised variable or a fresh block of malloc: no answer depends on it.
  *   Places that a call doesn't write stay as they are.
  * - If a call writes to the target of one parameter, this target doesn't overlap the target of another
  *   one. The bytes of a file, of a bundle and of names are read only during the call, and nobody writes to
@@ -456,8 +456,15 @@ hayro_cmap_status hayro_cmap_explain(hayro_cmap *map, const uint8_t *data, size_
 hayro_cmap_status hayro_cmap_load(hayro_cmap_loader *loader, const uint8_t *data, size_t data_len,
                                   hayro_cmap_bundle *bundle, uint64_t budget);
 
+/* Begins to read the CMap file `data` as hayro_cmap_load does, and reads it, and the files that it uses, past their
+ * faults. hayro_cmap_finish then gives the map of hayro_cmap_salvage over the supplied files, and
+ * hayro_cmap_found_faults the faults. Names are wanted after a fault too, but none after a chain that is too long. */
+hayro_cmap_status hayro_cmap_load_past_faults(hayro_cmap_loader *loader, const uint8_t *data, size_t data_len,
+                                              hayro_cmap_bundle *bundle, uint64_t budget);
+
 /* The name of the file that is wanted next, written like the text of hayro_cmap_text. HAYRO_CMAP_ABSENT if no
- * file is wanted, or the handle is empty. */
+ * file is wanted, or the handle is empty. HAYRO_CMAP_NO_MEMORY only for a loader past faults, which may have to find
+ * out what is wanted; nothing is written, and the call may be repeated. */
 hayro_cmap_status hayro_cmap_wanted(hayro_cmap_loader *loader, uint8_t *room, size_t room_len,
                                     size_t *needed);
 
@@ -470,7 +477,17 @@ hayro_cmap_status hayro_cmap_wanted(hayro_cmap_loader *loader, uint8_t *room, si
 hayro_cmap_status hayro_cmap_supply(hayro_cmap_loader *loader, hayro_cmap_bundle *bundle, uint32_t found,
                                     const uint8_t *file, size_t file_len);
 
-/* Gives the map of a file whose used files are all supplied, or reports why there is none.
+/* The faults that a loader past faults found in files that are all supplied, written as by hayro_cmap_salvage. The
+ * loader is unchanged: a call with longer buffers gives all faults and names, and hayro_cmap_finish then the map.
+ *
+ * HAYRO_CMAP_ABSENT if a file is still wanted, if the loader is one of hayro_cmap_load, or if the handle is empty.
+ * With this status and with HAYRO_CMAP_NO_MEMORY, the only other one, nothing is written. */
+hayro_cmap_status hayro_cmap_found_faults(hayro_cmap_loader *loader,
+                                          hayro_cmap_fault *faults, size_t faults_len, size_t *found,
+                                          uint8_t *room, size_t room_len, size_t *needed);
+
+/* Gives the map of a file whose used files are all supplied, or reports why there is none; a file that is read past
+ * its faults has one.
  *
  * The map that the handle `map` held is freed. With HAYRO_CMAP_OK `map` has the new map, and the loader's handle is
  * empty. With HAYRO_CMAP_REFUSED and HAYRO_CMAP_OVER_BUDGET `fault` and the names are written as by

@@ -1,5 +1,6 @@
-/* Reads a file past its faults, finds what looks wrong in another file, and repeats a call for which memory ran out:
- * calls that take memory and that no example makes. If memory runs out again, it reports this, with status 1. */
+/* Reads a file past its faults, at once and by a loader, finds what looks wrong in another file, and repeats calls for
+ * which memory ran out: calls that take memory and that no example makes. If memory runs out again, it reports this,
+ * with status 1. */
 #include <hayro_cmap.h>
 #include <stdio.h>
 #include <string.h>
@@ -32,6 +33,36 @@ static hayro_cmap_status find_warnings(hayro_cmap *map) {
     size_t needed;
     status = hayro_cmap_lint(map, TEXT(""), false, hayro_cmap_shown(NULL), 0, found, 3, &needed);
     if (status == HAYRO_CMAP_OK) printf("%zu warnings\n", needed);
+    return status;
+}
+
+/* The faults and the CID of a file that is loaded past its faults. A call for which memory ran out is repeated once: it
+ * then gives what it would have given. */
+static hayro_cmap_status load_past_faults(hayro_cmap *map, hayro_cmap_loader *loader) {
+    hayro_cmap_bundle none = HAYRO_CMAP_EMPTY;
+    hayro_cmap_fault fault, faults[4];
+    uint8_t name[2], room[8];
+    size_t len, found, needed;
+    uint32_t cid;
+    hayro_cmap_status status = hayro_cmap_load_past_faults(
+        loader, TEXT("/AB usecmap begincidchar <41> 5 <42> /X endcidchar"), &none, HAYRO_CMAP_NO_BUDGET);
+    if (status != HAYRO_CMAP_OK) return status;
+    for (;;) {
+        status = hayro_cmap_wanted(loader, name, sizeof name, &len);
+        if (status == HAYRO_CMAP_NO_MEMORY) status = hayro_cmap_wanted(loader, name, sizeof name, &len);
+        if (status != HAYRO_CMAP_OK) break;
+        uint32_t has = len == 2 && memcmp(name, "AB", 2) == 0;
+        status = hayro_cmap_supply(loader, &none, has, TEXT("begincidchar <> 8 <44> 9 endcidchar /C usecmap"));
+        if (status == HAYRO_CMAP_NO_MEMORY)
+            status = hayro_cmap_supply(loader, &none, has, TEXT("begincidchar <> 8 <44> 9 endcidchar /C usecmap"));
+        if (status != HAYRO_CMAP_OK) return status;
+    }
+    if (status != HAYRO_CMAP_ABSENT) return status;
+    status = hayro_cmap_found_faults(loader, faults, 4, &found, room, sizeof room, &needed);
+    if (status == HAYRO_CMAP_NO_MEMORY)
+        status = hayro_cmap_found_faults(loader, faults, 4, &found, room, sizeof room, &needed);
+    if (status == HAYRO_CMAP_OK) status = hayro_cmap_finish(map, loader, &fault, room, sizeof room, &needed);
+    if (status == HAYRO_CMAP_OK && hayro_cmap_cid(map, 0x41, 1, &cid)) printf("%zu faults, CID %u\n", found, cid);
     return status;
 }
 
@@ -69,6 +100,7 @@ int main(void) {
     hayro_cmap_status status = read_past_faults(&map);
     if (status == HAYRO_CMAP_OK) status = find_warnings(&map);
     if (status == HAYRO_CMAP_OK) status = load_file(&map, &loader);
+    if (status == HAYRO_CMAP_OK) status = load_past_faults(&map, &loader);
     hayro_cmap_loader_free(&loader);
     hayro_cmap_free(&map);
     if (status == HAYRO_CMAP_OK) return 0;

@@ -728,6 +728,161 @@ static void an_identity_needs_no_file(void) {
     hayro_cmap_free(&map);
 }
 
+// A loader of a file that is read past its faults.
+static hayro_cmap_loader loader_past_faults(const char *text, hayro_cmap_bundle *bundle, uint64_t budget) {
+    hayro_cmap_loader loader = HAYRO_CMAP_EMPTY;
+    char bytes[128];
+    size_t len = strlen(text);
+    memcpy(bytes, text, len);
+    CHECK(hayro_cmap_load_past_faults(&loader, hayro_cmap_bytes(bytes), len, bundle, budget) == HAYRO_CMAP_OK);
+    memset(bytes, '(', sizeof bytes);
+    return loader;
+}
+
+// The faults of a map, and the names that lead to them. Places that no call writes stay 0.
+struct salvaged {
+    hayro_cmap_fault faults[16];
+    uint8_t names[64];
+    size_t found, needed;
+};
+
+static bool have_same_faults(const struct salvaged *one, const struct salvaged *other) {
+    return one->found == other->found && one->needed == other->needed && same(one->names, other->names, 64) &&
+           memcmp(one->faults, other->faults, sizeof one->faults) == 0;
+}
+
+// A loader finds the faults that hayro_cmap_salvage finds, and the same map.
+static void a_loader_past_faults_wants_each_file_once(void) {
+    static const char *const texts[] = {
+        "/M usecmap /A usecmap /Z usecmap /M usecmap /J usecmap <", // M and S are at fault, there is no Z
+        "/A usecmap begincidchar <41> /X <42> 8 endcidchar",
+        "/Z usecmap /Z usecmap",
+        "begincidchar <41> 7 endcidchar",
+    };
+    static const char *const wanted[] = {"MSABCDEFGHIJZ", "ABCDEFGHIJ", "Z", ""};
+    static const size_t faults[] = {3, 1, 1, 0};
+    // The files that supply_files supplies.
+    char uses[9][128];
+    hayro_cmap_file files[12] = {{TEXT("J"), TEXT("begincidchar <41> 7 endcidchar")},
+                                 {TEXT("M"), TEXT("/S usecmap")},
+                                 {TEXT("S"), TEXT("begincidchar <41> x endcidchar")}};
+    static const char names[] = "ABCDEFGHI";
+    for (size_t i = 0; i < 9; i++) {
+        uses[i][0] = 0;
+        for (int use = 0; use < 7; use++) sprintf(uses[i] + strlen(uses[i]), "/%c usecmap ", names[i] + 1);
+        hayro_cmap_file file = {hayro_cmap_bytes(names + i), 1, hayro_cmap_bytes(uses[i]), strlen(uses[i])};
+        files[3 + i] = file;
+    }
+    hayro_cmap_bundle none = HAYRO_CMAP_EMPTY;
+    for (size_t i = 0; i < 4; i++) {
+        hayro_cmap map = HAYRO_CMAP_EMPTY, salvaged = HAYRO_CMAP_EMPTY;
+        struct asked asked;
+        struct salvaged of_loader = {0}, of_files = {0};
+        hayro_cmap_fault fault;
+        uint8_t room[1];
+        size_t needed = 7;
+        uint32_t cid = 0, other = 0;
+        hayro_cmap_loader loader = loader_past_faults(texts[i], &none, HAYRO_CMAP_NO_BUDGET);
+        supply_files(&loader, &none, &asked);
+        CHECK(were_asked(&asked, wanted[i]));
+        CHECK(hayro_cmap_found_faults(&loader, of_loader.faults, 16, &of_loader.found, BYTES(of_loader.names),
+                                      &of_loader.needed) == HAYRO_CMAP_OK);
+        CHECK(hayro_cmap_finish(&map, &loader, &fault, BYTES(room), &needed) == HAYRO_CMAP_OK);
+        CHECK(needed == 7 && !loader.full && map.full);
+        CHECK(hayro_cmap_salvage(&salvaged, hayro_cmap_bytes(texts[i]), strlen(texts[i]), &none, files, 12,
+                                 HAYRO_CMAP_NO_BUDGET, of_files.faults, 16, &of_files.found,
+                                 BYTES(of_files.names), &of_files.needed) == HAYRO_CMAP_OK);
+        CHECK(have_same_faults(&of_loader, &of_files) && of_loader.found == faults[i]);
+        CHECK(hayro_cmap_layers(&map) == hayro_cmap_layers(&salvaged));
+        CHECK(hayro_cmap_cid(&map, 0x41, 1, &cid) == hayro_cmap_cid(&salvaged, 0x41, 1, &other) && cid == other);
+        CHECK(hayro_cmap_cid(&map, 0x41, 1, &cid) == (i != 2) && hayro_cmap_cid(&map, 0x42, 1, &cid) == (i == 1));
+        hayro_cmap_free(&map);
+        hayro_cmap_free(&salvaged);
+    }
+}
+
+static void found_faults_without_room_are_counted(void) {
+    hayro_cmap map = HAYRO_CMAP_EMPTY;
+    hayro_cmap_bundle none = HAYRO_CMAP_EMPTY;
+    struct asked asked;
+    struct salvaged found = {0};
+    hayro_cmap_fault fault;
+    uint8_t room[1];
+    size_t needed;
+    hayro_cmap_loader loader = loader_past_faults("/Z usecmap /Y usecmap <", &none, HAYRO_CMAP_NO_BUDGET);
+    found.found = found.needed = 7;
+    CHECK(hayro_cmap_found_faults(&loader, found.faults, 16, &found.found, BYTES(found.names), &found.needed)
+          == HAYRO_CMAP_ABSENT);
+    CHECK(found.found == 7 && found.needed == 7 && loader.full);
+    supply_files(&loader, &none, &asked);
+    CHECK(were_asked(&asked, "ZY"));
+    // room for two faults, and for no names
+    CHECK(hayro_cmap_found_faults(&loader, found.faults, 2, &found.found, found.names, 1, &found.needed)
+          == HAYRO_CMAP_OK);
+    CHECK(found.found == 3 && found.needed == 2 && found.names[0] == 0 && loader.full);
+    CHECK(found.faults[0].cause == HAYRO_CMAP_MALFORMED && found.faults[0].names == 0 && found.faults[0].offset == 22);
+    CHECK(found.faults[1].cause == HAYRO_CMAP_NO_FILE && found.faults[1].names == 1 && found.faults[2].cause == 0);
+    CHECK(hayro_cmap_found_faults(&loader, found.faults, 3, &found.found, found.names, 2, &found.needed)
+          == HAYRO_CMAP_OK);
+    CHECK(found.found == 3 && found.needed == 2 && same(found.names, "ZY\0", 3));
+    CHECK(found.faults[2].cause == HAYRO_CMAP_NO_FILE && found.faults[3].cause == 0);
+    // A file after the last one changes nothing.
+    CHECK(hayro_cmap_supply(&loader, &none, 1, TEXT("(")) == HAYRO_CMAP_ABSENT);
+    CHECK(hayro_cmap_wanted(&loader, BYTES(room), &needed) == HAYRO_CMAP_ABSENT);
+    CHECK(hayro_cmap_found_faults(&loader, found.faults, 0, &found.found, found.names, 0, &found.needed)
+          == HAYRO_CMAP_OK && found.found == 3 && found.needed == 2);
+    CHECK(hayro_cmap_finish(&map, &loader, &fault, BYTES(room), &needed) == HAYRO_CMAP_OK && map.full && !loader.full);
+    hayro_cmap_free(&map);
+}
+
+static void other_loaders_find_no_faults(void) {
+    hayro_cmap map = HAYRO_CMAP_EMPTY;
+    hayro_cmap_bundle none = HAYRO_CMAP_EMPTY;
+    struct salvaged found = {0};
+    hayro_cmap_fault fault;
+    uint8_t room[1];
+    size_t needed;
+    // a loader that refuses a file at fault, and an empty handle
+    hayro_cmap_loader loader = loader_of("<", &none, HAYRO_CMAP_NO_BUDGET);
+    for (int i = 0; i < 2; i++) {
+        CHECK(hayro_cmap_found_faults(&loader, found.faults, 16, &found.found, BYTES(found.names), &found.needed)
+              == HAYRO_CMAP_ABSENT);
+        CHECK(found.found == 0 && found.needed == 0 && found.faults[0].cause == 0 && loader.full == (i == 0));
+        if (i == 0) CHECK(hayro_cmap_finish(&map, &loader, &fault, BYTES(room), &needed) == HAYRO_CMAP_REFUSED);
+        hayro_cmap_loader_free(&loader);
+    }
+    // A loader past faults that wants a file gives no map, and may be freed, also by the next one.
+    loader = loader_past_faults("/Z usecmap", &none, HAYRO_CMAP_NO_BUDGET);
+    CHECK(hayro_cmap_finish(&map, &loader, &fault, BYTES(room), &needed) == HAYRO_CMAP_ABSENT && loader.full);
+    CHECK(hayro_cmap_load_past_faults(&loader, TEXT("/Y usecmap"), &none, HAYRO_CMAP_NO_BUDGET) == HAYRO_CMAP_OK);
+    CHECK(hayro_cmap_wanted(&loader, BYTES(room), &needed) == HAYRO_CMAP_OK && room[0] == 'Y');
+    hayro_cmap_loader_free(&loader);
+    CHECK(!map.full && !loader.full);
+}
+
+// A loader past faults that was supplied without being asked first, over a budget that a file exceeds.
+static void a_loader_past_faults_keeps_to_its_budget(void) {
+    hayro_cmap map = HAYRO_CMAP_EMPTY;
+    hayro_cmap_bundle none = HAYRO_CMAP_EMPTY;
+    struct salvaged found = {0};
+    hayro_cmap_fault fault;
+    uint8_t room[1];
+    size_t needed;
+    uint32_t cid;
+    // 32 bytes, of which 21 for the first file; K has 12 bytes, and L then 8
+    hayro_cmap_loader loader = loader_past_faults("/K usecmap /L usecmap", &none, 32);
+    CHECK(hayro_cmap_supply(&loader, &none, HAYRO_CMAP_GIVEN, TEXT("/J usecmap  ")) == HAYRO_CMAP_OK);
+    CHECK(hayro_cmap_supply(&loader, &none, HAYRO_CMAP_GIVEN, TEXT("<")) == HAYRO_CMAP_OK);
+    CHECK(hayro_cmap_supply(&loader, &none, HAYRO_CMAP_GIVEN, TEXT("<")) == HAYRO_CMAP_ABSENT);
+    CHECK(hayro_cmap_found_faults(&loader, found.faults, 16, &found.found, BYTES(found.names), &found.needed)
+          == HAYRO_CMAP_OK);
+    CHECK(found.found == 2 && found.needed == 2 && same(found.names, "KL", 2));
+    CHECK(found.faults[0].cause == HAYRO_CMAP_PAST_BUDGET && found.faults[1].cause == HAYRO_CMAP_MALFORMED);
+    CHECK(hayro_cmap_finish(&map, &loader, &fault, BYTES(room), &needed) == HAYRO_CMAP_OK);
+    CHECK(!hayro_cmap_cid(&map, 0x41, 1, &cid));
+    hayro_cmap_free(&map);
+}
+
 static void files_are_read_past_their_faults(void) {
     hayro_cmap map = HAYRO_CMAP_EMPTY;
     hayro_cmap_bundle none = HAYRO_CMAP_EMPTY;
@@ -1305,6 +1460,10 @@ int main(void) {
     a_loader_keeps_to_its_budget();
     a_loader_has_the_files_of_a_bundle();
     an_identity_needs_no_file();
+    a_loader_past_faults_wants_each_file_once();
+    found_faults_without_room_are_counted();
+    other_loaders_find_no_faults();
+    a_loader_past_faults_keeps_to_its_budget();
     files_are_read_past_their_faults();
     faults_without_room_are_counted();
     faults_have_messages();

@@ -74,9 +74,9 @@ def test_c_threads_without_memory(checks, setting):
 
 @needs("gcc")
 def test_c_reads_past_faults_without_memory(checks, setting):
-    """A file over another one, both at fault; the warnings of a third one; and a file that is loaded."""
+    """A file over another one, both at fault; the warnings of a third one; and files that are loaded."""
     command = [setting.programs.path(C_MEMORY)]
-    refuse_each(checks, setting, "memory.c", command, "3 faults, CID 5\n3 warnings\nCID 7\n")
+    refuse_each(checks, setting, "memory.c", command, "3 faults, CID 5\n3 warnings\nCID 7\n3 faults, CID 5\n")
 
 
 @needs("gcc")

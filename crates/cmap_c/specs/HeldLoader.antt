@@ -1,7 +1,6 @@
--- A loader that copies names, as the logic has it.
+-- A loader of either kind, as the logic has it.
 use denote.RattleType.{RattleType}
-use Rattle.cmap_load.specs.contracts.loader.Loader as loader
-use Rattle.cmap_load.specs.contracts.names.NameCopies as names
+use Rattle.cmap_c.specs.contracts.either_loader.EitherLoader as either
 
-abbrev pub copying_loader : RattleType
-copying_loader = loader.the_row names.the_row
+abbrev pub either_loader : RattleType
+either_loader = either.the_row

@@ -31,16 +31,20 @@ numbers_of_all faults = map (λ fault. fault_numbers fault.names fault.cause) fa
 abbrev pub names_joined : List NamedFault → List ℕ
 names_joined faults = concat (map (λ fault. concat fault.names) faults)
 
--- C has a map and faults with this property: as many faults as fit stand at the start of a buffer, and the names of all faults in another buffer, if they fit
+-- C has these faults: as many as fit stand at the start of a buffer, and the names of all faults in another buffer, if they fit
+pub record AreWritten (faults : List NamedFault) (old new : List FaultNumbers) (found : ℕ) (old_names new_names : List ℕ) (needed : ℕ) : Type 0 where
+  pub are_counted : found ≡ length faults
+  pub are_there : new ≡ take (length old) (numbers_of_all faults) ++ drop (length faults) old
+  pub put : ℕ
+  pub are_put : IsPut (names_joined faults) old_names new_names needed put
+
+-- C has a map and faults with this property
 pub record IsSalvaged (says : List Layer → List NamedFault → Type 0) (map : Option (List Layer)) (old new : List FaultNumbers) (found : ℕ) (old_names new_names : List ℕ) (needed : ℕ) : Type 0 where
   pub layers : List Layer
   pub faults : List NamedFault
   pub said : says layers faults
   pub is_map : map ≡ Some layers
-  pub are_counted : found ≡ length faults
-  pub are_there : new ≡ take (length old) (numbers_of_all faults) ++ drop (length faults) old
-  pub put : ℕ
-  pub are_put : IsPut (names_joined faults) old_names new_names needed put
+  pub written : AreWritten faults old new found old_names new_names needed
 
 -- ---- private aid
 abbrev pub AreFaultsShown : List NamedFault → ShownFaults → Type 0

@@ -1,96 +1,180 @@
 //! Loaders of files, for C.
 
-ghost use Rattle.std.specs.Prelude.{◌≡◌, ◌⊎◌, None, IfOk, IfSome, MatchOption, OnOk};
+ghost use Rattle.std.specs.Prelude.{◌≡◌, ◌⊎◌, IfOk, IfSome, IsSome, MatchOption, MatchResult, OnErr, OnOk, Some, false, true};
 ghost use Rattle.std.specs.Option.{option_copied};
-ghost use Rattle.cmap_load.specs.Loads.{AreLoadedBy, FitsBy, IsUnchanged, refusal_of, wanted_of};
-ghost use Rattle.cmap_load.specs.NameCopies.{texts_of};
+ghost use Rattle.cmap_binary.specs.BundleSeen.{tables_given};
 ghost use Rattle.cmap_values.specs.Outcomes.{RefusesWith};
 ghost use Rattle.cmap_c.specs.Faults.{IsToldWith};
-ghost use Rattle.cmap_c.specs.Loaders.{Begins, IsNew, IsSupplied, LeadsToFaultBy, file_elsewhere, file_for};
+ghost use Rattle.cmap_c.specs.Loaders.{Begins, Gives, HasNoFaults, IfRefusing, IsAnswered, IsAsked, IsNew, IsStill, IsSupplied, LeadsToFaultBy, ShowsFaults, Wants, WantsNone, file_elsewhere, file_for, has_refused, reads_past, name_wanted};
 ghost use Rattle.cmap_handles.specs.declared.status.Status.TheVariants.{Absent, Done, NoMemory};
 
+use crate::either_loader::EitherLoader;
 use crate::fault::Told;
 use crate::parse::tables_of;
-use cmap_binary::OwnedBundle;
+use crate::salvage::ShownFaults;
+use cmap_binary::{Bundle, OwnedBundle};
 use cmap_handles::status::Status;
 use cmap_layers::layers::Layers;
 use cmap_load::named_files::BundleFiles;
-use cmap_load::{Loader, NameCopies, identity_text};
+use cmap_load::{Loader, SalvageLoader, identity_text};
 use cmap_values::fault::Fault;
 use std::alloc::{AllocError, Global};
 use std::marker::Model;
 
-/// A loader that copies the names of the files that it wants.
+/// A loader of files.
 #[derive(Drop)]
 pub struct FileLoader {
-    loader: Loader<NameCopies>,
+    loader: EitherLoader,
 }
 
 impl Model for FileLoader {
-    ghost use Rattle.cmap_load.specs.Loads.{IsLoading};
-    ghost use Rattle.cmap_load.specs.NameCopies.{AreNumbered, texts_of};
-    ghost use Rattle.cmap_load.specs.declared.loader.Loader.{Loader};
-    ghost use Rattle.cmap_load.specs.declared.names.NameCopies.{NameCopies};
-    ghost use Rattle.cmap_c.specs.HeldLoader.{copying_loader};
+    ghost use Rattle.cmap_c.specs.HeldLoader.{either_loader};
+    ghost use Rattle.cmap_c.specs.Loaders.{IsRight};
+    ghost use Rattle.cmap_c.specs.declared.either_loader.EitherLoader.{EitherLoader};
 
-    ghost Value = { Loader NameCopies };
+    ghost Value = { EitherLoader };
 
-    ghost coded = { copying_loader.coded };
+    ghost coded = { either_loader.coded };
 
     ghost view = { λ held. held.loader };
 
-    ghost invariant = { λ held. IsLoading texts_of AreNumbered held.loader };
+    ghost invariant = { λ held. IsRight held.loader };
 }
 
 impl FileLoader {
-    /// Reads the first file. Binary files are read by the tables of the bundle.
-    pub(crate) fn new(
+    /// Reads the first file. The loader refuses a file at fault. Binary files are read by the tables of the bundle.
+    pub(crate) fn refusing(
         alloc: Global,
         budget: Option<u64>,
         data: &[u8],
         bundle: Option<&OwnedBundle>,
     ) -> Result<Box<FileLoader>, AllocError>
-        ensures { IfOk result
+        ensures kind { IfOk result (λ made. reads_past made.value ≡ false) }
+        ensures begins { IfOk result
             (λ made. Begins (option_copied bundle.entry) «data».now budget made.value) }
     {
-        let loader = Loader::new(alloc, budget, data, tables_of(bundle))?;
+        let loader = EitherLoader::Refusing(Loader::new(alloc, budget, data, tables_of(bundle))?);
         Ok(Box::new(alloc, FileLoader { loader })?)
     }
 
-    /// The name of the wanted file; `None` if no further file is wanted.
-    pub(crate) fn wanted(&self) -> Option<&[u8]>
-        ensures asked { option_copied result ≡ wanted_of texts_of self.now }
-        ensures new { IfSome result (λ name. IsNew self.now name.now) }
+    /// Reads the first file past its faults. Binary files are read by the tables of the bundle.
+    pub(crate) fn past_faults(
+        alloc: Global,
+        budget: Option<u64>,
+        data: &[u8],
+        bundle: Option<&OwnedBundle>,
+    ) -> Result<Box<FileLoader>, AllocError>
+        ensures kind { IfOk result (λ made. reads_past made.value ≡ true) }
+        ensures begins { IfOk result
+            (λ made. Begins (option_copied bundle.entry) «data».now budget made.value) }
     {
-        self.loader.wanted()
+        let loader = SalvageLoader::new(alloc, budget, data, tables_of(bundle))?;
+        let loader = EitherLoader::PastFaults(loader);
+        Ok(Box::new(alloc, FileLoader { loader })?)
+    }
+
+    /// Whether a file is wanted. A loader past faults may have to find out, which takes memory.
+    pub(crate) fn wants(&mut self) -> Result<bool, AllocError>
+        ensures asked { IsAsked self.old self.new }
+        ensures wants { MatchResult result
+            (λ wants. Wants wants self.new)
+            (λ _. reads_past self.old ≡ true) }
+    {
+        match &mut self.loader {
+            EitherLoader::Refusing(loader) => Ok(loader.wanted().is_some()),
+            EitherLoader::PastFaults(loader) => loader.wants(),
+        }
+    }
+
+    /// The name of the wanted file.
+    pub(crate) fn name(&self) -> &[u8]
+        requires { IsSome (name_wanted self.now) }
+        ensures name { Some result.now ≡ name_wanted self.now }
+        ensures new { IfRefusing (λ loader. IsNew loader result.now) self.now }
+    {
+        match &self.loader {
+            EitherLoader::Refusing(loader) => match loader.wanted() {
+                Some(name) => name,
+                None => unreachable!(),
+            },
+            EitherLoader::PastFaults(loader) => loader.name(),
+        }
     }
 
     /// Supplies the wanted file, if one is wanted, as `file_named` gives it. If memory runs out, the same file is wanted
     /// again.
     pub(crate) fn supply(&mut self, found: u32, file: &[u8], bundle: Option<&OwnedBundle>) -> Status
-        ensures { MatchOption (wanted_of texts_of self.old)
-            ((result ≡ Absent) × (self.new ≡ self.old))
-            (λ name. ((result ≡ Done) × IsSupplied (option_copied bundle.entry) name
-            (file_for (option_copied bundle.entry) name found file.now) self.old self.new)
-            ⊎ ((result ≡ NoMemory) × IsUnchanged texts_of self.old self.new)) }
+        ensures supplies { result ≡ Done
+            → IsSupplied (option_copied bundle.entry) found file.now self.old self.new }
+        ensures absent { result ≡ Absent → IsAsked self.old self.new × WantsNone self.new }
+        ensures memory { result ≡ NoMemory → IsStill self.old self.new }
+        ensures failed { (result ≡ Done) ⊎ (result ≡ NoMemory) ⊎ (result ≡ Absent) }
     {
-        let Some(name) = self.loader.wanted() else {
-            return Status::Absent;
-        };
-        let file = file_named(found, file, bundle, name);
-        match self.loader.supply(file, tables_of(bundle)) {
-            Ok(()) => Status::Done,
+        match self.wants() {
+            Ok(true) => {
+                let file = file_named(found, file, bundle, self.name());
+                match self.answer(file, tables_of(bundle)) {
+                    Ok(()) => Status::Done,
+                    Err(_) => Status::NoMemory,
+                }
+            }
+            Ok(false) => Status::Absent,
             Err(_) => Status::NoMemory,
         }
+    }
+
+    /// Supplies the wanted file; `None` if no file has the name. If memory runs out, the same file is wanted again.
+    fn answer(&mut self, file: Option<&[u8]>, tables: Option<&Bundle<'_>>) -> Result<(), AllocError>
+        requires { IsSome (name_wanted self.old) }
+        ensures answered { OnOk result (IfSome (name_wanted self.old) (λ name.
+            IsAnswered (tables_given tables.entry) name (option_copied file.entry) self.old self.new)) }
+        ensures memory { OnErr result (IsStill self.old self.new) }
+    {
+        match &mut self.loader {
+            EitherLoader::Refusing(loader) => loader.supply(file, tables),
+            EitherLoader::PastFaults(loader) => loader.supply(file, tables),
+        }
+    }
+
+    /// The faults that a loader past faults found, as C gets them, if it wants no further file; `None` while a file is
+    /// wanted, or if the loader refuses a file at fault.
+    pub(crate) fn faults(&mut self, alloc: Global) -> Result<Option<ShownFaults>, AllocError>
+        ensures asked { IsAsked self.old self.new }
+        ensures faults { MatchResult result
+            (λ shown. MatchOption shown (HasNoFaults self.new) (ShowsFaults self.new))
+            (λ _. reads_past self.old ≡ true) }
+    {
+        if self.wants()? {
+            return Ok(None);
+        }
+        self.shown_faults(alloc)
+    }
+
+    /// The faults that a loader past faults found, which wants no further file; `None` if the loader refuses a file at
+    /// fault.
+    fn shown_faults(&self, alloc: Global) -> Result<Option<ShownFaults>, AllocError>
+        requires { WantsNone self.now }
+        ensures { MatchResult result
+            (λ shown. MatchOption shown (reads_past self.now ≡ false) (ShowsFaults self.now))
+            (λ _. reads_past self.now ≡ true) }
+    {
+        let EitherLoader::PastFaults(loader) = &self.loader else {
+            return Ok(None);
+        };
+        let faults = loader.faults(alloc)?;
+        Ok(Some(ShownFaults::of(alloc, &faults)?))
     }
 
     /// Why a file is refused, as C gets it, or the failure of memory; `None` if no file is refused.
     pub(crate) fn told(&self, alloc: Global) -> Option<Fault<Told>>
         ensures { MatchOption result
-            (refusal_of texts_of self.now ≡ None)
+            (has_refused self.now ≡ false)
             (RefusesWith (IsToldWith (LeadsToFaultBy self.now))) }
     {
-        match self.loader.refusal(alloc) {
+        let EitherLoader::Refusing(loader) = &self.loader else {
+            return None;
+        };
+        match loader.refusal(alloc) {
             Ok(Some(refusal)) => Some(Told::of(alloc, Fault::Refused(refusal))),
             Ok(None) => None,
             Err(_) => Some(Fault::Memory),
@@ -99,15 +183,17 @@ impl FileLoader {
 
     /// The map of the first file.
     pub(crate) fn finish(self) -> Result<Layers, AllocError>
-        requires all { wanted_of texts_of self ≡ None }
-        requires accepted { refusal_of texts_of self ≡ None }
-        ensures loads { IfOk result (AreLoadedBy texts_of self) }
-        ensures within { OnOk result (FitsBy texts_of self) }
+        requires all { WantsNone self }
+        requires accepted { has_refused self ≡ false }
+        ensures { IfOk result (Gives self) }
     {
-        match self.loader.finish() {
-            Ok(layers) => Ok(layers),
-            Err(Fault::Memory) => Err(AllocError),
-            Err(Fault::Refused(_)) => unreachable!(),
+        match self.loader {
+            EitherLoader::Refusing(loader) => match loader.finish() {
+                Ok(layers) => Ok(layers),
+                Err(Fault::Memory) => Err(AllocError),
+                Err(Fault::Refused(_)) => unreachable!(),
+            },
+            EitherLoader::PastFaults(loader) => loader.finish(),
         }
     }
 }

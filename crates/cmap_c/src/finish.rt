@@ -1,10 +1,10 @@
 //! The results of loaders, for C.
 
-ghost use Rattle.std.specs.Prelude.{◌≡◌, ◌≢◌, ◌≤◌, ◌⊎◌, IsSomeAnd, MatchOption, None};
-ghost use Rattle.cmap_load.specs.Loads.{AreLoadedBy, FitsBy, wanted_of};
+ghost use Rattle.std.specs.Prelude.{◌≡◌, ◌≢◌, ◌≤◌, ◌⊎◌, IfSome, IsSome, IsSomeAnd, None};
+ghost use Rattle.cmap_load.specs.Loads.{wanted_of};
 ghost use Rattle.cmap_load.specs.NameCopies.{texts_of};
 ghost use Rattle.cmap_c.specs.Faults.{IsExplained};
-ghost use Rattle.cmap_c.specs.Loaders.{IsFinished, LeadsToFaultBy, ready_in};
+ghost use Rattle.cmap_c.specs.Loaders.{AreAsked, GivesAsked, IfRefusing, IsFinished, LeadsToFaultBy, WantsNone, name_wanted};
 ghost use Rattle.cmap_handles.specs.Statuses.{number};
 ghost use Rattle.cmap_handles.specs.declared.status.Status.TheVariants.{Absent, Done, NoMemory, OverBudget, Refused};
 
@@ -33,12 +33,13 @@ pub extern "C" fn hayro_cmap_finish(
     room: &mut [u8],
     needed: &mut usize,
 ) -> u32
-    ensures absent { MatchOption (ready_in loader.old.slot.loader)
-        ((result ≡ number Absent) × (loader.new.slot.loader ≡ loader.old.slot.loader))
-        (λ _. result ≢ number Absent) }
+    ensures absent { result ≡ number Absent
+        → AreAsked loader.old.slot.loader loader.new.slot.loader
+        × IfSome loader.new.slot.loader (λ held. IsSome (name_wanted held)) }
+    ensures all { result ≢ number Absent → IsSomeAnd loader.old.slot.loader
+        (IfRefusing (λ held. wanted_of texts_of held ≡ None)) }
     ensures loads { result ≡ number Done → IsSomeAnd loader.old.slot.loader
-        (λ held. FitsBy texts_of held
-        × IsSomeAnd map.new.slot.map (AreLoadedBy texts_of held)) }
+        (λ held. IsSomeAnd map.new.slot.map (GivesAsked held)) }
     ensures explains { ((result ≡ number Refused) ⊎ (result ≡ number OverBudget))
         → (loader.new.slot.loader ≡ loader.old.slot.loader) × IsSomeAnd loader.old.slot.loader
         (λ held. IsExplained (LeadsToFaultBy held)
@@ -52,11 +53,12 @@ pub extern "C" fn hayro_cmap_finish(
 {
     map.clear(alloc);
     match loader.take_ready(alloc) {
-        Some(held) => {
+        Ok(Some(held)) => {
             let read = finished(loader, alloc, held);
             keep_read(map, alloc, tell(read, fault, room, needed))
         }
-        None => Status::Absent.number(),
+        Ok(None) => Status::Absent.number(),
+        Err(_) => Status::NoMemory.number(),
     }
 }
 
@@ -68,7 +70,7 @@ fn finished(
     held: Box<FileLoader>,
 ) -> Result<Layers, Fault<Told>>
     requires empty { loader.old.slot.loader ≡ None }
-    requires all { wanted_of texts_of held.value ≡ None }
+    requires all { WantsNone held.value }
     ensures { IsFinished held.value loader.new.slot.loader result }
 {
     match held.told(alloc) {

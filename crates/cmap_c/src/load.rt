@@ -1,9 +1,9 @@
 //! Loaders of files over files that the caller looks up one after another, for C.
 
-ghost use Rattle.std.specs.Prelude.{◌≡◌, ◌⊎◌, IfSome, IsSomeAnd, MatchOption, None};
-ghost use Rattle.cmap_load.specs.Loads.{IsUnchanged, wanted_of};
+ghost use Rattle.std.specs.Prelude.{◌≡◌, ◌≢◌, ◌⊎◌, IfSome, IsSomeAnd, MatchOption, None, false, true};
+ghost use Rattle.cmap_load.specs.Loads.{wanted_of};
 ghost use Rattle.cmap_load.specs.NameCopies.{texts_of};
-ghost use Rattle.cmap_c.specs.Loaders.{Begins, HasBoth, IsNew, IsSupplied, file_for, wanted_in};
+ghost use Rattle.cmap_c.specs.Loaders.{AreAsked, Begins, HasBoth, IfRefusing, IsAsked, IsNew, IsStill, IsSupplied, WantsNone, reads_past, wanted_in, name_wanted};
 ghost use Rattle.cmap_c.specs.NamedFiles.{budget_of};
 ghost use Rattle.cmap_handles.specs.Rooms.{IsPut};
 ghost use Rattle.cmap_handles.specs.Statuses.{number};
@@ -13,7 +13,7 @@ use crate::file_loader::FileLoader;
 use crate::loader_handle::LoaderHandle;
 use crate::parse::limit;
 use cmap_handles::bundle::BundleHandle;
-use cmap_handles::room::put_found;
+use cmap_handles::room::put;
 use cmap_handles::status::Status;
 use std::alloc::Global;
 
@@ -31,17 +31,43 @@ pub extern "C" fn hayro_cmap_load(
     budget: u64,
 ) -> u32
     ensures same { bundle.new.slot.bundle ≡ bundle.old.slot.bundle }
+    ensures kind { result ≡ number Done
+        → IsSomeAnd loader.new.slot.loader (λ held. reads_past held ≡ false) }
     ensures begins { result ≡ number Done → IsSomeAnd loader.new.slot.loader
         (Begins bundle.old.slot.bundle «data».now (budget_of budget)) }
     ensures failed { (result ≡ number Done)
         ⊎ ((result ≡ number NoMemory) × (loader.new.slot.loader ≡ None)) }
 {
     loader.clear(alloc);
-    loader.keep(FileLoader::new(alloc, limit(budget), data, bundle.bundle()))
+    loader.keep(FileLoader::refusing(alloc, limit(budget), data, bundle.bundle()))
+}
+
+/// Begins to load the file `data` as `hayro_cmap_load` does, past the faults of this file and of the files that it uses.
+#[unsafe(no_mangle)]
+pub extern "C" fn hayro_cmap_load_past_faults(
+    loader: &mut LoaderHandle,
+    alloc: Global,
+    data: &[u8],
+    bundle: &mut BundleHandle,
+    budget: u64,
+) -> u32
+    ensures same { bundle.new.slot.bundle ≡ bundle.old.slot.bundle }
+    ensures kind { result ≡ number Done
+        → IsSomeAnd loader.new.slot.loader (λ held. reads_past held ≡ true) }
+    ensures begins { result ≡ number Done → IsSomeAnd loader.new.slot.loader
+        (Begins bundle.old.slot.bundle «data».now (budget_of budget)) }
+    ensures failed { (result ≡ number Done)
+        ⊎ ((result ≡ number NoMemory) × (loader.new.slot.loader ≡ None)) }
+{
+    loader.clear(alloc);
+    loader.keep(FileLoader::past_faults(alloc, limit(budget), data, bundle.bundle()))
 }
 
 /// Writes the name of the wanted file to the buffer `room`, and its number of bytes to `needed`. There is no answer if
 /// no file is wanted.
+///
+/// A loader past faults may have to find out first which file it wants. If memory runs out meanwhile, the call may be
+/// repeated.
 #[unsafe(no_mangle)]
 pub extern "C" fn hayro_cmap_wanted(
     loader: &mut LoaderHandle,
@@ -49,19 +75,41 @@ pub extern "C" fn hayro_cmap_wanted(
     room: &mut [u8],
     needed: &mut usize,
 ) -> u32
-    ensures same { loader.new.slot.loader ≡ loader.old.slot.loader }
-    ensures name { MatchOption (wanted_in loader.old.slot.loader)
-        ((result ≡ number Absent) × (room.new ≡ room.old) × (needed.new ≡ needed.old))
+    ensures same { AreAsked loader.old.slot.loader loader.new.slot.loader }
+    ensures name { result ≢ number NoMemory → MatchOption (wanted_in loader.new.slot.loader)
+        ((result ≡ number Absent) × IfSome loader.new.slot.loader WantsNone
+        × (room.new ≡ room.old) × (needed.new ≡ needed.old))
         (λ name. IsPut name room.old room.new needed.new result) }
+    ensures memory { result ≡ number NoMemory
+        → IsSomeAnd loader.old.slot.loader (λ held. reads_past held ≡ true)
+        × (room.new ≡ room.old) × (needed.new ≡ needed.old) }
     ensures new { IfSome loader.old.slot.loader
-        (λ held. IfSome (wanted_of texts_of held) (IsNew held)) }
+        (IfRefusing (λ held. IfSome (wanted_of texts_of held) (IsNew held))) }
 {
-    let Some(held) = loader.take(alloc) else {
+    let Some(mut held) = loader.take(alloc) else {
         return Status::Absent.number();
     };
-    let status = put_found(held.wanted(), room, needed);
+    let status = put_wanted(&mut held, room, needed);
     loader.put(held);
     status
+}
+
+/// Writes the name of the wanted file to a buffer, if a file is wanted. The result is the number of the status.
+fn put_wanted(loader: &mut FileLoader, room: &mut [u8], needed: &mut usize) -> u32
+    ensures same { IsAsked loader.old loader.new }
+    ensures name { result ≢ number NoMemory → MatchOption (name_wanted loader.new)
+        ((result ≡ number Absent) × WantsNone loader.new
+        × (room.new ≡ room.old) × (needed.new ≡ needed.old))
+        (λ name. IsPut name room.old room.new needed.new result) }
+    ensures memory { result ≡ number NoMemory → (reads_past loader.old ≡ true)
+        × (room.new ≡ room.old) × (needed.new ≡ needed.old) }
+    ensures new { IfRefusing (λ held. IfSome (wanted_of texts_of held) (IsNew held)) loader.old }
+{
+    match loader.wants() {
+        Ok(true) => put(loader.name(), room, needed),
+        Ok(false) => Status::Absent.number(),
+        Err(_) => Status::NoMemory.number(),
+    }
 }
 
 /// Supplies the wanted file. If `found` is 1, it is `file`. If `found` is 0, the caller has no file of the wanted name:
@@ -78,14 +126,16 @@ pub extern "C" fn hayro_cmap_supply(
     file: &[u8],
 ) -> u32
     ensures same { bundle.new.slot.bundle ≡ bundle.old.slot.bundle }
-    ensures supplies { MatchOption (wanted_in loader.old.slot.loader)
-        ((result ≡ number Absent) × (loader.new.slot.loader ≡ loader.old.slot.loader))
-        (λ name. ((result ≡ number Done)
-        × HasBoth (IsSupplied bundle.old.slot.bundle name
-        (file_for bundle.old.slot.bundle name found file.now))
-        loader.old.slot.loader loader.new.slot.loader)
-        ⊎ ((result ≡ number NoMemory)
-        × HasBoth (IsUnchanged texts_of) loader.old.slot.loader loader.new.slot.loader)) }
+    ensures supplies { result ≡ number Done
+        → HasBoth (IsSupplied bundle.old.slot.bundle found file.now)
+        loader.old.slot.loader loader.new.slot.loader }
+    ensures absent { result ≡ number Absent
+        → AreAsked loader.old.slot.loader loader.new.slot.loader
+        × IfSome loader.new.slot.loader WantsNone }
+    ensures memory { result ≡ number NoMemory
+        → HasBoth IsStill loader.old.slot.loader loader.new.slot.loader }
+    ensures failed { (result ≡ number Done) ⊎ (result ≡ number NoMemory)
+        ⊎ (result ≡ number Absent) }
 {
     let Some(mut held) = loader.take(alloc) else {
         return Status::Absent.number();

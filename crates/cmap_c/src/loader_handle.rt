@@ -1,7 +1,7 @@
 //! Loaders that C holds.
 
-ghost use Rattle.std.specs.Prelude.{◌≡◌, None, Some, MatchOption, MatchResult, is_some, option_map};
-ghost use Rattle.cmap_c.specs.Loaders.{ready_in};
+ghost use Rattle.std.specs.Prelude.{◌≡◌, IfOk, IfSome, IsSome, IsSomeAnd, None, Some, MatchOption, MatchResult, is_some, option_map, true};
+ghost use Rattle.cmap_c.specs.Loaders.{AreAsked, IsAsked, WantsNone, name_wanted, reads_past};
 ghost use Rattle.cmap_handles.specs.Statuses.{number};
 ghost use Rattle.cmap_handles.specs.declared.status.Status.TheVariants.{Done, NoMemory};
 
@@ -46,20 +46,30 @@ impl LoaderHandle {
         }
     }
 
-    /// The loader, if there is one that wants no further file. The handle is empty then, and otherwise unchanged.
-    pub(crate) fn take_ready(&mut self, alloc: Global) -> Option<Box<FileLoader>>
-        ensures taken { option_map (λ held. held.value) result ≡ ready_in self.old.slot.loader }
-        ensures left { MatchOption result
-            (self.new.slot.loader ≡ self.old.slot.loader)
-            (λ _. self.new.slot.loader ≡ None) }
+    /// The loader, if there is one that wants no further file. The handle is empty then, and also if memory runs out;
+    /// otherwise it keeps its loader.
+    pub(crate) fn take_ready(
+        &mut self,
+        alloc: Global,
+    ) -> Result<Option<Box<FileLoader>>, AllocError>
+        ensures taken { IfOk result (λ taken. IfSome taken (λ held. IsSomeAnd self.old.slot.loader
+            (λ old. IsAsked old held.value × WantsNone held.value))) }
+        ensures left { MatchResult result
+            (λ taken. MatchOption taken
+            (AreAsked self.old.slot.loader self.new.slot.loader
+            × IfSome self.new.slot.loader (λ held. IsSome (name_wanted held)))
+            (λ _. self.new.slot.loader ≡ None))
+            (λ _. IsSomeAnd self.old.slot.loader (λ old. reads_past old ≡ true)
+            × (self.new.slot.loader ≡ None)) }
     {
-        let held = self.take(alloc)?;
-        if held.wanted().is_some() {
+        let Some(mut held) = self.take(alloc) else {
+            return Ok(None);
+        };
+        if held.wants()? {
             self.put(held);
-            None
-        } else {
-            Some(held)
+            return Ok(None);
         }
+        Ok(Some(held))
     }
 
     /// Gives an empty handle a loader.

@@ -2,9 +2,8 @@
 
 ghost use Rattle.std.specs.Prelude.{◌≡◌, Option, None, Some, IsSome};
 ghost use Rattle.std.specs.Coded.{coded_option};
-ghost use Rattle.cmap_load.specs.declared.loader.Loader.{Loader};
-ghost use Rattle.cmap_load.specs.declared.names.NameCopies.{NameCopies};
-ghost use Rattle.cmap_c.specs.HeldLoader.{copying_loader};
+ghost use Rattle.cmap_c.specs.HeldLoader.{either_loader};
+ghost use Rattle.cmap_c.specs.declared.either_loader.EitherLoader.{EitherLoader};
 
 use crate::file_loader::FileLoader;
 use cmap_handles::loose::Loose;
@@ -18,7 +17,7 @@ pub struct LoaderSlot {
     at: *mut u8,
     alloc: Global,
     /// The loader.
-    pub ghost loader: { Option (Loader NameCopies) } by { coded_option copying_loader.coded },
+    pub ghost loader: { Option EitherLoader } by { coded_option either_loader.coded },
 }
 
 impl Model for LoaderSlot {

@@ -1,11 +1,12 @@
 //! Maps of files that are read past their faults, for C.
 
-ghost use Rattle.std.specs.Prelude.{◌≡◌, ◌⊎◌, ◌≤◌, None, IfOk, length};
+ghost use Rattle.std.specs.Prelude.{◌≡◌, ◌⊎◌, ◌≤◌, List, None, IfOk, length};
 ghost use Rattle.std.specs.List.{All};
 ghost use Rattle.std.specs.Option.{option_copied};
+ghost use Rattle.cmap_load.specs.Salvage.{NamedFault};
 ghost use Rattle.cmap_load.specs.SalvageSeen.{faults_seen};
 ghost use Rattle.cmap_c.specs.NamedFiles.{budget_of};
-ghost use Rattle.cmap_c.specs.Salvaged.{AreFaultsShown, IsSalvageOver, IsSalvaged, IsSalvagedWith};
+ghost use Rattle.cmap_c.specs.Salvaged.{AreFaultsShown, AreWritten, IsSalvageOver, IsSalvaged, IsSalvagedWith};
 ghost use Rattle.cmap_handles.specs.Statuses.{number};
 ghost use Rattle.cmap_handles.specs.declared.status.Status.TheVariants.{Done, NoMemory};
 
@@ -57,9 +58,7 @@ pub extern "C" fn hayro_cmap_salvage(
         return Status::NoMemory.number();
     };
     map.put(salvaged.map);
-    *found = salvaged.shown.faults.len();
-    put_head(&salvaged.shown.faults, faults);
-    put(&salvaged.shown.names, room, needed);
+    salvaged.shown.put(faults, found, room, needed);
     Status::Done.number()
 }
 
@@ -90,7 +89,7 @@ pub(crate) struct ShownFaults {
 }
 
 impl ShownFaults {
-    fn of(alloc: Global, faults: &[Refusal<'_>]) -> Result<ShownFaults, AllocError>
+    pub(crate) fn of(alloc: Global, faults: &[Refusal<'_>]) -> Result<ShownFaults, AllocError>
         requires { All (λ fault. length fault.names.items ≤ 16) faults.now }
         ensures { IfOk result (AreFaultsShown (faults_seen faults.now)) }
     {
@@ -104,6 +103,23 @@ impl ShownFaults {
             faults: shown,
             names,
         })
+    }
+
+    /// Writes as many faults as fit to `faults`, and their number to `found`; the names of all faults to the buffer
+    /// `room`, if they fit, and their number of bytes to `needed`.
+    pub(crate) fn put(
+        &self,
+        faults: &mut [FaultNumbers],
+        found: &mut usize,
+        room: &mut [u8],
+        needed: &mut usize,
+    )
+        ensures { (all : List NamedFault) → AreFaultsShown all self.now
+            → AreWritten all faults.old faults.new found.new room.old room.new needed.new }
+    {
+        *found = self.faults.len();
+        put_head(&self.faults, faults);
+        put(&self.names, room, needed);
     }
 }
 
