@@ -248,6 +248,10 @@ private:
 
 namespace detail {
 
+// What finds files by their names.
+template <class Get>
+using Finds = std::enable_if_t<std::is_invocable_v<Get &, const std::string &>>;
+
 // A handle of the library, which is freed once.
 template <class Handle, void (*free)(Handle *)> class Owned {
 public:
@@ -527,6 +531,13 @@ public:
     // The same over an open bundle.
     static Salvaged salvage(Bytes data, Bundle &bundle, const Files &files = {},
                             std::uint64_t budget = no_budget);
+    // The same over files that are looked up as by load. `get` is called after a fault, too, but not after a chain
+    // of more than 16 files.
+    template <class Get, class = detail::Finds<Get>>
+    static Salvaged salvage(Bytes data, Get get, std::uint64_t budget = no_budget);
+    // The same over an open bundle, whose file counts if `get` has none.
+    template <class Get, class = detail::Finds<Get>>
+    static Salvaged salvage(Bytes data, Bundle &bundle, Get get, std::uint64_t budget = no_budget);
 
     // Reads a file into this map, without a reason if there is none. The bytes of the bundle, or no bytes,
     // serve only for this file, and aren't copied.
@@ -1112,11 +1123,11 @@ template <class Ask> Result result_of(Ask ask) {
 // once. The loader keeps no bytes of the caller.
 class Loader {
 public:
-    explicit Loader(Bytes data, std::uint64_t budget = no_budget) { load(data, budget); }
+    explicit Loader(Bytes data, std::uint64_t budget = no_budget)
+        : Loader(hayro_cmap_load, data, Bundle(), budget) {}
     // The same over an open bundle, whose file counts if the caller has none.
-    Loader(Bytes data, Bundle &bundle, std::uint64_t budget = no_budget) : bundle_(bundle.share()) {
-        load(data, budget);
-    }
+    Loader(Bytes data, Bundle &bundle, std::uint64_t budget = no_budget)
+        : Loader(hayro_cmap_load, data, bundle.share(), budget) {}
 
     // The name of the file that is wanted next.
     std::optional<std::string> wanted() {
@@ -1136,7 +1147,7 @@ public:
     // The map, or why there is none. The caller has none of the files that are still wanted. A map leaves the
     // loader empty, and an empty loader gives an empty map.
     Result finish() {
-        while (wanted()) supply(std::nullopt);
+        supply_nothing();
         return detail::result_of([&](auto map, auto fault, auto room, auto len, auto needed) {
             return hayro_cmap_finish(map, handle(), fault, room, len, needed);
         });
@@ -1148,12 +1159,17 @@ public:
     // The handle, for the calls of hayro_cmap.h. The loader still owns it.
     hayro_cmap_loader *handle() noexcept { return handle_.get(); }
 
-private:
-    void load(Bytes data, std::uint64_t budget) {
-        detail::with_memory(
-            hayro_cmap_load(handle(), data.data(), data.size(), bundle_.handle(), budget));
+protected:
+    Loader(decltype(&hayro_cmap_load) load, Bytes data, Bundle bundle, std::uint64_t budget)
+        : bundle_(std::move(bundle)) {
+        detail::with_memory(load(handle(), data.data(), data.size(), bundle_.handle(), budget));
     }
 
+    void supply_nothing() {
+        while (wanted()) supply(std::nullopt);
+    }
+
+private:
     Bundle bundle_;
     detail::Owned<hayro_cmap_loader, hayro_cmap_loader_free> handle_;
 };
@@ -1163,6 +1179,49 @@ private:
 struct Salvaged {
     Map map;
     std::vector<Refusal> faults;
+};
+
+// Reads a CMap file past its faults as Map::salvage does, over files that the caller looks up as for a Loader. Names
+// are wanted after a fault, too, but none after a chain of more than 16 files.
+class SalvageLoader : private Loader {
+public:
+    explicit SalvageLoader(Bytes data, std::uint64_t budget = no_budget)
+        : Loader(hayro_cmap_load_past_faults, data, Bundle(), budget) {}
+    // The same over an open bundle, whose file counts if the caller has none.
+    SalvageLoader(Bytes data, Bundle &bundle, std::uint64_t budget = no_budget)
+        : Loader(hayro_cmap_load_past_faults, data, bundle.share(), budget) {}
+
+    using Loader::empty, Loader::handle, Loader::supply, Loader::wanted;
+
+    // The map and the faults, which leave the loader empty. The caller has none of the files that are still wanted. An
+    // empty loader gives an empty map.
+    Salvaged finish() {
+        supply_nothing();
+        std::vector<Refusal> faults = found_faults();
+        return {*Loader::finish(), std::move(faults)};
+    }
+
+private:
+    std::vector<Refusal> found_faults() {
+        std::vector<hayro_cmap_fault> faults(8);
+        std::string names(64, '\0');
+        std::size_t found = 0, needed = 0;
+        for (;;) {
+            detail::with_memory(hayro_cmap_found_faults(handle(), faults.data(), faults.size(), &found,
+                                                        detail::room_of(names), names.size(), &needed));
+            if (found <= faults.size() && needed <= names.size()) break;
+            faults.resize(std::max(found, faults.size()));
+            names.resize(std::max(needed, names.size()));
+        }
+        faults.resize(found);
+        std::vector<Refusal> refusals;
+        std::string_view left = names;
+        for (const auto &fault : faults) {
+            refusals.emplace_back(fault, left);
+            for (const auto &name : refusals.back().names()) left.remove_prefix(name.size());
+        }
+        return refusals;
+    }
 };
 
 inline Extractor Extractor::simple(Map to_unicode) {
@@ -1232,26 +1291,20 @@ template <class Get> Result Map::load(Bytes data, Get get, std::uint64_t budget)
     return load(data, none, std::move(get), budget);
 }
 
+template <class Get, class>
+Salvaged Map::salvage(Bytes data, Bundle &bundle, Get get, std::uint64_t budget) {
+    SalvageLoader loader(data, bundle, budget);
+    while (auto name = loader.wanted()) loader.supply(get(*name));
+    return loader.finish();
+}
+
+template <class Get, class> Salvaged Map::salvage(Bytes data, Get get, std::uint64_t budget) {
+    Bundle none;
+    return salvage(data, none, std::move(get), budget);
+}
+
 inline Salvaged Map::salvage(Bytes data, Bundle &bundle, const Files &files, std::uint64_t budget) {
-    Salvaged salvaged;
-    std::vector<hayro_cmap_fault> faults;
-    std::string names;
-    std::size_t found = 8, needed = 64;
-    while (found > faults.size() || needed > names.size()) {
-        faults.resize(found);
-        names.resize(needed);
-        detail::with_memory(hayro_cmap_salvage(
-            salvaged.map.handle(), data.data(), data.size(), bundle.handle(), files.data(),
-            files.size(), budget, detail::room_of(Span<hayro_cmap_fault>(faults)), faults.size(),
-            &found, detail::room_of(names), names.size(), &needed));
-    }
-    faults.resize(found);
-    std::string_view left = names;
-    for (const auto &fault : faults) {
-        salvaged.faults.emplace_back(fault, left);
-        for (const auto &name : salvaged.faults.back().names()) left.remove_prefix(name.size());
-    }
-    return salvaged;
+    return salvage(data, bundle, [&](const std::string &name) { return files.find(name); }, budget);
 }
 
 inline Salvaged Map::salvage(Bytes data, const Files &files, std::uint64_t budget) {
@@ -1319,7 +1372,8 @@ inline std::optional<Result> Map::parse_with_base(Bytes data, Map &base, std::ui
 
 // The files that a file uses, and the files that these use, each requested once: `get` takes a name, a
 // std::string, and returns the bytes of its file as a std::optional<std::string>. Files that a file of the
-// bundle uses are requested too. Map::salvage takes these files; Map::load requests fewer, and parses each once.
+// bundle uses are requested too. A function passed to Map::load or Map::salvage gets fewer requests, and each file is
+// parsed once.
 template <class Get>
 std::map<std::string, std::string> used_files(Bytes data, Bundle &bundle, Get get) {
     std::map<std::string, std::string> found, of_bundle;

@@ -30,6 +30,8 @@ static_assert(std::is_nothrow_move_assignable_v<hayro::Map>);
 static_assert(std::is_nothrow_move_constructible_v<hayro::Bundle>);
 static_assert(!std::is_copy_constructible_v<hayro::Loader> && std::is_nothrow_move_constructible_v<hayro::Loader>);
 static_assert(std::is_nothrow_move_assignable_v<hayro::Loader>);
+static_assert(!std::is_copy_constructible_v<hayro::SalvageLoader>);
+static_assert(std::is_nothrow_move_constructible_v<hayro::SalvageLoader>);
 static_assert(sizeof(hayro::Map) == sizeof(hayro_cmap));
 
 using namespace std::string_literals;
@@ -641,6 +643,90 @@ static void a_loader_wants_files() {
     CHECK(hayro::Loader("/Identity-H usecmap").finish()->cid(0x41, 2) == 0x41u);
 }
 
+// What is told of faults: what is wrong, and the names that lead to the file at fault.
+static Names told(const std::vector<hayro::Refusal> &faults) {
+    Names lines;
+    for (const auto &fault : faults) {
+        std::string line;
+        for (const auto &name : fault.names()) line += name + ": ";
+        lines.push_back(line + fault.message());
+    }
+    return lines;
+}
+
+// What hayro_cmap_salvage tells of the faults of a file over files in memory.
+static Names told_of_list(const std::string &data, const hayro::Files &files, std::uint64_t budget) {
+    hayro::Map map;
+    hayro::Bundle none;
+    std::vector<hayro_cmap_fault> faults(16);
+    std::string names(256, '\0');
+    std::size_t found = 0, needed = 0;
+    auto room = reinterpret_cast<std::uint8_t *>(names.data());
+    auto bytes = reinterpret_cast<const std::uint8_t *>(data.data());
+    CHECK(hayro_cmap_salvage(map.handle(), bytes, data.size(), none.handle(), files.data(), files.size(), budget,
+                             faults.data(), faults.size(), &found, room, names.size(), &needed) == HAYRO_CMAP_OK);
+    CHECK(found <= faults.size() && needed <= names.size());
+    std::vector<hayro::Refusal> refusals;
+    std::string_view left = names;
+    for (std::size_t fault = 0; fault < found; fault++) {
+        refusals.emplace_back(faults[fault], left);
+        for (const auto &name : refusals.back().names()) left.remove_prefix(name.size());
+    }
+    return told(refusals);
+}
+
+static void files_are_loaded_past_faults() {
+    std::map<std::string, std::string> all;
+    for (std::string name : {"A", "B", "C", "D", "E", "F", "G", "H", "I", "J", "M", "S"}) all[name] = *Recorded()(name);
+    all["L"] = "/L usecmap /A usecmap";
+    // Each name is asked for once, a file before the files that it uses, and none after a chain that is too long.
+    const std::vector<std::pair<std::string, Names>> cases = {
+        {"/A usecmap ) /C usecmap", {"A", "B", "C", "D", "E", "F", "G", "H", "I", "J"}},
+        {") /M usecmap /Z usecmap /S usecmap /M usecmap /J usecmap", {"M", "S", "Z", "J"}},
+        {"/L usecmap /J usecmap", {"L"}},
+        {"", {}},
+    };
+    for (const auto &[data, asked] : cases) {
+        Recorded files;
+        auto get = [&](const std::string &name) {
+            auto file = files(name);
+            return name == "L" ? std::optional(all["L"]) : file;
+        };
+        auto found = hayro::Map::salvage(data, get);
+        CHECK(files.asked == asked && told(found.faults) == told_of_list(data, all, hayro::no_budget));
+        CHECK(told(hayro::Map::salvage(data, all).faults) == told(found.faults));
+    }
+    // 21 bytes, 77 of A, which isn't read, and 30 of J.
+    Recorded files;
+    const auto text = "/A usecmap /J usecmap"s;
+    auto found = hayro::Map::salvage(text, [&](const std::string &name) { return files(name); }, 60);
+    CHECK(files.asked == (Names{"A", "J"}) && told(found.faults) == told_of_list(text, all, 60));
+    CHECK(found.map.cid(0x41, 1) == 7u && found.faults.size() == 1);
+}
+
+static void a_loader_past_faults_wants_files() {
+    std::vector<std::uint8_t> bytes(std::begin(tables), std::end(tables));
+    bytes.insert(bytes.end(), std::begin(binary), std::end(binary));
+    auto bundle = *hayro::Bundle::open(bytes);
+    hayro::SalvageLoader loader(") /A usecmap /83pv-RKSJ-H usecmap"s, bundle);
+    bundle = hayro::Bundle();
+    CHECK(loader.handle()->full && loader.wanted() == "A");
+    loader.supply(std::string("begincidchar <41> x endcidchar"));
+    CHECK(loader.wanted() == "83pv-RKSJ-H");
+    hayro::SalvageLoader moved(std::move(loader));
+    CHECK(loader.empty() && !loader.wanted() && loader.finish().map.empty() && loader.finish().faults.empty());
+    // The caller has no file that is still wanted.
+    auto found = moved.finish();
+    CHECK(moved.empty() && found.map.cid(0x20, 2) == 5u);
+    CHECK(told(found.faults) == (Names{"byte 0: a ) or > stands alone", "A: byte 19: a CID was expected"}));
+    // More faults than fit in the first buffers.
+    std::string many;
+    for (int count = 0; count < 100; count++) many += " ) /" + std::to_string(100000000 + count) + " usecmap";
+    auto faults = hayro::SalvageLoader(many).finish().faults;
+    CHECK(faults.size() == 200 && faults[199].names() == Names{"100000099"});
+    CHECK(hayro::Map::salvage(many, hayro::Files(), 10).faults.size() == 1);
+}
+
 // Whether a predefined file of this name is there and can't be read.
 static bool is_unreadable(const std::string &name) {
     try {
@@ -886,6 +972,8 @@ int main() {
     files_are_loaded();
     a_use_of_an_identity_needs_no_file();
     a_loader_wants_files();
+    files_are_loaded_past_faults();
+    a_loader_past_faults_wants_files();
     predefined_files_are_found();
     folders_are_listed_as_far_as_they_can_be_read();
     files_are_made();
