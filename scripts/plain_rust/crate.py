@@ -13,7 +13,7 @@ BY_HAND = TOP / "bindings" / "plain-rust"
 SHARED = TOP / "bindings" / "rust"
 SHARED_SOURCES = [
     *("based", "builder", "collection", "encode_error", "extractor", "finding", "loader"),
-    *("metadata", "opening", "options", "piece", "predefined", "reason"),
+    *("metadata", "opening", "options", "piece", "predefined", "reason", "salvage_loader"),
 ]
 # the licences; LICENSE-UNICODE is for tables
 LICENSES = ["LICENSE-APACHE", "LICENSE-MIT", "LICENSE-UNICODE"]

@@ -39,6 +39,7 @@ mod reading;
 mod reason;
 mod refusal;
 mod said;
+mod salvage_loader;
 mod text;
 #[cfg(test)]
 mod units;
@@ -63,6 +64,7 @@ pub use predefined::{OpenError, predefined_file};
 pub use reader::{CMapName, Cid};
 pub use reason::{Cause, ReadAs, Reason, Segment};
 pub use refusal::Refusal;
+pub use salvage_loader::SalvageLoader;
 pub use text::BfString;
 
 use alloc::alloc::{Layout, handle_alloc_error};

@@ -1,10 +1,11 @@
-//! A loader of the reader, over a bundle.
+//! Loaders of the reader, over a bundle.
 
 use crate::bundle::Bundle;
 use crate::fallible::alloc::Global;
 use crate::made;
 use crate::map::CMap;
-use crate::options::ParseOptions;
+use crate::options::{ParseOptions, Salvaged};
+use crate::reader::cmap_load::SalvageLoader;
 use crate::reader::{self, Fault, NameCopies, identity_text};
 use crate::reading::tables_of;
 use crate::refusal::Refusal;
@@ -29,9 +30,8 @@ impl Loading {
     pub(crate) fn supply(&mut self, file: Option<&[u8]>) {
         if let Some(name) = self.loader.wanted() {
             let bundle = self.bundle.as_ref();
-            let in_bundle = || bundle.and_then(|bundle| bundle.bytes_of(name));
-            let elsewhere = || in_bundle().or_else(|| identity_text(name));
-            made(self.loader.supply(file.or_else(elsewhere), tables_of(bundle)));
+            let file = file.or_else(|| elsewhere(bundle, name));
+            made(self.loader.supply(file, tables_of(bundle)));
         }
     }
 
@@ -52,4 +52,43 @@ impl Loading {
             Err(fault) => made(Err(fault)),
         }
     }
+}
+
+/// A loader past faults, whether it wants a file, and the bundle.
+pub(crate) struct Salvaging {
+    loader: SalvageLoader<NameCopies>,
+    wants: bool,
+    bundle: Option<Bundle>,
+}
+
+impl Salvaging {
+    pub(crate) fn past_faults(options: &ParseOptions<'_>, data: &[u8]) -> Salvaging {
+        let ParseOptions { bundle, budget } = *options;
+        let mut loader = made(SalvageLoader::new(Global, budget, data, tables_of(bundle)));
+        Salvaging { wants: made(loader.wants()), loader, bundle: bundle.cloned() }
+    }
+
+    pub(crate) fn wanted(&self) -> Option<&[u8]> {
+        self.wants.then(|| self.loader.name())
+    }
+
+    pub(crate) fn supply(&mut self, file: Option<&[u8]>) {
+        if self.wants {
+            let bundle = self.bundle.as_ref();
+            let file = file.or_else(|| elsewhere(bundle, self.loader.name()));
+            made(self.loader.supply(file, tables_of(bundle)));
+            self.wants = made(self.loader.wants());
+        }
+    }
+
+    /// The map and the faults, if no file is wanted.
+    pub(crate) fn salvaged(self) -> Salvaged {
+        let faults = made(self.loader.faults(Global)).iter().map(Refusal::of).collect();
+        Salvaged { map: CMap::of(reader::CMap::of(made(self.loader.finish()))), faults }
+    }
+}
+
+/// The file of a name for which the caller has none: that of the bundle, and the texts of Identity-H and Identity-V.
+fn elsewhere<'f>(bundle: Option<&'f Bundle>, name: &[u8]) -> Option<&'f [u8]> {
+    bundle.and_then(|bundle| bundle.bytes_of(name)).or_else(|| identity_text(name))
 }

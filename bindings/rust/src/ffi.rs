@@ -71,18 +71,6 @@ pub(crate) struct File<'a> {
     lent: PhantomData<&'a [u8]>,
 }
 
-impl<'a> File<'a> {
-    pub(crate) fn new(name: &'a [u8], bytes: &'a [u8]) -> File<'a> {
-        File {
-            name: name.as_ptr(),
-            name_len: name.len(),
-            bytes: bytes.as_ptr(),
-            bytes_len: bytes.len(),
-            lent: PhantomData,
-        }
-    }
-}
-
 /// A code of a string.
 #[repr(C)]
 #[derive(Clone, Copy, Default)]
@@ -276,8 +264,18 @@ type LayerText = unsafe extern "C" fn(*mut RawMap, usize, *mut u8, usize, *mut u
 type LayerCids =
     unsafe extern "C" fn(*mut RawMap, usize, u8, *mut CidRange, usize, *mut usize) -> u32;
 
+/// A call that begins to load a file.
+type Load = unsafe extern "C" fn(*mut RawLoader, *const u8, usize, *mut RawBundle, u64) -> u32;
+
 unsafe extern "C" {
     fn hayro_cmap_load(
+        loader: *mut RawLoader,
+        data: *const u8,
+        data_len: usize,
+        bundle: *mut RawBundle,
+        budget: u64,
+    ) -> u32;
+    fn hayro_cmap_load_past_faults(
         loader: *mut RawLoader,
         data: *const u8,
         data_len: usize,
@@ -306,14 +304,8 @@ unsafe extern "C" {
         needed: *mut usize,
     ) -> u32;
     fn hayro_cmap_loader_free(loader: *mut RawLoader);
-    fn hayro_cmap_salvage(
-        map: *mut RawMap,
-        data: *const u8,
-        data_len: usize,
-        bundle: *mut RawBundle,
-        files: *const File<'_>,
-        files_len: usize,
-        budget: u64,
+    fn hayro_cmap_found_faults(
+        loader: *mut RawLoader,
         faults: *mut RawFault,
         faults_len: usize,
         found: *mut usize,
@@ -693,44 +685,6 @@ pub(crate) enum Opened {
 impl MapHandle {
     pub(crate) fn empty() -> MapHandle {
         MapHandle(RawMap { full: false, map: ptr::null_mut() })
-    }
-
-    /// The map of a file that is read past its faults, and the faults.
-    pub(crate) fn salvage(
-        data: &[u8],
-        bundle: &mut BundleHandle,
-        files: &[File<'_>],
-        budget: u64,
-    ) -> (MapHandle, Vec<Fault>) {
-        let mut map = MapHandle::empty();
-        let (mut faults, mut room) = (Vec::new(), Vec::new());
-        let (mut found, mut needed) = (8, SHORT);
-        while found > faults.len() || needed > room.len() {
-            faults.resize_with(found, RawFault::default);
-            room.resize(needed, 0);
-            // SAFETY: see the head of the module.
-            let status = unsafe {
-                hayro_cmap_salvage(
-                    &mut map.0,
-                    data.as_ptr(),
-                    data.len(),
-                    &mut bundle.0,
-                    files.as_ptr(),
-                    files.len(),
-                    budget,
-                    faults.as_mut_ptr(),
-                    faults.len(),
-                    &mut found,
-                    room.as_mut_ptr(),
-                    room.len(),
-                    &mut needed,
-                )
-            };
-            if status != OK {
-                out_of_memory();
-            }
-        }
-        (map, Fault::each(&faults[..found], &room))
     }
 
     /// The map of a name for which the caller has no file.
@@ -1128,11 +1082,24 @@ impl Drop for LoaderHandle {
 impl LoaderHandle {
     /// A loader of a file.
     pub(crate) fn load(data: &[u8], bundle: &mut BundleHandle, budget: u64) -> LoaderHandle {
+        LoaderHandle::begun(hayro_cmap_load, data, bundle, budget)
+    }
+
+    /// A loader of a file past its faults.
+    pub(crate) fn load_past_faults(
+        data: &[u8],
+        bundle: &mut BundleHandle,
+        budget: u64,
+    ) -> LoaderHandle {
+        LoaderHandle::begun(hayro_cmap_load_past_faults, data, bundle, budget)
+    }
+
+    fn begun(load: Load, data: &[u8], bundle: &mut BundleHandle, budget: u64) -> LoaderHandle {
         let loader = RawLoader { full: false, loader: ptr::null_mut() };
         let mut made = LoaderHandle { loader, bundle: bundle.share() };
         // SAFETY: see the head of the module.
         expect_memory(unsafe {
-            hayro_cmap_load(&mut made.loader, data.as_ptr(), data.len(), &mut made.bundle.0, budget)
+            load(&mut made.loader, data.as_ptr(), data.len(), &mut made.bundle.0, budget)
         });
         made
     }
@@ -1162,6 +1129,30 @@ impl LoaderHandle {
                 file.len(),
             )
         });
+    }
+
+    /// The faults of a loader past faults, if no file is wanted.
+    pub(crate) fn found_faults(&mut self) -> Vec<Fault> {
+        let (mut faults, mut room) = (Vec::new(), Vec::new());
+        let (mut found, mut needed) = (8, SHORT);
+        while found > faults.len() || needed > room.len() {
+            faults.resize_with(found, RawFault::default);
+            room.resize(needed, 0);
+            // SAFETY: see the head of the module.
+            let status = unsafe {
+                hayro_cmap_found_faults(
+                    &mut self.loader,
+                    faults.as_mut_ptr(),
+                    faults.len(),
+                    &mut found,
+                    room.as_mut_ptr(),
+                    room.len(),
+                    &mut needed,
+                )
+            };
+            expect_memory(status);
+        }
+        Fault::each(&faults[..found], &room)
     }
 
     /// The map of the file, if no file is wanted.
@@ -1407,4 +1398,94 @@ pub(crate) fn version() -> Option<Vec<u8>> {
         // SAFETY: see the head of the module.
         unsafe { hayro_cmap_version(room.as_mut_ptr(), room.len(), needed) }
     })
+}
+
+#[cfg(test)]
+mod tests {
+    use super::*;
+
+    unsafe extern "C" {
+        fn hayro_cmap_salvage(
+            map: *mut RawMap,
+            data: *const u8,
+            data_len: usize,
+            bundle: *mut RawBundle,
+            files: *const File<'_>,
+            files_len: usize,
+            budget: u64,
+            faults: *mut RawFault,
+            faults_len: usize,
+            found: *mut usize,
+            room: *mut u8,
+            room_len: usize,
+            needed: *mut usize,
+        ) -> u32;
+    }
+
+    const FILES: [(&str, &str); 4] = [
+        ("Over", "/Faulty usecmap ) /Nowhere usecmap"),
+        ("Faulty", "begincidchar <41> x endcidchar"),
+        ("Loop", ") /Loop usecmap"),
+        ("Sound", "begincidchar <41> 7 endcidchar"),
+    ];
+
+    fn faults_of_list(data: &[u8], budget: u64) -> Vec<Fault> {
+        let files = FILES.map(|(name, bytes)| File {
+            name: name.as_ptr(),
+            name_len: name.len(),
+            bytes: bytes.as_ptr(),
+            bytes_len: bytes.len(),
+            lent: PhantomData,
+        });
+        let (mut map, mut bundle) = (MapHandle::empty(), BundleHandle::empty());
+        let mut faults: Vec<RawFault> = (0..32).map(|_| RawFault::default()).collect();
+        let (mut room, mut found, mut needed) = ([0; 1024], 0, 0);
+        // SAFETY: see the head of the module.
+        let status = unsafe {
+            hayro_cmap_salvage(
+                &mut map.0,
+                data.as_ptr(),
+                data.len(),
+                &mut bundle.0,
+                files.as_ptr(),
+                files.len(),
+                budget,
+                faults.as_mut_ptr(),
+                faults.len(),
+                &mut found,
+                room.as_mut_ptr(),
+                room.len(),
+                &mut needed,
+            )
+        };
+        assert!(status == OK && needed <= room.len());
+        Fault::each(&faults[..found], &room)
+    }
+
+    fn faults_of_loader(data: &[u8], budget: u64) -> Vec<Fault> {
+        let mut loader = LoaderHandle::load_past_faults(data, &mut BundleHandle::empty(), budget);
+        while let Some(wanted) = loader.wanted() {
+            match FILES.iter().find(|(name, _)| name.as_bytes() == wanted) {
+                Some((_, file)) => loader.supply(Found::Given, file.as_bytes()),
+                None => loader.supply(Found::Elsewhere, &[]),
+            }
+        }
+        loader.found_faults()
+    }
+
+    #[test]
+    fn a_loader_past_faults_finds_the_faults_of_a_list() {
+        let over = b") /Over usecmap /Nowhere usecmap /Faulty usecmap /Sound usecmap";
+        for (data, budget, count) in [
+            (&over[..], u64::MAX, 4),
+            (over, 130, 6),
+            (over, 10, 1),
+            (b"/Loop usecmap /Over usecmap", u64::MAX, 2),
+            (b"/Sound usecmap", u64::MAX, 0),
+        ] {
+            let faults = faults_of_loader(data, budget);
+            assert_eq!(faults, faults_of_list(data, budget));
+            assert_eq!(faults.len(), count, "{faults:?}");
+        }
+    }
 }

@@ -30,6 +30,7 @@ mod predefined;
 mod reading;
 mod reason;
 mod refusal;
+mod salvage_loader;
 mod text;
 mod writing;
 
@@ -51,6 +52,7 @@ pub use piece::{Grade, Piece};
 pub use predefined::{OpenError, predefined_file};
 pub use reason::{Cause, ReadAs, Reason, Segment};
 pub use refusal::Refusal;
+pub use salvage_loader::SalvageLoader;
 pub use text::BfString;
 
 /// The version of the library under the crate, which is the version of the project.

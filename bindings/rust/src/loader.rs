@@ -5,6 +5,7 @@ use crate::loading::Loading;
 use crate::map::CMap;
 use crate::options::ParseOptions;
 use crate::refusal::Refusal;
+use alloc::borrow::Cow;
 use core::fmt::{self, Debug, Formatter};
 
 /// Reads a CMap file as [`CMap::parse_explained`] does, over files that the caller looks up in any way, at any time.
@@ -106,5 +107,26 @@ impl ParseOptions<'_> {
             }
         }
         loader.finish()
+    }
+
+    /// Reads the file of a name, as [`CMap::open`] does.
+    pub fn open<'a>(
+        &self,
+        name: CMapName<'_>,
+        get_cmap: impl Fn(CMapName<'_>) -> Option<&'a [u8]>,
+    ) -> Result<Option<CMap>, Refusal> {
+        let name = CMapName::from_bytes(name.to_bytes());
+        let top = get_cmap(name);
+        let of_bundle = || Some(Cow::Owned(self.bundle?.file(name)?));
+        let Some(data) = top.map(Cow::Borrowed).or_else(of_bundle) else {
+            return self.open_without_file(name);
+        };
+        let mut loader = self.loader(&data);
+        while let Some(wanted) = loader.wanted() {
+            // Each name is asked for once, the first name too.
+            let file = if wanted == name { top } else { get_cmap(wanted) };
+            loader.supply(file);
+        }
+        loader.finish().map(Some)
     }
 }

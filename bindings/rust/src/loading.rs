@@ -2,7 +2,7 @@
 
 use crate::ffi::{Found, LoaderHandle};
 use crate::map::CMap;
-use crate::options::ParseOptions;
+use crate::options::{ParseOptions, Salvaged};
 use crate::reading::is_identity;
 use crate::refusal::Refusal;
 
@@ -12,10 +12,21 @@ pub(crate) struct Loading {
     wanted: Option<Vec<u8>>,
 }
 
+/// A loader past faults.
+pub(crate) type Salvaging = Loading;
+
 impl Loading {
     pub(crate) fn new(options: &ParseOptions<'_>, data: &[u8]) -> Loading {
         let load = |bundle: &mut _| LoaderHandle::load(data, bundle, options.most());
-        let mut loader = options.tables().ask(load);
+        Loading::of(options.tables().ask(load))
+    }
+
+    pub(crate) fn past_faults(options: &ParseOptions<'_>, data: &[u8]) -> Salvaging {
+        let load = |bundle: &mut _| LoaderHandle::load_past_faults(data, bundle, options.most());
+        Loading::of(options.tables().ask(load))
+    }
+
+    fn of(mut loader: LoaderHandle) -> Loading {
         Loading { wanted: loader.wanted(), loader }
     }
 
@@ -41,5 +52,12 @@ impl Loading {
     /// The map, if no file is wanted.
     pub(crate) fn finish(mut self) -> Result<CMap, Refusal> {
         self.loader.finish().map(CMap::of).map_err(Refusal::of)
+    }
+
+    /// The map and the faults of a loader past faults, if no file is wanted.
+    pub(crate) fn salvaged(mut self) -> Salvaged {
+        let faults = self.loader.found_faults().into_iter().map(Refusal::of).collect();
+        let map = self.finish().expect("past faults no file is refused");
+        Salvaged { map, faults }
     }
 }

@@ -61,6 +61,9 @@ impl CMap {
     /// [`CMap::parse_explained`] refuses the file; in a text in rows it may be an earlier one. docs/FORMATS.md
     /// of the project defines how reading goes on, and what a text in rows is.
     ///
+    /// `get_cmap` is called as by [`CMap::parse`], and after a fault, too, but not after a chain of more than 16
+    /// files.
+    ///
     /// ```
     /// let file = b"begincidchar <41> 5 <42> /x <43> 7 endcidchar";
     /// let found = hayro_cmap::CMap::salvage(file, |_| None);

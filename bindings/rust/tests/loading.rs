@@ -1,6 +1,8 @@
 //! Loaders, and which names are asked for when a file is read.
 
-use hayro_cmap::{Bundle, CMap, CMapName, Cause, Loader, ParseOptions, Reason, Refusal};
+use hayro_cmap::{
+    Bundle, CMap, CMapName, Cause, Loader, ParseOptions, Reason, Refusal, SalvageLoader, Salvaged,
+};
 use std::cell::RefCell;
 use std::future::{Future, poll_fn};
 use std::pin::pin;
@@ -54,6 +56,26 @@ fn loaded(options: ParseOptions<'_>, data: &[u8]) -> (Result<CMap, Refusal>, Str
     (found, by_loader.0.into_inner())
 }
 
+/// The same past faults, by a `SalvageLoader` and by `salvage`.
+fn salvaged(options: ParseOptions<'_>, data: &[u8]) -> (Salvaged, String) {
+    let (by_loader, by_salvage) = (Asked::default(), Asked::default());
+    let mut loader = options.salvage_loader(data);
+    while let Some(name) = loader.wanted() {
+        let file = by_loader.file(name);
+        loader.supply(file.as_deref());
+    }
+    let (found, other) =
+        (loader.finish(), options.salvage(data, |name| Some(by_salvage.file(name)?.leak())));
+    assert_eq!(by_loader.0, by_salvage.0);
+    assert_eq!(found.faults, other.faults);
+    (found, by_loader.0.into_inner())
+}
+
+/// The texts of faults.
+fn texts_of(faults: &[Refusal]) -> Vec<String> {
+    faults.iter().map(Refusal::to_string).collect()
+}
+
 #[test]
 fn each_file_of_a_chain_is_asked_for_once() {
     // J is used 7^10 times.
@@ -88,6 +110,41 @@ fn no_name_is_asked_for_after_a_fault() {
 }
 
 #[test]
+fn past_faults_each_file_is_asked_for_once() {
+    let (found, asked) = salvaged(ParseOptions::new(), &[&seven_uses('A')[..], b")"].concat());
+    assert_eq!(asked, "A B C D E F G H I J");
+    assert_eq!(texts_of(&found.faults), ["byte 77: a ) or > stands alone"]);
+    assert_eq!((found.map.lookup_cid_code(0x41, 1), found.map.layers().len()), (Some(7), 11));
+}
+
+#[test]
+fn past_faults_a_name_is_asked_for_after_a_fault() {
+    let data =
+        b"/Over usecmap ) /Nowhere usecmap /Faulty usecmap /Over usecmap /Z usecmap /J usecmap";
+    let (found, asked) = salvaged(ParseOptions::new(), data);
+    assert_eq!(asked, "Over Faulty Nowhere Z J");
+    assert_eq!(
+        texts_of(&found.faults),
+        [
+            "byte 14: a ) or > stands alone",
+            "Faulty: byte 19: a CID was expected",
+            "Nowhere: no file has this name",
+            "Z: no file has this name",
+        ]
+    );
+    assert_eq!(found.faults[1].names(), [b"Over".to_vec(), b"Faulty".to_vec()]);
+    assert_eq!(found.map.lookup_cid_code(0x41, 1), Some(7));
+    // No name is asked for after a chain that is too long.
+    let looped = |name: CMapName<'_>| match name.to_bytes() {
+        b"Loop" => Some(&b"/Loop usecmap"[..]),
+        _ => panic!("{name:?} is asked for"),
+    };
+    let found = CMap::salvage(b"/Loop usecmap /J usecmap", looped);
+    assert_eq!(found.faults[0].cause(), Cause::ChainLength);
+    assert_eq!((found.faults.len(), found.map.layers().len()), (1, 16));
+}
+
+#[test]
 fn a_file_counts_at_each_use() {
     // 32 bytes, twice the 30 bytes of J, and then A.
     let data = b"/J usecmap /J usecmap /A usecmap";
@@ -97,6 +154,18 @@ fn a_file_counts_at_each_use() {
         assert_eq!((refusal.cause(), refusal.names()), (Cause::OverBudget, &[names.into()][..]));
         assert_eq!(asked, if budget == 91 { "J" } else { "J A" });
     }
+}
+
+#[test]
+fn past_faults_a_file_past_the_budget_is_asked_for_and_not_read() {
+    // 21 bytes, 77 of A, which isn't read, and 30 of J.
+    let data = b"/A usecmap /J usecmap";
+    let (found, asked) = salvaged(ParseOptions::new().budget(60), data);
+    assert_eq!(asked, "A J");
+    assert_eq!(texts_of(&found.faults), ["A: the files have more bytes than the budget"]);
+    assert_eq!(found.map.lookup_cid_code(0x41, 1), Some(7));
+    let (found, asked) = salvaged(ParseOptions::new().budget(20), data);
+    assert_eq!((found.faults.len(), found.faults[0].names().len(), &asked[..]), (1, 0, ""));
 }
 
 #[test]
@@ -110,6 +179,9 @@ fn parse_needs_files_of_identities_and_a_loader_needs_none() {
     let mut loader = Loader::new(b"/Identity-V usecmap");
     loader.supply(None);
     assert_eq!(loader.finish().unwrap().lookup_cid_code(0x1234, 2), Some(0x1234));
+    let (found, asked) = salvaged(ParseOptions::new(), b") /Identity-V usecmap");
+    assert_eq!((found.faults.len(), &asked[..]), (1, "Identity-V"));
+    assert_eq!(found.map.lookup_cid_code(0x1234, 2), Some(0x1234));
 }
 
 #[test]
@@ -164,6 +236,26 @@ fn a_loader_keeps_its_bundle() {
     let refusal = loader(b"/83pv-RKSJ-H usecmap /Else usecmap").finish().unwrap_err();
     assert_eq!((refusal.cause(), refusal.names()), (Cause::NoFile, &[b"Else".to_vec()][..]));
     drop(loader(b"/Else usecmap"));
+}
+
+#[test]
+fn a_loader_past_faults_keeps_its_bundle() {
+    let mut loader =
+        ParseOptions::new().bundle(&bundle()).salvage_loader(b"/83pv-RKSJ-H usecmap )");
+    assert_eq!(
+        format!("{loader:?}"),
+        format!("SalvageLoader {{ wanted: Some({:?}), .. }}", CMapName::N83pvRksjH)
+    );
+    loader.supply(None);
+    // No file is wanted.
+    assert_eq!(loader.wanted(), None);
+    loader.supply(Some(b"("));
+    let found = loader.finish();
+    assert_eq!((found.map.lookup_cid_code(0x20, 2), found.faults.len()), (Some(5), 1));
+    // The caller has no file that is still wanted.
+    let found = SalvageLoader::new(b"/A usecmap /B usecmap").finish();
+    assert_eq!(texts_of(&found.faults), ["A: no file has this name", "B: no file has this name"]);
+    drop(SalvageLoader::new(b"/A usecmap"));
 }
 
 #[test]
@@ -247,6 +339,7 @@ fn files_are_awaited() {
 fn a_loader_may_move_to_another_thread() {
     fn is_shared<T: Send + Sync + Unpin + std::fmt::Debug + 'static>() {}
     is_shared::<Loader>();
+    is_shared::<SalvageLoader>();
     let mut loader = Loader::new(b"/J usecmap");
     let map = std::thread::spawn(move || {
         loader.supply(file_of(CMapName::Custom(b"J")).as_deref());
