@@ -24,7 +24,7 @@ from ._lint import Finding
 from ._map import CidRange, CMap, Code, CodeRange, Codespace, Layer, Metadata, Salvaged, TextRange, WritingMode
 from ._owned import library, put
 from ._predefined import predefined
-from ._reading import Loader, uses
+from ._reading import Loader, SalvageLoader, uses
 from ._source import CMapSource
 from ._writer import CMapWriter, to_unicode
 
@@ -51,6 +51,7 @@ __all__ = [
     "ReadAs",
     "Reason",
     "Refused",
+    "SalvageLoader",
     "Salvaged",
     "Segment",
     "TextRange",

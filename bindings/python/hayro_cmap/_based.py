@@ -62,7 +62,7 @@ def salvaged_file(
     if isinstance(base, kind):
         return base.write(), []
     cmap, faults = kind.salvage(base, files, bundle, budget, most_faults=most)
-    is_alone = not faults and not names_in(bytes_of(base), bundle)
+    is_alone = not faults and len(cmap.layers) == 1
     return bytes_of(base) if is_alone else cmap.write(), faults
 
 

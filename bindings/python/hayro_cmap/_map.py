@@ -23,6 +23,7 @@ from ._library import (
     CodespaceRange,
     DeclaredCids,
     DeclaredTexts,
+    File,
     Found,
     Handle,
 )
@@ -34,13 +35,12 @@ from ._reading import (
     AwaitedFiles,
     Files,
     Loader,
+    SalvageLoader,
     budget_of,
     gathered,
     loaded,
     no_file,
     past_budget,
-    salvaged_over,
-    table_of,
 )
 from ._reading import uses as uses_of
 from ._values import (
@@ -254,8 +254,7 @@ class CMap(Shared):
         Files are awaited one after another, since only a file that was read shows which files it uses.
         """
         with Loader(data, bundle, budget) as loader:
-            while (name := loader.wanted) is not None:
-                loader.supply(await files(name))
+            await loader._await(files)
             return cls(loader._finished())
 
     @classmethod
@@ -273,18 +272,32 @@ class CMap(Shared):
 
         The faults of a file are listed once, however often the file is used. For a file that `parse` accepts, the map
         is the same and there is no fault. For any other file, the first fault is the fault for which `parse` refuses
-        the file, or in a text in rows an earlier fault. The parameters are the same as for `parse`, but a callable
-        isn't called for a name that only a file at fault uses, if the bundle has the name or the name needs no file.
-        The faults of a `base` come last. `most_faults` limits the number of faults of the file with the files that it
-        uses, and of a `base`: a file of a megabyte may have a million faults.
+        the file, or in a text in rows an earlier fault. The parameters are the same as for `parse`, but a callable is
+        called after a fault, too, and not after a chain of more than 16 files. The faults of a `base` come last.
+        `most_faults` limits the number of faults of the file with the files that it uses, and of a `base`: a file of a
+        megabyte may have a million faults.
         """
-        if most_faults is not None:
-            most_faults = number(most_faults, 0, 2**32, "most_faults")
         if base is not None:
             return Salvaged(*_based.salvaged(cls, data, base, files, bundle, budget, most_faults))
-        data, most = bytes_of(data), budget_of(budget)
-        handle, faults = salvaged_over(data, files, bundle, most, most_faults)
-        return Salvaged(cls(handle), faults)
+        with SalvageLoader(data, bundle, budget) as loader:
+            loader._supply_from(files)
+            cmap, faults = loader._salvaged(most_faults)
+            return Salvaged(cls(cmap), faults)
+
+    @classmethod
+    async def load_past_faults(
+        cls,
+        data: Buffer,
+        files: AwaitedFiles,
+        bundle: Optional[Bundle] = None,
+        budget: Optional[int] = None,
+        most_faults: Optional[int] = None,
+    ) -> "Salvaged":
+        """Reads a CMap file past its faults as `salvage` does, over files that are awaited as by `load`."""
+        with SalvageLoader(data, bundle, budget) as loader:
+            await loader._await(files)
+            cmap, faults = loader._salvaged(most_faults)
+            return Salvaged(cls(cmap), faults)
 
     @classmethod
     def open(
@@ -317,7 +330,7 @@ class CMap(Shared):
             return cls(loaded(file, files, bundle, most, opened=name))
         handle = Handle()
         with held(None) as over:
-            status = checked(library.hayro_cmap_open(handle, name, len(name), over, table_of({}), 0, most))
+            status = checked(library.hayro_cmap_open(handle, name, len(name), over, File(), 0, most))
         if status != OK:
             raise no_file(name) if status == ABSENT else past_budget(name)
         return cls(handle)

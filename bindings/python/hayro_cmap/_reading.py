@@ -2,32 +2,19 @@
 
 import contextlib
 import ctypes
-import functools
-import itertools
+import sys
 from ctypes import c_size_t
 from types import MappingProxyType
-from typing import (
-    TYPE_CHECKING,
-    Awaitable,
-    Callable,
-    Dict,
-    Iterable,
-    Iterator,
-    List,
-    Mapping,
-    Optional,
-    Tuple,
-    Union,
-)
+from typing import TYPE_CHECKING, Awaitable, Callable, Dict, List, Mapping, Optional, Tuple, Union
 
 from ._bundle import Bundle, held
 from ._faults import Cause, Reason, Refused, Segment
-from ._library import NO_BUDGET, NO_ROOM, OVER_BUDGET, REFUSED, Fault, File, Handle
+from ._library import NO_BUDGET, NO_ROOM, OVER_BUDGET, REFUSED, Fault, Handle
 from ._owned import Owned, checked, library, put
 from ._values import Buffer, Name, bytes_of, name_of, number
 
 if TYPE_CHECKING:
-    from ._map import CMap
+    from ._map import CMap, Salvaged
 
 #: Files by their names, or a callable that gives the file with a name, or None.
 Files = Union[
@@ -39,25 +26,16 @@ AwaitedFiles = Callable[[bytes], Awaitable[Optional[Buffer]]]
 
 NO_FILES: Files = MappingProxyType({})
 
-#: The maximum number of files in a chain of files that use each other.
-MOST_IN_CHAIN = 16
-
 
 def budget_of(budget: Optional[int]) -> int:
     """The budget in the library's form."""
     return NO_BUDGET if budget is None else number(budget, 0, NO_BUDGET, "the budget")
 
 
-def table_of(files: Dict[bytes, bytes]):
-    """The files as an array. An extra entry keeps it from being empty."""
-    entries = (File(name, len(name), data, len(data)) for name, data in files.items())
-    return (File * (len(files) + 1))(*entries)
-
-
 @contextlib.contextmanager
-def filled():
-    """A handle that the block fills. It is freed if the block raises an exception."""
-    handle = Handle()
+def filled(handle: Optional[Handle] = None):
+    """A handle that the block fills, or a full one. It is freed if the block raises an exception."""
+    handle = handle or Handle()
     try:
         yield handle
     except BaseException:
@@ -65,25 +43,17 @@ def filled():
         raise
 
 
-class Loader(Owned):
-    """Reads a CMap file as `CMap.parse` does, over files that the caller looks up, in any way and at any time:
-
-        with Loader(data) as loader:
-            while (name := loader.wanted) is not None:
-                loader.supply(look_up(name))
-            cmap = loader.finish()
-
-    Each name is wanted once, in the order in which files are opened, and no name after a fault. Each file is parsed
-    once. `CMap.load` is this loop for files that are awaited. Binary files are read with the tables of the bundle.
-    """
+class Loading(Owned):
+    """A loader of a file, which states the name of the file that it wants."""
 
     _what = "the loader"
     _free = staticmethod(library.hayro_cmap_loader_free)
+    _load = staticmethod(library.hayro_cmap_load)
 
     def __init__(self, data: Buffer, bundle: Optional[Bundle] = None, budget: Optional[int] = None):
         data, most, handle = bytes_of(data), budget_of(budget), Handle()
         with held(bundle) as over:
-            checked(library.hayro_cmap_load(handle, data, len(data), over, most))
+            checked(self._load(handle, data, len(data), over, most))
         super().__init__(handle)
         self._bundle = bundle
 
@@ -100,17 +70,20 @@ class Loader(Owned):
         with self._held() as handle, held(self._bundle) as over:
             checked(library.hayro_cmap_supply(handle, over, file is not None, data, len(data)))
 
-    def finish(self) -> "CMap":
-        """The map, which closes the loader. The caller has none of the files that are still wanted. Raises Refused if
-        there is no map."""
-        from ._map import CMap
+    def _supply_from(self, files: Optional[Files]) -> None:
+        """Supplies all wanted files from a mapping or a callable."""
+        file_of = files if callable(files) else gathered(files).get
+        while (name := self.wanted) is not None:
+            self.supply(file_of(name))
 
-        return CMap(self._finished())
+    async def _await(self, files: AwaitedFiles) -> None:
+        """Supplies all wanted files, which are awaited."""
+        while (name := self.wanted) is not None:
+            self.supply(await files(name))
 
     def _finished(self, opened: Optional[bytes] = None) -> Handle:
-        """The handle of the map."""
-        while self.wanted is not None:
-            self.supply(None)
+        """The handle of the map, which closes the loader. The files that are still wanted are missing."""
+        self._supply_from(None)
         fault, needed, room_len = Fault(), c_size_t(256), 0
         with filled() as cmap:
             while needed.value > room_len:
@@ -125,6 +98,57 @@ class Loader(Owned):
             raise refusal(fault, room.raw, opened)
 
 
+class Loader(Loading):
+    """Reads a CMap file as `CMap.parse` does, over files that the caller looks up, in any way and at any time:
+
+        with Loader(data) as loader:
+            while (name := loader.wanted) is not None:
+                loader.supply(look_up(name))
+            cmap = loader.finish()
+
+    Each name is wanted once, in the order in which files are opened, and no name after a fault. Each file is parsed
+    once. `CMap.load` is this loop for files that are awaited. Binary files are read with the tables of the bundle.
+    """
+
+    def finish(self) -> "CMap":
+        """The map, which closes the loader. The caller has none of the files that are still wanted. Raises Refused if
+        there is no map."""
+        from ._map import CMap
+
+        return CMap(self._finished())
+
+
+class SalvageLoader(Loading):
+    """Reads a CMap file past its faults as `CMap.salvage` does, over files that the caller looks up as for a `Loader`.
+
+    Names are wanted after a fault, too, but none after a chain of more than 16 files. `CMap.load_past_faults` is the
+    loop for files that are awaited.
+    """
+
+    _load = staticmethod(library.hayro_cmap_load_past_faults)
+
+    def finish(self, most_faults: Optional[int] = None) -> "Salvaged":
+        """The map, and the faults, at most `most_faults`, which closes the loader. The caller has none of the files
+        that are still wanted."""
+        from ._map import CMap, Salvaged
+
+        cmap, faults = self._salvaged(most_faults)
+        return Salvaged(CMap(cmap), faults)
+
+    def _salvaged(self, most_faults: Optional[int]) -> Tuple[Handle, List[Refused]]:
+        """The handle of the map, and the faults."""
+        most = sys.maxsize if most_faults is None else number(most_faults, 0, 2**32, "most_faults")
+        self._supply_from(None)
+        found, needed, faults, names = c_size_t(8), c_size_t(256), [], b""
+        while min(found.value, most) > len(faults) or needed.value > len(names):
+            faults = (Fault * (min(found.value, most) + 1))()
+            names = ctypes.create_string_buffer(needed.value + 1)
+            with self._held() as handle:
+                checked(library.hayro_cmap_found_faults(handle, faults, len(faults), found, names, len(names), needed))
+        with filled(self._finished()) as cmap:
+            return cmap, refusals(faults[: min(found.value, most)], names.raw)
+
+
 def loaded(
     data: Buffer,
     files: Optional[Files],
@@ -134,69 +158,15 @@ def loaded(
 ) -> Handle:
     """The handle of the map of a file, over the files of a mapping or of a callable. Raises Refused if there is no
     map."""
-    file_of = files if callable(files) else gathered(files).get
     with Loader(data, bundle, budget) as loader:
-        while (name := loader.wanted) is not None:
-            loader.supply(file_of(name))
+        loader._supply_from(files)
         return loader._finished(opened)
 
 
-def salvage_to(handle: Handle, data: bytes, files: Dict[bytes, bytes], bundle: Optional[Bundle], budget: int):
-    """Fills a handle with the map of a file that is read past its faults. It replaces the handle's map. The results are
-    the faults in the library's form, and their concatenated names."""
-    table, found, needed, faults, room = table_of(files), c_size_t(8), c_size_t(256), [], b""
-    while found.value > len(faults) or needed.value > len(room):
-        faults, room = (Fault * (found.value + 1))(), ctypes.create_string_buffer(needed.value + 1)
-        with held(bundle) as over:
-            checked(
-                library.hayro_cmap_salvage(
-                    *(handle, data, len(data), over, table, len(files), budget),
-                    *(faults, len(faults), found, room, len(room), needed),
-                )
-            )
-    return itertools.islice(faults, found.value), room.raw
-
-
-def with_names(faults: Iterable[Fault], names: bytes) -> Iterator[Tuple[Fault, bytes]]:
-    """Pairs of a fault and its concatenated names."""
-    start = 0
-    for fault in faults:
-        end = start + sum(fault.name_lens[: fault.names])
-        yield fault, names[start:end]
-        start = end
-
-
-def salvaged_over(
-    data: bytes, files: Optional[Files], bundle: Optional[Bundle], budget: int, most_faults: Optional[int]
-) -> Tuple[Handle, List[Refused]]:
-    """The handle of the map of a file that is read past its faults, and the faults, with all files of a mapping, or
-    with the files of a callable. Each name is requested once."""
-    with filled() as handle:
-        return handle, salvage_over_to(handle, data, files, bundle, budget, most_faults)
-
-
-def salvage_over_to(
-    handle: Handle, data: bytes, files: Optional[Files], bundle: Optional[Bundle], budget: int, most_faults
-) -> List[Refused]:
-    """Fills a handle with this map, and returns the faults."""
-    if not callable(files):
-        faults, names = salvage_to(handle, data, gathered(files), bundle, budget)
-        return [refusal(*it, None) for it in itertools.islice(with_names(faults, names), most_faults)]
-    ask = functools.lru_cache(maxsize=None)(files)
-    found = fetched(names_in(data, bundle), MOST_IN_CHAIN - 1, ask, bundle, budget - len(data))
-    while True:
-        faults, names = salvage_to(handle, data, found, bundle, budget)
-        first, missing = [], []
-        for fault, of_fault in with_names(faults, names):
-            if most_faults is None or len(first) < most_faults:
-                first.append(refusal(fault, of_fault, None))
-            if fault.cause == Cause.NO_FILE:
-                missing.append(pieces(of_fault, fault.name_lens[: fault.names])[-1])
-        answers = {name: ask(name) for name in missing}
-        new = {name: bytes_of(file) for name, file in answers.items() if file is not None}
-        if not new:
-            return first
-        found.update(new)
+def refusals(faults: List[Fault], names: bytes) -> List[Refused]:
+    """The exceptions for faults of the library, whose names are concatenated."""
+    lens = [sum(fault.name_lens[: fault.names]) for fault in faults]
+    return [refusal(fault, of_fault, None) for fault, of_fault in zip(faults, pieces(names, lens))]
 
 
 def refusal(fault: Fault, names: bytes, opened: Optional[bytes]) -> Refused:
@@ -258,29 +228,6 @@ def gathered(files: Optional[Mapping]) -> Dict[bytes, bytes]:
         raise TypeError(f"files are a mapping from names or a callable, and not {type(files).__name__}")
     for name, file in ({} if files is None else files).items():
         found.setdefault(name_of(name), bytes_of(file))
-    return found
-
-
-def fetched(names: List[bytes], most: int, ask, bundle: Optional[Bundle], left: int) -> Dict[bytes, bytes]:
-    """The files with these names and the files that they use, at most `most` in a chain. The last file is the first one
-    with which they exceed `left` bytes together. Each name is requested once."""
-    found: Dict[bytes, bytes] = {}
-    asked = set()
-    for _ in range(most):
-        new = [name for name in dict.fromkeys(names) if name not in asked]
-        asked.update(new)
-        names = []
-        for name in new:
-            file = ask(name)
-            if file is not None:
-                file = found[name] = bytes_of(file)
-                left -= len(file)
-                if left < 0:
-                    return found
-            elif bundle is not None:
-                file = bundle.file(name)
-            if file is not None:
-                names += names_in(file, bundle)
     return found
 
 

@@ -2,12 +2,14 @@
 
 import asyncio
 import copy
+import ctypes
 import gc
 import pickle
 import unittest
 import unittest.mock
 
-from hayro_cmap import Bundle, Cause, CMap, Loader, Reason, Refused, WritingMode
+from hayro_cmap import Bundle, Cause, CMap, Loader, Reason, Refused, SalvageLoader, WritingMode
+from hayro_cmap._library import NO_BUDGET, Fault, File, Handle
 from hayro_cmap._owned import library
 
 from .files import BINARY, BUNDLE, FIRST, SMALL, bundle_of, uses
@@ -40,7 +42,7 @@ def parsed(data, files, **options):
     return asked_by(lambda file_of: CMap.parse(data, file_of, **options), files)
 
 
-def awaited(data, files, **options):
+def awaited(data, files, call=CMap.load, **options):
     """By CMap.load."""
 
     def load(file_of):
@@ -48,16 +50,16 @@ def awaited(data, files, **options):
             await asyncio.sleep(0)
             return file_of(name)
 
-        return asyncio.run(CMap.load(data, later, **options))
+        return asyncio.run(call(data, later, **options))
 
     return asked_by(load, files)
 
 
-def supplied(data, files, **options):
+def supplied(data, files, kind=Loader, **options):
     """By a Loader."""
 
     def load(file_of):
-        loader = Loader(data, **options)
+        loader = kind(data, **options)
         while loader.wanted is not None:
             loader.supply(file_of(loader.wanted))
         return loader.finish()
@@ -69,6 +71,28 @@ def opened(data, files, **options):
     """By CMap.open, without the first name."""
     found, asked = asked_by(lambda file_of: CMap.open("Top", file_of, **options), {b"Top": data, **files})
     return found, asked[1:]
+
+
+def faults_of_list(data, files, budget=NO_BUDGET):
+    """The cause, the offset and the names of each fault, by hayro_cmap_salvage over a list of files."""
+    table = (File * (len(files) + 1))(*((name, len(name), file, len(file)) for name, file in files.items()))
+    faults, room = (Fault * 16)(), ctypes.create_string_buffer(1024)
+    found, needed, handle, size = ctypes.c_size_t(), ctypes.c_size_t(), Handle(), ctypes.c_size_t
+    status = library["hayro_cmap_salvage"](
+        *(ctypes.byref(handle), data, size(len(data)), ctypes.byref(Handle()), table, size(len(files))),
+        *(ctypes.c_uint64(budget), faults, size(len(faults)), ctypes.byref(found)),
+        *(room, size(len(room)), ctypes.byref(needed)),
+    )
+    library.hayro_cmap_free(handle)
+    assert status == 0 and found.value <= len(faults) and needed.value <= len(room)
+    told, start = [], 0
+    for fault in faults[: found.value]:
+        names = []
+        for length in fault.name_lens[: fault.names]:
+            names.append(room.raw[start : start + length])
+            start += length
+        told.append((fault.cause, fault.offset, tuple(names)))
+    return told
 
 
 class Order(unittest.TestCase):
@@ -144,6 +168,91 @@ class Order(unittest.TestCase):
             self.assertEqual([cmap.cid(0x20, 2) for cmap in found], [5] * 4)
             found, _ = self.loaded(uses(FIRST), {FIRST: SMALL}, bundle=bundle)
             self.assertEqual([(cmap.cid(0x41, 1), cmap.cid(0x20, 2)) for cmap in found], [(34, None)] * 4)
+
+
+class PastFaults(unittest.TestCase):
+    def salvaged(self, data, files, budget=None):
+        """What CMap.salvage, CMap.load_past_faults and a SalvageLoader give, and the names that they ask for, which are
+        the same. The faults are those over a list of files."""
+        ways = [
+            asked_by(lambda file_of: CMap.salvage(data, file_of, budget=budget), files),
+            awaited(data, files, CMap.load_past_faults, budget=budget),
+            supplied(data, files, SalvageLoader, budget=budget),
+        ]
+        expected = faults_of_list(data, files, NO_BUDGET if budget is None else budget)
+        for (_, faults), asked in ways:
+            self.assertEqual(asked, ways[0][1])
+            self.assertEqual([(it.cause, it.offset or 0, it.names) for it in faults], expected)
+        by_mapping = CMap.salvage(data, files, budget=budget).faults
+        self.assertEqual([it.args for it in by_mapping], [it.args for it in faults])
+        return [cmap for (cmap, _), _ in ways], faults, asked
+
+    def test_a_chain(self):
+        """Each file is asked for once, though the last one is used 7 ** 10 times."""
+        maps, faults, asked = self.salvaged(uses(*[NAMES[0]] * 7) + b" ) " + uses(NAMES[4]), CHAIN)
+        self.assertEqual((asked, len(faults)), (NAMES, 1))
+        self.assertEqual([cmap.cid(0x41, 1) for cmap in maps], [7] * 3)
+
+    def test_names_after_faults(self):
+        """A file comes before those that it uses, and these before later ones."""
+        data = b") " + uses(b"Over", b"Nowhere", b"Faulty", b"Over", b"Nowhere", b"9")
+        maps, faults, asked = self.salvaged(data, {**CHAIN, **FAULTY})
+        self.assertEqual(asked, [b"Over", b"Faulty", b"Nowhere", b"9", b"10"])
+        self.assertEqual([it.names for it in faults], [(), (b"Over", b"Faulty"), (b"Nowhere",)])
+        self.assertEqual([cmap.cid(0x41, 1) for cmap in maps], [7] * 3)
+
+    def test_nothing_after_a_chain_that_is_too_long(self):
+        maps, faults, asked = self.salvaged(uses(b"Loop", b"1"), {**CHAIN, b"Loop": uses(b"Loop")})
+        self.assertEqual((asked, [it.cause for it in faults]), ([b"Loop"], [Cause.CHAIN_LENGTH]))
+        self.assertEqual([len(cmap.layers) for cmap in maps], [16] * 3)
+
+    def test_a_budget(self):
+        """A file that would exceed it is asked for, and not read."""
+        data = uses(b"1", b"10", b"10")
+        maps, faults, asked = self.salvaged(data, CHAIN, budget=len(data) + len(CHAIN[b"10"]))
+        self.assertEqual((asked, [it.cause for it in faults]), ([b"1", b"10"], [Cause.PAST_BUDGET] * 2))
+        _, faults, asked = self.salvaged(data, CHAIN, budget=len(data) - 1)
+        self.assertEqual((asked, [it.names for it in faults]), ([], [()]))
+
+    def test_identities_and_a_bundle(self):
+        data = b") " + uses(b"Identity-V")
+        with SalvageLoader(data) as loader:
+            self.assertEqual(loader.wanted, b"Identity-V")
+            cmap, faults = loader.finish()
+            self.assertEqual((cmap.cid(0x3042, 2), len(faults)), (0x3042, 1))
+            self.assertRaisesRegex(ValueError, "^the loader is closed$", loader.finish)
+        with Bundle.open(BUNDLE) as bundle:
+            self.assertEqual(SalvageLoader(b") " + uses(FIRST), bundle).finish().cmap.cid(0x20, 2), 5)
+
+    def test_the_first_faults(self):
+        """A number of faults, and names that are longer than the first buffers."""
+        names = [b"%d" % number * 100 for number in range(100, 130)]
+        for most in [0, 1, 29, 30, None]:
+            with SalvageLoader(uses(*names)) as loader:
+                faults = loader.finish(most).faults
+            self.assertEqual([it.names for it in faults], [(name,) for name in names[:most]])
+        with SalvageLoader(b"") as loader:
+            self.assertRaises(ValueError, loader.finish, -1)
+
+    def test_without_memory(self):
+        """A loader that can't tell what it wants, or what is at fault, is asked again."""
+        with SalvageLoader(uses(b"A")) as loader:
+            with unittest.mock.patch.object(library, "hayro_cmap_wanted", return_value=2):
+                self.assertRaises(MemoryError, lambda: loader.wanted)
+            loader.supply(SMALL + b" )")
+            with unittest.mock.patch.object(library, "hayro_cmap_found_faults", return_value=2):
+                self.assertRaises(MemoryError, loader.finish)
+            self.assertEqual([it.names for it in loader.finish().faults], [(b"A",)])
+
+    def test_the_class(self):
+        class Own(CMap):
+            pass
+
+        async def files(name):
+            return SMALL
+
+        self.assertEqual(type(asyncio.run(Own.load_past_faults(uses(b"A"), files)).cmap), Own)
+        self.assertEqual(type(Own.salvage(uses(b"A")).cmap), Own)
 
 
 class Loaders(unittest.TestCase):

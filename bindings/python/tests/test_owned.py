@@ -10,7 +10,7 @@ import unittest
 import unittest.mock
 from concurrent.futures import ThreadPoolExecutor
 
-from hayro_cmap import Bundle, CMap, _reading
+from hayro_cmap import Bundle, CMap, SalvageLoader, _reading
 from hayro_cmap._owned import library
 
 from .files import BINARY, BUNDLE, FIRST, SMALL, uses
@@ -23,15 +23,20 @@ WRONG = b"begincidchar <> 1 endcidchar /B usecmap"
 
 @contextlib.contextmanager
 def freed_handles():
-    """Of each handle that is freed within a block, whether it had a map."""
-    were_full, free = [], library.hayro_cmap_free
+    """Of each handle that is freed within a block, whether it had a map, or a loader past faults."""
+    were_full = []
 
-    def freed(handle):
-        were_full.append(handle.full)
-        free(handle)
+    def freeing(free):
+        def freed(handle):
+            were_full.append(handle.full)
+            free(handle)
 
-    with unittest.mock.patch.object(library, "hayro_cmap_free", freed):
-        yield were_full
+        return freed
+
+    of_loaders = staticmethod(freeing(SalvageLoader._free))
+    with unittest.mock.patch.object(library, "hayro_cmap_free", freeing(library.hayro_cmap_free)):
+        with unittest.mock.patch.object(SalvageLoader, "_free", of_loaders):
+            yield were_full
 
 
 class Closing(unittest.TestCase):

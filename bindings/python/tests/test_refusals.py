@@ -89,7 +89,7 @@ class Refusals(unittest.TestCase):
             return b"begincidchar <> endcidchar /B usecmap" if name == b"A" else None
 
         faults = CMap.salvage(uses(b"A") + b" begincidchar <> endcidchar " + uses(b"C"), ask).faults
-        self.assertEqual(asked, [b"A", b"C", b"B"])
+        self.assertEqual(asked, [b"A", b"B", b"C"])
         self.assertEqual([fault.cause for fault in faults if fault.offset is None], [Cause.NO_FILE] * 2)
         data = b" begincidchar <> endcidchar" * 500
         many = CMap.salvage(data).faults
