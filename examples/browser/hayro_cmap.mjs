@@ -90,54 +90,73 @@ export class CMap {
    * null if there is none. Each file is asked for once, and none after a fault, whose message is that of the error.
    */
   static async load(library, bytes, get) {
-    const { calls } = library;
     const map = new CMap(library, new Uint8Array());
-    const [bundle, loader] = [1, 2].map((index) => map.at + index * SIZES.handle);
-    const wanted = () => library.text((...to) => calls.hayro_cmap_wanted(loader, ...to));
-    expectMemory(calls.hayro_cmap_load(loader, library.copied("file", bytes), bytes.length, bundle, NO_BUDGET));
-    for (let name = wanted(); name !== null; name = wanted()) {
-      const file = await get(name);
-      const found = file ? GIVEN : ELSEWHERE;
-      const data = library.copied("file", file ?? new Uint8Array());
-      expectMemory(calls.hayro_cmap_supply(loader, bundle, found, data, file?.length ?? 0));
-    }
-    const fault = library.buffer("faults", SIZES.fault);
-    const to = [library.buffer("names", PAGE), PAGE, library.buffer("needed", SIZES.number)];
-    const status = calls.hayro_cmap_finish(map.at, loader, fault, ...to);
-    calls.hayro_cmap_loader_free(loader);
+    await map.supply(library.calls.hayro_cmap_load, bytes, get);
+    const [status, fault] = map.finish();
     if (status === REFUSED) throw new Error(map.message(fault));
     expectMemory(status);
+    return map;
+  }
+
+  /** The same past the faults of the files: `get` is awaited after a fault, too. */
+  static async salvage(library, bytes, get) {
+    const map = new CMap(library, new Uint8Array());
+    await map.supply(library.calls.hayro_cmap_load_past_faults, bytes, get);
+    map.faults = map.told((...to) => map.calls.hayro_cmap_found_faults(map.loader, ...to));
+    expectMemory(map.finish()[0]);
     return map;
   }
 
   constructor(library, bytes) {
     const at = library.buffer("handle", 4 * SIZES.handle);
     library.bytes(at, 4 * SIZES.handle).fill(0);
-    Object.assign(this, { library, calls: library.calls, at, declared: {} });
-    this.faults = this.salvaged(bytes, at + SIZES.handle);
+    const [bundle, loader] = [1, 2].map((index) => at + index * SIZES.handle);
+    Object.assign(this, { library, calls: library.calls, at, bundle, loader, declared: {} });
+    const data = library.copied("file", bytes);
+    const file = [at, data, bytes.length, bundle, 0, 0, NO_BUDGET];
+    this.faults = this.told((...to) => this.calls.hayro_cmap_salvage(...file, ...to));
   }
 
-  /** Reads the file over no bundle and no other file; its faults, each with its `offset`, `message` and `names`. */
-  salvaged(bytes, bundle) {
+  /** Begins to load a file, and supplies all files that are wanted. */
+  async supply(load, bytes, get) {
+    const { library, calls, loader, bundle } = this;
+    const wanted = () => library.text((...to) => calls.hayro_cmap_wanted(loader, ...to));
+    expectMemory(load(loader, library.copied("file", bytes), bytes.length, bundle, NO_BUDGET));
+    for (let name = wanted(); name !== null; name = wanted()) {
+      const file = await get(name);
+      const found = file ? GIVEN : ELSEWHERE;
+      const data = library.copied("file", file ?? new Uint8Array());
+      expectMemory(calls.hayro_cmap_supply(loader, bundle, found, data, file?.length ?? 0));
+    }
+  }
+
+  /** Takes the map from the loader, which is freed; the status, and the address of the fault. */
+  finish() {
+    const { library, calls } = this;
+    const fault = library.buffer("faults", SIZES.fault);
+    const to = [library.buffer("names", PAGE), PAGE, library.buffer("needed", SIZES.number)];
+    const status = calls.hayro_cmap_finish(this.at, this.loader, fault, ...to);
+    calls.hayro_cmap_loader_free(this.loader);
+    return [status, fault];
+  }
+
+  /** The faults that a call writes, each with its `offset`, `message` and `names`. */
+  told(call) {
     const { library } = this;
-    const data = library.copied("file", bytes);
     const found = library.buffer("found", 2 * SIZES.number);
     for (let count = 16, size = 1024; ; ) {
       const faults = library.buffer("faults", count * SIZES.fault);
       const names = library.buffer("names", size);
-      const status = this.calls.hayro_cmap_salvage(
-        this.at, data, bytes.length, bundle, 0, 0, NO_BUDGET, faults, count, found, names, size, found + SIZES.number,
-      );
-      expectMemory(status);
+      expectMemory(call(faults, count, found, names, size, found + SIZES.number));
       const [faultCount, nameBytes] = library.numbers(found, 2);
-      if (faultCount <= count && nameBytes <= size) return this.told(faults, faultCount, names);
+      if (faultCount <= count && nameBytes <= size) return this.toldAt(faults, faultCount, names);
       count = Math.max(count, faultCount);
       size = Math.max(size, nameBytes);
     }
   }
 
   /** The faults at an address, whose names stand one after another. */
-  told(faults, count, names) {
+  toldAt(faults, count, names) {
     return Array.from({ length: count }, (_, i) => {
       const at = faults + i * SIZES.fault;
       const [, , offset, nameCount, ...lengths] = this.library.numbers(at, SIZES.fault / SIZES.number);

@@ -94,6 +94,33 @@ assert.deepEqual(await load("/A usecmap"), [7, "ABCDEFGHIJ"]);
 assert.deepEqual(await load("/A usecmap", "D"), ["no file has this name", "ABCD"]);
 assert.deepEqual(await load("1 begincidrange <20> <7E> x endcidrange /A usecmap"), ["byte 27: a CID was expected", ""]);
 
+/** The map of a file past its faults: the CID of the code 41, the faults, and the names that are awaited. */
+async function salvage(text) {
+  const asked = [];
+  const get = async (name) => {
+    asked.push(name);
+    return bytes[name];
+  };
+  const map = await CMap.salvage(library, new TextEncoder().encode(text), get);
+  const told = [map.cid(0x41, 1), map.faults.map((fault) => [...fault.names, fault.message].join(" ")), asked.join("")];
+  map.free();
+  return told;
+}
+bytes.X = new TextEncoder().encode("/Y usecmap 1 begincidchar <41> 5 <42> /x endcidchar");
+const cid = "a CID was expected";
+const missing = "no file has this name";
+assert.deepEqual(await salvage("/A usecmap ) /B usecmap 1 begincidchar <41> 1 endcidchar"), [
+  1, ["byte 11: a ) or > stands alone"], "ABCDEFGHIJ",
+]);
+assert.deepEqual(await salvage("/X usecmap /Z usecmap /X usecmap"), [
+  null, [`X byte 40: ${cid}`, `X Y ${missing}`, `Z ${missing}`], "XYZ",
+]);
+// without a file the faults are those of the list of no files
+const text = "/X usecmap ) 1 begincidchar <41> x endcidchar /Z usecmap";
+const found = await CMap.salvage(library, new TextEncoder().encode(text), async () => null);
+found.free();
+assert.deepEqual(found.faults, read(text).faults);
+
 // null is a status, as in nulls.c
 assert.equal(library.calls.hayro_cmap_parse(0, 0, 0, 0, 0, 0, 0, 0n), 5);
 assert.equal(library.calls.hayro_cmap_layers(0), 0);
