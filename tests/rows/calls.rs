@@ -37,22 +37,23 @@ impl Library for Crate {
             let is_in_bundle = || bundle.as_ref().is_some_and(|bundle| bundle.file(name).is_some());
             base(file, name).or_else(|| if is_in_bundle() { None } else { identity(name) })
         };
-        match options(bundle.as_ref(), file).parse(file.bytes, get_cmap) {
-            Ok(map) => Ok(Reading { outcome: Outcome::Map(map), asked: Ok(asked.get()) }),
-            // The bindings may ask for names after one at fault.
-            Err(refusal) => {
-                let outcome = Outcome::Refused(refused(&refusal));
-                Ok(Reading { outcome, asked: Err(RowError::NoCall) })
-            }
-        }
+        let outcome = match options(bundle.as_ref(), file).parse(file.bytes, get_cmap) {
+            Ok(map) => Outcome::Map(map),
+            Err(refusal) => Outcome::Refused(refused(&refusal)),
+        };
+        Ok(Reading { outcome, asked: Ok(asked.get()) })
     }
 
     fn salvage(&self, file: &File<'_>) -> Answer<Salvaged<CMap>> {
         let bundle = file.bundle.and_then(|bytes| bundle_of(bytes, file.are_named));
-        let found = options(bundle.as_ref(), file).salvage(file.bytes, |name| base(file, name));
+        let asked = Cell::new(0);
+        let get_cmap = |name: CMapName<'_>| {
+            asked.set(asked.get() + 1);
+            base(file, name)
+        };
+        let found = options(bundle.as_ref(), file).salvage(file.bytes, get_cmap);
         let faults = found.faults.iter().map(refused).collect();
-        // The crate asks for each name once.
-        Ok(Salvaged { map: found.map, faults, asked: Err(RowError::NoCall) })
+        Ok(Salvaged { map: found.map, faults, asked: Ok(asked.get()) })
     }
 
     fn uses(&self, file: &File<'_>) -> Answer<Option<Vec<Vec<u8>>>> {
