@@ -15,11 +15,20 @@ NAMES = {
     "completions/cmap.bash": [r'local warnings="all (.*?)COMPREPLY', r"[\w-]+(?![+\w-])"],
     "completions/cmap.fish": [r"^set -l warnings all (.*?)\n\n", r"[\w-]+"],
     "bindings/python/hayro_cmap/pdf/_warning_names.py": [r"^WARNINGS = \((.*?)^\)", r'"(.*?)"'],
+    "bindings/python/tests/test_lint.py": [r"^NAMES = \[(.*?)^\]", r'"(.*?)"'],
+    "bindings/c/tests.c": [r"^static void warnings_have_names.*?names\[\] = \{(.*?)\}", r'"(.*?)"'],
 }
 # and to the variants
 VARIANTS = [r"^pub enum Warning \{(.*?)^\}", r"^    (\w+),"]
 VARIANTS_AGAIN = [r"^const WARNINGS: .*? = \[(.*?)^\]", r"Warning::(\w+)"]
 BINDING = "bindings/rust/src/finding.rs"
+
+# files that name the last warning, each by this pattern
+LAST = {
+    "crates/cmap_lint/must-fail-by-hand/the_last_warning_has_no_number.edit": r"Warning::(\w+)",
+    "bindings/c/tests.c": r"HAYRO_CMAP_WARNING_(\w+) \+ 1",
+    "bindings/cpp/tests.cc": r"HAYRO_CMAP_WARNING_(\w+) \+ 1",
+}
 
 
 def found(text, patterns):
@@ -51,8 +60,16 @@ def missing_warnings():
         yield from differences(BINDING, patterns, variants)
     header = (TOP / "include/hayro_cmap.h").read_text()
     cases = "".join(path.read_text() for path in (TOP / "examples/command").glob("*.cases"))
+    last = variants[-1]
+    for path, pattern in LAST.items():
+        for named in re.findall(pattern, (TOP / path).read_text()):
+            if named not in (last, names[last].upper().replace("-", "_")):
+                yield f"{path}: {named} isn't the last warning"
+    study = (TOP / "studies/lint-counts").read_text()
     for variant in variants:
         name = names[variant]
+        if f'"{name}"' not in study:
+            yield f"studies/lint-counts: no count of {name}"
         constant = f"HAYRO_CMAP_WARNING_{name.upper().replace('-', '_')} = {numbers[variant]}"
         if not re.search(rf"\b{constant}\b", header):
             yield f"include/hayro_cmap.h: no {constant}"
