@@ -113,7 +113,7 @@ module _ {N : Type 0} where
   abbrev pub budget_in : SalvageLoader N → Option ℕ
   budget_in loader = loader.files.load.table.graph.budget
 
-  -- the number of files that were supplied
+  -- how many entries the answers have; an answer adds one
   abbrev pub files_read : SalvageLoader N → ℕ
   files_read loader = length loader.files.load.table.graph.nodes.items
 

@@ -75,8 +75,8 @@ impl FoundFault {
 #[derive(Drop)]
 pub(crate) struct Faults {
     pub(crate) list: Vec<FoundFault>,
-    /// The kinds of the listed faults, by the last of the names. The top file has no name, and is
-    /// read once.
+    /// The kinds of the listed faults, by the number of the last name. The top file has no name, and
+    /// is read once.
     pub(crate) kinds: BTreeMap<usize, Kinds>,
 }
 

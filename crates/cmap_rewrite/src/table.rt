@@ -17,7 +17,7 @@ use cmap_values::fault::Fault;
 use cmap_values::metadata::Metadata;
 use cmap_values::units::Units;
 use cmap_values::writing_mode::WritingMode;
-use std::alloc::{AllocError, Global};
+use std::alloc::Global;
 
 /// An invalid line of a table. Lines are counted from 1.
 #[derive(Clone, Copy, Debug)]

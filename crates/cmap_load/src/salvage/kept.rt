@@ -7,7 +7,7 @@ ghost use Rattle.cmap_binary.specs.BundleSeen.{tables_given};
 ghost use Rattle.cmap_binary.specs.Bundles.{PrefixTables};
 ghost use Rattle.cmap_load.specs.Budgets.{IsOver};
 ghost use Rattle.cmap_load.specs.Graphs.{AreNamed, IsBegun, IsNext};
-ghost use Rattle.cmap_load.specs.Kept.{AreKept, IsFound, IsKept, IsReadAt, file_at, files_of, layers_on};
+ghost use Rattle.cmap_load.specs.Kept.{AreKept, IsFound, IsKept, IsReadAt, file_at, files_of};
 ghost use Rattle.cmap_load.specs.Numbers.{text_at};
 ghost use Rattle.cmap_load.specs.SalvageLoads.{Adds, AddsAnswer, Follows, HasNoFiles, IsKeptMore, Stays, Walks, is_found};
 ghost use Rattle.cmap_load.specs.Tables.{IsNew};

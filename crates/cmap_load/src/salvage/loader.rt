@@ -80,7 +80,7 @@ impl<'d, N: Names<'d>> SalvageLoader<N> {
         })
     }
 
-    /// Whether a file is wanted.
+    /// Whether a file is wanted. If memory runs out, the call may be repeated.
     pub fn wants(&mut self) -> Result<bool, AllocError>
         requires { IsSalvaging N.texts N.are_numbered self.old }
         ensures salvaging { IsSalvaging N.texts N.are_numbered self.new }
@@ -90,6 +90,10 @@ impl<'d, N: Names<'d>> SalvageLoader<N> {
         ensures settled { IfOk result (λ wants. wants ≡ false → is_settled self.new ≡ true) }
         ensures known { IsSome (wanted_name N.texts self.old) ⊎ (is_settled self.old ≡ true)
             → self.new ≡ self.old }
+
+        // Memory is taken only where the loader knows neither a wanted name nor that there is none.
+        ensures fails { OnErr result ((wanted_name N.texts self.old ≡ None)
+            × (is_settled self.old ≡ false)) }
         ensures reads { (tables : Option PrefixTables) (answers : List Answer)
             → ReadsPast N.texts tables answers self.old → ReadsPast N.texts tables answers self.new }
     {
