@@ -470,7 +470,7 @@ hayro_cmap_status hayro_cmap_wanted(hayro_cmap_loader *loader, uint8_t *room, si
 
 /* Supplies the wanted file. `found` is a hayro_cmap_supplied, or true if `file` is the file and false if the
  * caller has none. Except with HAYRO_CMAP_GIVEN, `file` is ignored. hayro_cmap_finish reports that a name has no
- * file.
+ * file, and past faults hayro_cmap_found_faults.
  *
  * With HAYRO_CMAP_OK another name may be wanted. With HAYRO_CMAP_NO_MEMORY the same name is still wanted, and the
  * call may be repeated. HAYRO_CMAP_ABSENT if no file is wanted, or the handle is empty; the loader is unchanged. */
@@ -478,7 +478,8 @@ hayro_cmap_status hayro_cmap_supply(hayro_cmap_loader *loader, hayro_cmap_bundle
                                     const uint8_t *file, size_t file_len);
 
 /* The faults that a loader past faults found in files that are all supplied, written as by hayro_cmap_salvage. The
- * loader is unchanged: a call with longer buffers gives all faults and names, and hayro_cmap_finish then the map.
+ * loader is unchanged: a call with longer buffers gives all faults and names. hayro_cmap_finish then gives the map,
+ * and frees the faults.
  *
  * HAYRO_CMAP_ABSENT if a file is still wanted, if the loader is one of hayro_cmap_load, or if the handle is empty.
  * With this status and with HAYRO_CMAP_NO_MEMORY, the only other one, nothing is written. */

@@ -250,7 +250,7 @@ namespace detail {
 
 // What finds files by their names.
 template <class Get>
-using Finds = std::enable_if_t<std::is_invocable_v<Get &, const std::string &>>;
+using Finds = std::enable_if_t<std::is_invocable_v<Get &, std::string &>>;
 
 // A handle of the library, which is freed once.
 template <class Handle, void (*free)(Handle *)> class Owned {
@@ -1372,8 +1372,8 @@ inline std::optional<Result> Map::parse_with_base(Bytes data, Map &base, std::ui
 
 // The files that a file uses, and the files that these use, each requested once: `get` takes a name, a
 // std::string, and returns the bytes of its file as a std::optional<std::string>. Files that a file of the
-// bundle uses are requested too. A function passed to Map::load or Map::salvage gets fewer requests, and each file is
-// parsed once.
+// bundle uses are requested too, but no files that only a malformed file uses. Map::load and Map::salvage request the
+// files that they need themselves, if they get a function, and parse each file once.
 template <class Get>
 std::map<std::string, std::string> used_files(Bytes data, Bundle &bundle, Get get) {
     std::map<std::string, std::string> found, of_bundle;

@@ -868,7 +868,6 @@ static void a_loader_past_faults_keeps_to_its_budget(void) {
     hayro_cmap_fault fault;
     uint8_t room[1];
     size_t needed;
-    uint32_t cid;
     // 32 bytes, of which 21 for the first file; K has 12 bytes, and L then 8
     hayro_cmap_loader loader = loader_past_faults("/K usecmap /L usecmap", &none, 32);
     CHECK(hayro_cmap_supply(&loader, &none, HAYRO_CMAP_GIVEN, TEXT("/J usecmap  ")) == HAYRO_CMAP_OK);
@@ -879,7 +878,8 @@ static void a_loader_past_faults_keeps_to_its_budget(void) {
     CHECK(found.found == 2 && found.needed == 2 && same(found.names, "KL", 2));
     CHECK(found.faults[0].cause == HAYRO_CMAP_PAST_BUDGET && found.faults[1].cause == HAYRO_CMAP_MALFORMED);
     CHECK(hayro_cmap_finish(&map, &loader, &fault, BYTES(room), &needed) == HAYRO_CMAP_OK);
-    CHECK(!hayro_cmap_cid(&map, 0x41, 1, &cid));
+    // the first file over L, which is the last file that it uses
+    CHECK(hayro_cmap_layers(&map) == 2);
     hayro_cmap_free(&map);
 }
 

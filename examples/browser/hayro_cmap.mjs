@@ -122,11 +122,17 @@ export class CMap {
     const { library, calls, loader, bundle } = this;
     const wanted = () => library.text((...to) => calls.hayro_cmap_wanted(loader, ...to));
     expectMemory(load(loader, library.copied("file", bytes), bytes.length, bundle, NO_BUDGET));
-    for (let name = wanted(); name !== null; name = wanted()) {
-      const file = await get(name);
-      const found = file ? GIVEN : ELSEWHERE;
-      const data = library.copied("file", file ?? new Uint8Array());
-      expectMemory(calls.hayro_cmap_supply(loader, bundle, found, data, file?.length ?? 0));
+    try {
+      for (let name = wanted(); name !== null; name = wanted()) {
+        const file = await get(name);
+        const found = file ? GIVEN : ELSEWHERE;
+        const data = library.copied("file", file ?? new Uint8Array());
+        expectMemory(calls.hayro_cmap_supply(loader, bundle, found, data, file?.length ?? 0));
+      }
+    } catch (error) {
+      calls.hayro_cmap_loader_free(loader);
+      this.free();
+      throw error;
     }
   }
 

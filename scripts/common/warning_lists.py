@@ -62,9 +62,9 @@ def missing_warnings():
     cases = "".join(path.read_text() for path in (TOP / "examples/command").glob("*.cases"))
     last = variants[-1]
     for path, pattern in LAST.items():
-        for named in re.findall(pattern, (TOP / path).read_text()):
-            if named not in (last, names[last].upper().replace("-", "_")):
-                yield f"{path}: {named} isn't the last warning"
+        found_last = re.findall(pattern, (TOP / path).read_text())
+        if not found_last or set(found_last) - {last, names[last].upper().replace("-", "_")}:
+            yield f"{path}: {', '.join(found_last) or 'nothing'} in the place of the last warning, {last}"
     study = (TOP / "studies/lint-counts").read_text()
     for variant in variants:
         name = names[variant]

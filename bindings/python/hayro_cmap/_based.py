@@ -61,9 +61,10 @@ def salvaged_file(
     """The base as a single file that uses no other file, read past its faults, and these faults."""
     if isinstance(base, kind):
         return base.write(), []
-    cmap, faults = kind.salvage(base, files, bundle, budget, most_faults=most)
+    # whether there is a fault counts, also if none is to be listed
+    cmap, faults = kind.salvage(base, files, bundle, budget, most_faults=None if most is None else max(most, 1))
     is_alone = not faults and len(cmap.layers) == 1
-    return bytes_of(base) if is_alone else cmap.write(), faults
+    return bytes_of(base) if is_alone else cmap.write(), faults[:most]
 
 
 def over_base(cmap: Any, data: bytes, bundle: Optional[Bundle]) -> bytes:

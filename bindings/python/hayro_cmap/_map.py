@@ -39,6 +39,7 @@ from ._reading import (
     budget_of,
     gathered,
     loaded,
+    most_of,
     no_file,
     past_budget,
 )
@@ -273,15 +274,17 @@ class CMap(Shared):
         The faults of a file are listed once, however often the file is used. For a file that `parse` accepts, the map
         is the same and there is no fault. For any other file, the first fault is the fault for which `parse` refuses
         the file, or in a text in rows an earlier fault. The parameters are the same as for `parse`, but a callable is
-        called after a fault, too, and not after a chain of more than 16 files. The faults of a `base` come last.
+        called after a fault, too, whatever the budget is, and not after a chain of more than 16 files. The faults of a
+        `base` come last.
         `most_faults` limits the number of faults of the file with the files that it uses, and of a `base`: a file of a
         megabyte may have a million faults.
         """
         if base is not None:
             return Salvaged(*_based.salvaged(cls, data, base, files, bundle, budget, most_faults))
+        most = most_of(most_faults)
         with SalvageLoader(data, bundle, budget) as loader:
             loader._supply_from(files)
-            cmap, faults = loader._salvaged(most_faults)
+            cmap, faults = loader._salvaged(most)
             return Salvaged(cls(cmap), faults)
 
     @classmethod
@@ -294,9 +297,10 @@ class CMap(Shared):
         most_faults: Optional[int] = None,
     ) -> "Salvaged":
         """Reads a CMap file past its faults as `salvage` does, over files that are awaited as by `load`."""
+        most = most_of(most_faults)
         with SalvageLoader(data, bundle, budget) as loader:
             await loader._await(files)
-            cmap, faults = loader._salvaged(most_faults)
+            cmap, faults = loader._salvaged(most)
             return Salvaged(cls(cmap), faults)
 
     @classmethod

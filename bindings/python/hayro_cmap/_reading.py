@@ -9,7 +9,7 @@ from typing import TYPE_CHECKING, Awaitable, Callable, Dict, List, Mapping, Opti
 
 from ._bundle import Bundle, held
 from ._faults import Cause, Reason, Refused, Segment
-from ._library import NO_BUDGET, NO_ROOM, OVER_BUDGET, REFUSED, Fault, Handle
+from ._library import ABSENT, NO_BUDGET, NO_ROOM, OVER_BUDGET, REFUSED, Fault, Handle
 from ._owned import Owned, checked, library, put
 from ._values import Buffer, Name, bytes_of, name_of, number
 
@@ -30,6 +30,11 @@ NO_FILES: Files = MappingProxyType({})
 def budget_of(budget: Optional[int]) -> int:
     """The budget in the library's form."""
     return NO_BUDGET if budget is None else number(budget, 0, NO_BUDGET, "the budget")
+
+
+def most_of(most_faults: Optional[int]) -> int:
+    """The most faults that are listed."""
+    return sys.maxsize if most_faults is None else number(most_faults, 0, 2**32, "most_faults")
 
 
 @contextlib.contextmanager
@@ -93,9 +98,14 @@ class Loading(Owned):
                     status = library.hayro_cmap_finish(cmap, handle, fault, room, room_len, needed)
                 if status not in (REFUSED, OVER_BUDGET):
                     self.close()
-                    checked(status)
+                    self._answered(status)
                     return cmap
             raise refusal(fault, room.raw, opened)
+
+    def _answered(self, status: int) -> None:
+        """Raises ValueError if another thread has taken the map, MemoryError if memory ran out."""
+        if checked(status) == ABSENT:
+            raise ValueError(f"{self._what} is closed")
 
 
 class Loader(Loading):
@@ -128,23 +138,23 @@ class SalvageLoader(Loading):
     _load = staticmethod(library.hayro_cmap_load_past_faults)
 
     def finish(self, most_faults: Optional[int] = None) -> "Salvaged":
-        """The map, and the faults, at most `most_faults`, which closes the loader. The caller has none of the files
-        that are still wanted."""
+        """Gives the map and the first `most_faults` faults, and closes the loader. The caller has none of the files that
+        are still wanted."""
         from ._map import CMap, Salvaged
 
-        cmap, faults = self._salvaged(most_faults)
+        cmap, faults = self._salvaged(most_of(most_faults))
         return Salvaged(CMap(cmap), faults)
 
-    def _salvaged(self, most_faults: Optional[int]) -> Tuple[Handle, List[Refused]]:
-        """The handle of the map, and the faults."""
-        most = sys.maxsize if most_faults is None else number(most_faults, 0, 2**32, "most_faults")
+    def _salvaged(self, most: int) -> Tuple[Handle, List[Refused]]:
+        """The handle of the map, and the first faults."""
         self._supply_from(None)
         found, needed, faults, names = c_size_t(8), c_size_t(256), [], b""
         while min(found.value, most) > len(faults) or needed.value > len(names):
             faults = (Fault * (min(found.value, most) + 1))()
             names = ctypes.create_string_buffer(needed.value + 1)
             with self._held() as handle:
-                checked(library.hayro_cmap_found_faults(handle, faults, len(faults), found, names, len(names), needed))
+                found_faults = library.hayro_cmap_found_faults
+                self._answered(found_faults(handle, faults, len(faults), found, names, len(names), needed))
         with filled(self._finished()) as cmap:
             return cmap, refusals(faults[: min(found.value, most)], names.raw)
 

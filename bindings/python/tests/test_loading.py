@@ -244,6 +244,12 @@ class PastFaults(unittest.TestCase):
                 self.assertRaises(MemoryError, loader.finish)
             self.assertEqual([it.names for it in loader.finish().faults], [(b"A",)])
 
+    def test_the_number_of_faults(self):
+        data, files = b" begincidchar <> endcidchar" * 3, {}
+        for most, count in [(None, 3), (4, 3), (3, 3), (2, 2), (0, 0)]:
+            (_, faults), _ = awaited(data, files, CMap.load_past_faults, most_faults=most)
+            self.assertEqual(len(faults), count)
+
     def test_the_class(self):
         class Own(CMap):
             pass

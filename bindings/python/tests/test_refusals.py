@@ -100,7 +100,15 @@ class Refusals(unittest.TestCase):
                 self.assertEqual([it.args for it in faults], [it.args for it in many[:most]])
             of_base = CMap.salvage(b"", base=data, most_faults=most).faults
             self.assertEqual([it.offset for it in of_base], [it.offset for it in many[:most]])
-        self.assertRaises(ValueError, CMap.salvage, data, most_faults=-1)
+        # no file is asked for before the number is checked
+        self.assertRaises(ValueError, CMap.salvage, uses(b"A"), self.fail, most_faults=-1)
+        self.assertRaises(ValueError, CMap.salvage, uses(b"A"), self.fail, most_faults=2**33)
+
+    def test_a_base_with_a_fault_that_is_not_listed(self):
+        base = uses(b"Nowhere") + b" begincidchar <41> 5 endcidchar"
+        for most in [None, 0, 1]:
+            with CMap.salvage(b"begincidchar <42> 6 endcidchar", base=base, most_faults=most).cmap as cmap:
+                self.assertEqual((len(cmap.layers), cmap.cid(0x41, 1), cmap.cid(0x42, 1)), (2, 5, 6))
 
     def test_a_file_past_the_faults_that_are_asked_for(self):
         """It is found though its fault isn't given."""
