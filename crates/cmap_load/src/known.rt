@@ -42,7 +42,7 @@ pub(crate) struct KnownFiles {
 }
 
 impl KnownFiles {
-    /// No known file of so many names.
+    /// No known files. The numbers of names are below `names`.
     pub(crate) fn new(alloc: Global, names: usize) -> Result<Self, AllocError>
         ensures known { IfOk result (λ known. (name : ℕ) → file_known known name ≡ None) }
         ensures names { IfOk result (λ known. names_in known ≡ names) }

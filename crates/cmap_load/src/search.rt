@@ -20,7 +20,7 @@ pub(crate) struct Search {
 }
 
 impl Search {
-    /// The state before the first file, where there are so many names.
+    /// The state before the first file. The numbers of names are below `names`.
     pub(crate) fn new(alloc: Global, budget: Option<u64>, names: usize) -> Result<Self, AllocError>
         ensures names { IfOk result (λ search. search.names.items ≡ []) }
         ensures left { IfOk result (λ search. search.left ≡ budget) }

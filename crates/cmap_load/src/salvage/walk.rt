@@ -66,7 +66,7 @@ impl Chain {
 }
 
 impl Walk {
-    /// The state before the first file, where there are so many names.
+    /// The state before the first file. The numbers of names are below `names`.
     pub(crate) fn new(alloc: Global, budget: Option<u64>, names: usize) -> Result<Self, AllocError>
         ensures { IfOk result (IsAtStart budget names) }
     {
